@@ -10,18 +10,20 @@ use Rattle.std.proofs.lemmas.List.Elements.{filter-append, Contains-append_right
 use Rattle.std.proofs.lemmas.Option.{none-some, same_Some}
 use Rattle.std.proofs.lemmas.Slice.Eq.{bytes_eq-Decides}
 use Rattle.lj_tile.specs.declared.names.Label.{Label}
+use Rattle.lj_tile.specs.declared.names.TaskName.{TaskName}
 use Rattle.lj_tile.specs.Task.{Task}
 use Rattle.lj_step.specs.Sim.{OpenStep}
-use Rattle.lj_step.specs.OpenSteps.{is_whole, tile_number_of, with_tile, IsAwaitedTask, IsAwaitedTaskIn}
+use Rattle.lj_step.specs.OpenSteps.{is_whole, task_of, tile_number, tile_number_of, with_tile, IsAwaitedTask, IsAwaitedTaskIn}
 use Rattle.lj_session.specs.declared.command.Command.{Command}
 use Rattle.lj_session.specs.Turns.{waits_for}
-use Rattle.lj_session.specs.UserState.{HeldSession, UserState, IsAtWork, held_session, names, with_session_changed, with_posted, with_tile_in, with_passed_to}
+use Rattle.lj_session.specs.UserState.{HeldSession, UserState, IsAtWork, IsAwaited, held_session, names, with_session_changed, with_posted, with_tile_in, with_passed_to}
 use Rattle.lj_session.specs.UserState.{next_tile, next_of, is_whole_in}
 use Rattle.lj_session.specs.Owner.{Owner, label_of, task_of_session, next_session, task_in, with_task_posted, with_task_in}
 use Rattle.lj_session.specs.Owner.{IsAwaitedIn, ready_session}
 use Rattle.lj_session.proofs.AtWork.{at_work-posted, at_work-taken}
 use Rattle.lj_session.proofs.Entries.{by_test}
 use Rattle.lj_session.proofs.Tiles.{find-passes, found-task, posted-live}
+use Rattle.lj_pool.specs.Accounts.{IsKnownByName}
 use Rattle.lj_pool.specs.Seen.{Seen, TakesOff, IsHandedOut}
 use Rattle.lj_pool.specs.Gathering.{tasks_posted_in, tasks_posted_of, is_of, IsGathered, IsOpenFor, Gathers}
 use Rattle.lj_pool.proofs.Gathering.{posted_some, posted_more, next_label, gathered_posted, posted_wanted, gathered_taken}
@@ -240,6 +242,19 @@ module _ (owner : Owner) (owed : List Task) (t : Gathers owner owed) where
             ∙ sym (filter-without (is_of other) work (of_other other work apart) off.front off.behind)
             ∙ ap (filter (is_of other)) (sym off.was ∙ same)
         others other apart (inr stray) = ap (filter (is_of other)) (stray.owed ∙ same)
+
+  -- a task that is owed and has the name of one that is awaited is that one
+  pub known_by_name : (work : Task) → IsAwaitedIn owner work → IsKnownByName owed work
+  known_by_name work wanted other owes named =
+      let o = taken_open work wanted in
+      let label = label_of owner work.name.label.session in
+      let mine = subst (IsAwaitedTaskIn o.held.live label work) o.is_open (taken_wanted work wanted) in
+      let its : IsAwaited owner.state label other =
+      subst (λ n. IsAwaited owner.state (label_of owner n) other) (ap (λ (n : TaskName). n.label.session) named)
+      (owed_wanted other owes) in
+      let there = subst (IsAwaitedTaskIn o.held.live label other) o.is_open
+      (subst (λ h. IsSomeAnd h (λ held. IsAwaitedTask held.live label other)) o.there its) in
+      there.1 ∙ ap (λ (n : TaskName). task_of o.held.live label o.step.kind (tile_number n.bi n.bj)) named ∙ sym mine.1
 
   -- the session of the next task
   pub record Posting (work : Task) : Type 0 where

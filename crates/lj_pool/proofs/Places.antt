@@ -6,14 +6,14 @@ use Rattle.std.proofs.Common.{append_assoc, drop-cons}
 use Rattle.std.specs.Prelude.{nat_eq, nat_lt}
 use Rattle.std.specs.List.{remove}
 use Rattle.std.proofs.lemmas.Bool.{cases_Bool, cases_eq, eq-eqb, ne_eqb, ltb-true, ltb-false, lt-ltb, le-ltb}
-use Rattle.std.proofs.lemmas.List.{take_more, take-append-drop, take-append-le, length-take-le, length_push, get_or-take}
+use Rattle.std.proofs.lemmas.List.{get_or_default, take_more, take-append-drop, take-append-le, length-take-le, length_push, get_or-take}
 use Rattle.std.proofs.lemmas.List.Edits.{length-remove, remove-append_left}
 use Rattle.std.proofs.lemmas.List.Sums.{sum_by-cons, sum_by_push, sum_by_more, sum_by-take-le, sum_by-remove, get_or-le-sum_by}
 use Rattle.lj_tile.specs.Task.{Task}
 use Rattle.lj_pool.specs.declared.pool.TheConstants.{MAX_OWED}
 use Rattle.lj_pool.specs.Gathering.{times}
 use Rattle.lj_pool.specs.InlinePool.{held_task}
-use Rattle.lj_pool.specs.Accounts.{tasks_owed, IsFirst, IsKept}
+use Rattle.lj_pool.specs.Accounts.{tasks_owed, IsFirst, IsFirstNamed, IsKept, IsKnownByName}
 use Rattle.lj_pool.specs.Seen.{Seen, TakesOff, one_more}
 
 -- 1 for true
@@ -239,3 +239,14 @@ taken_off task old new here first left good strays = record {
   good = good;
   strays = strays;
 }
+
+-- the first task of a name by which one is known is that one
+pub first_named : (owed : List Task) (task : Task) (here : ℕ) → IsKnownByName owed task → IsFirstNamed owed task here
+    → IsFirst owed task here
+first_named owed task here known first =
+    let there = get_or owed here task in
+    record {
+      within = first.within;
+      is = known there (here, first.within, get_or_default owed here there task first.within) first.is;
+      before = λ k below is. first.before k below (ap (λ (t : Task). t.name) is);
+    }

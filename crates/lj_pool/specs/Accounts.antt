@@ -1,6 +1,7 @@
 -- How an end keeps the tasks that it is owed: each in a place, and the places in the order of the posts.
 use Rattle.std.specs.Prelude.{◌≡◌, ◌≢◌, ℕ, ◌<◌, ◌≤◌, List, [], ◌∷◌, ◌++◌, Option, None, length, take, cond, nat_lt}
 use Rattle.std.specs.Prelude.{slice_index_or}
+use Rattle.std.specs.List.{Contains}
 use Rattle.lj_tile.specs.Task.{Task}
 use Rattle.lj_pool.specs.declared.pool.TheConstants.{MAX_OWED}
 use Rattle.lj_pool.specs.Gathering.{times}
@@ -24,3 +25,13 @@ pub record IsFirst (owed : List Task) (task : Task) (here : ℕ) : Type 0 where
   pub within : here < length owed
   pub is : slice_index_or owed here task ≡ task
   pub before : (k : ℕ) → k < here → slice_index_or owed k task ≢ task
+
+-- each task of this name that is owed is this one
+abbrev pub IsKnownByName : List Task → Task → Type 0
+IsKnownByName owed task = (other : Task) → Contains owed other → other.name ≡ task.name → other ≡ task
+
+-- here stands a task of this one's name, and before it stands none
+pub record IsFirstNamed (owed : List Task) (task : Task) (here : ℕ) : Type 0 where
+  pub within : here < length owed
+  pub is : (slice_index_or owed here task).name ≡ task.name
+  pub before : (k : ℕ) → k < here → (slice_index_or owed k task).name ≢ task.name

@@ -1,10 +1,10 @@
 //! What an end of a pool is owed, and what it has counted.
-ghost use Rattle.std.specs.Prelude.{◌≡◌, ◌<◌, ◌≤◌, ◌+◌, ◌-◌, ◌↔◌, ℕ, Some, cond, length, nat_lt, take, slice_index_or, true, false, IfErr, IfSome, IfNone, IsTrue, OnErr, OnOk};
+ghost use Rattle.std.specs.Prelude.{◌≡◌, ◌<◌, ◌≤◌, ◌+◌, ◌-◌, ◌↔◌, ℕ, Some, cond, length, nat_lt, option_copied, take, slice_get, slice_index_or, true, false, IfErr, IfSome, IfNone, IsTrue, OnErr, OnOk};
 ghost use Rattle.std.specs.List.{Contains, remove};
 ghost use Rattle.lj_pool.specs.declared.pool.NotPosted.TheVariants.{Closed, Full};
-ghost use Rattle.lj_pool.specs.Seen.{ArePosted, IsHandedOut, IsPosted, SameOwed, StaysClosed, nothing_seen};
+ghost use Rattle.lj_pool.specs.Seen.{ArePosted, IsHandedOut, IsPosted, SameOwed, StaysClosed, nothing_seen, one_more};
 ghost use Rattle.lj_pool.specs.Gathering.{times};
-ghost use Rattle.lj_pool.specs.Accounts.{IsFirst};
+ghost use Rattle.lj_pool.specs.Accounts.{IsFirst, IsFirstNamed, IsKnownByName};
 
 use crate::pool::{MAX_OWED, NotPosted};
 use arrayvec::ArrayVec;
@@ -100,12 +100,43 @@ impl Account {
         ensures closed { self.new.closed ≡ self.old.closed }
     {
         match self.find(task) {
-            Some(here) => {
-                self.take_off(here);
-                self.good = self.good.saturating_add(1);
-            }
-            None => self.strays = self.strays.saturating_add(1),
+            Some(here) => self.count_owed(here),
+            None => self.count_stray(),
         }
+    }
+
+    /// Counts a result of this task as `count` does, but finds it by its name alone.
+    pub fn count_by_name(&mut self, task: &Task)
+        requires { IsKnownByName self.old.owed task.now }
+        ensures handed_out { IsHandedOut task.now self.old self.new }
+        ensures closed { self.new.closed ≡ self.old.closed }
+    {
+        match self.find_named(task) {
+            Some(here) => self.count_owed(here),
+            None => self.count_stray(),
+        }
+    }
+
+    /// Counts a result of the task that stands here, which is then owed no more.
+    fn count_owed(&mut self, here: usize)
+        requires { here < length self.old.owed }
+        ensures owed { self.new.owed ≡ remove self.old.owed here }
+        ensures good { self.new.good ≡ one_more self.old.good }
+        ensures strays { self.new.strays ≡ self.old.strays }
+        ensures closed { self.new.closed ≡ self.old.closed }
+    {
+        self.take_off(here);
+        self.good = self.good.saturating_add(1);
+    }
+
+    /// Counts a stray.
+    fn count_stray(&mut self)
+        ensures owed { self.new.owed ≡ self.old.owed }
+        ensures good { self.new.good ≡ self.old.good }
+        ensures strays { self.new.strays ≡ one_more self.old.strays }
+        ensures closed { self.new.closed ≡ self.old.closed }
+    {
+        self.strays = self.strays.saturating_add(1);
     }
 
     /// Notes that the pool was seen closed.
@@ -152,16 +183,48 @@ impl Account {
         None
     }
 
+    /// Where the first task stands that has the name of this one.
+    fn find_named(&self, task: &Task) -> Option<usize>
+        ensures some { IfSome result (IsFirstNamed self.now.owed task.now) }
+        ensures none { IfNone result (Contains self.now.owed task.now → ⊥) }
+    {
+        for here in 0..self.owed() {
+            if self.is_named_at(here, task) {
+                return Some(here);
+            }
+        }
+        None
+    }
+
     /// Whether the task that stands here is this one.
     fn is_at(&self, here: usize, task: &Task) -> bool
         requires { here < length self.now.owed }
         ensures { IsTrue result ↔ (slice_index_or self.now.owed here task.now ≡ task.now) }
     {
-        let place = usize::from(self.places[here]);
-        match &self.tasks[place] {
+        match self.at(here) {
             Some(owed) => owed.is(task),
             None => false,
         }
+    }
+
+    /// Whether the task that stands here has the name of this one.
+    fn is_named_at(&self, here: usize, task: &Task) -> bool
+        requires { here < length self.now.owed }
+        ensures { IsTrue result ↔ ((slice_index_or self.now.owed here task.now).name ≡ task.now.name) }
+    {
+        match self.at(here) {
+            Some(owed) => owed.name().is(task.name()),
+            None => false,
+        }
+    }
+
+    /// The task that stands here.
+    fn at(&self, here: usize) -> Option<&Task>
+        requires { here < length self.now.owed }
+        ensures { option_copied result ≡ slice_get self.now.owed here }
+    {
+        let place = usize::from(self.places[here]);
+        self.tasks[place].as_ref()
     }
 
     /// The task that stands here is owed no more.

@@ -9,7 +9,6 @@ use crate::pool::{NotPosted, Pool};
 use lj_table::Table;
 use lj_tile::{Done, DoneRef, Task, compute_in};
 use std::marker::Model;
-use std::mem;
 
 /// Computes each task as it is posted, in the room of its one result. It takes no memory.
 ///
@@ -55,6 +54,8 @@ impl Pool for InlinePool {
 
     ghost last = { λ pool. pool.last };
 
+    ghost is_uncounted = { λ pool. IsSome pool.held };
+
     ghost for_others = { λ _ _. 0 };
 
     ghost most = { 1 };
@@ -73,26 +74,29 @@ impl Pool for InlinePool {
         Ok(())
     }
 
-    fn fetch_in(&mut self, _user: u8) -> bool
+    fn fetch_uncounted(&mut self, _user: u8) -> bool
         ensures some { result ≡ true ↔ IsSome self.old.held }
         ensures held { result ≡ true → self.old.held ≡ Some self.new.last }
-        ensures taken_off { result ≡ true
-            → self.new ≡ record self.old { held = None; good = one_more self.old.good } }
-        ensures unchanged { result ≡ false → self.new ≡ self.old }
+        ensures unchanged { self.new ≡ self.old }
     {
-        let is_held = mem::take(&mut self.is_held);
-        self.good = self.good.saturating_add(u64::from(is_held));
-        is_held
+        self.is_held
     }
 
-    fn poll_in(&mut self, user: u8) -> bool
+    fn poll_uncounted(&mut self, user: u8) -> bool
         ensures some { result ≡ true ↔ IsSome self.old.held }
         ensures held { result ≡ true → self.old.held ≡ Some self.new.last }
-        ensures taken_off { result ≡ true
-            → self.new ≡ record self.old { held = None; good = one_more self.old.good } }
-        ensures unchanged { result ≡ false → self.new ≡ self.old }
+        ensures unchanged { self.new ≡ self.old }
     {
-        self.fetch_in(user)
+        self.fetch_uncounted(user)
+    }
+
+    fn count(&mut self)
+        requires { IsSome self.old.held }
+        ensures held { self.old.held ≡ Some self.old.last }
+        ensures taken_off { self.new ≡ record self.old { held = None; good = one_more self.old.good } }
+    {
+        self.is_held = false;
+        self.good = self.good.saturating_add(1);
     }
 
     fn fetched(&self) -> DoneRef<'_> {

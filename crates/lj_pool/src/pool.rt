@@ -4,6 +4,7 @@ ghost use Rattle.std.specs.List.{All};
 ghost use Rattle.lj_tile.specs.Task.{Task};
 ghost use Rattle.lj_pool.specs.declared.pool.NotPosted.TheVariants.{Closed};
 ghost use Rattle.lj_pool.specs.Seen.{Seen, SameOwed, ArePosted, IsPosted, IsHandedOut, StaysClosed};
+ghost use Rattle.lj_pool.specs.Accounts.{IsKnownByName};
 ghost use Rattle.lj_pool.specs.Refusals.{task_of, IsClosed};
 
 use lj_tile::{Done, DoneRef, Task};
@@ -55,6 +56,9 @@ pub trait Pool {
     // The result that `fetched` shows.
     ghost last: { Self → Task };
 
+    // The result that `fetched` shows is not counted yet.
+    ghost is_uncounted: { Self → Type 0 };
+
     // How often it was asked for others than the user of this number, by a task of another, or a fetch or poll for
     // another, where that is counted.
     ghost for_others: { Self → ℕ → ℕ };
@@ -74,6 +78,45 @@ pub trait Pool {
         ensures own { let user = task.now.name.label.user in for_others self.new user
             ≡ for_others self.old user };
 
+    /// Takes the next result for a user, which `fetched` then shows, and leaves it to be counted. False only where the pool is
+    /// closed.
+    fn fetch_uncounted(&mut self, user: u8) -> bool
+        requires { 0 < length (seen self.old).owed }
+        ensures uncounted { result ≡ true → is_uncounted self.new }
+        ensures unchanged { SameOwed (seen self.old) (seen self.new) }
+        ensures closed { result ≡ false → (seen self.new).closed ≡ true }
+        ensures stays_closed { StaysClosed (seen self.old) (seen self.new) }
+        ensures own { for_others self.new user ≡ for_others self.old user };
+
+    /// Takes a result for a user that is there now, which `fetched` then shows, and leaves it to be counted. It never waits for a
+    /// worker. False may come at any time.
+    fn poll_uncounted(&mut self, user: u8) -> bool
+        ensures uncounted { result ≡ true → is_uncounted self.new }
+        ensures unchanged { SameOwed (seen self.old) (seen self.new) }
+        ensures stays_closed { StaysClosed (seen self.old) (seen self.new) }
+        ensures own { for_others self.new user ≡ for_others self.old user };
+
+    /// Counts the result that `fetched` shows: as one that was owed, whose task is owed no more then, or as a stray.
+    fn count(&mut self)
+        requires { is_uncounted self.old }
+        ensures last { last self.new ≡ last self.old }
+        ensures handed_out { IsHandedOut (last self.old) (seen self.old) (seen self.new) }
+        ensures stays_closed { StaysClosed (seen self.old) (seen self.new) }
+        ensures own { (user : ℕ) → for_others self.new user ≡ for_others self.old user };
+
+    /// Counts the result that `fetched` shows, as `count` does. The name of its task is enough to find it among those that are
+    /// owed.
+    fn count_by_name(&mut self)
+        requires uncounted { is_uncounted self.old }
+        requires known { IsKnownByName (seen self.old).owed (last self.old) }
+        ensures last { last self.new ≡ last self.old }
+        ensures handed_out { IsHandedOut (last self.old) (seen self.old) (seen self.new) }
+        ensures stays_closed { StaysClosed (seen self.old) (seen self.new) }
+        ensures own { (user : ℕ) → for_others self.new user ≡ for_others self.old user }
+    {
+        self.count();
+    }
+
     /// Fetches the next result for a user, which `fetched` then shows. False only where the pool is closed.
     fn fetch_in(&mut self, user: u8) -> bool
         requires { 0 < length (seen self.old).owed }
@@ -81,7 +124,14 @@ pub trait Pool {
         ensures unchanged { result ≡ false → SameOwed (seen self.old) (seen self.new) }
         ensures closed { result ≡ false → (seen self.new).closed ≡ true }
         ensures stays_closed { StaysClosed (seen self.old) (seen self.new) }
-        ensures own { for_others self.new user ≡ for_others self.old user };
+        ensures own { for_others self.new user ≡ for_others self.old user }
+    {
+        let fetched = self.fetch_uncounted(user);
+        if fetched {
+            self.count();
+        }
+        fetched
+    }
 
     /// Fetches a result for a user that is there now, which `fetched` then shows. It never waits for a worker. False may
     /// come at any time.
@@ -89,7 +139,14 @@ pub trait Pool {
         ensures handed_out { result ≡ true → IsHandedOut (last self.new) (seen self.old) (seen self.new) }
         ensures unchanged { result ≡ false → SameOwed (seen self.old) (seen self.new) }
         ensures stays_closed { StaysClosed (seen self.old) (seen self.new) }
-        ensures own { for_others self.new user ≡ for_others self.old user };
+        ensures own { for_others self.new user ≡ for_others self.old user }
+    {
+        let polled = self.poll_uncounted(user);
+        if polled {
+            self.count();
+        }
+        polled
+    }
 
     /// The result that was handed out last, in the end's own room. It stays there until the next post, fetch or poll.
     fn fetched(&self) -> DoneRef<'_>

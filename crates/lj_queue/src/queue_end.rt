@@ -1,6 +1,7 @@
 //! One connection's end of a pool with a queue.
-ghost use Rattle.std.specs.Prelude.{◌≡◌, ◌<◌, ◌↔◌, [], ◌∷◌, true, false, length, IfErr, IsTrue, OnErr, OnOk};
+ghost use Rattle.std.specs.Prelude.{◌≡◌, ◌<◌, ◌↔◌, [], ◌∷◌, true, false, length, IfErr, IsTrue, OnErr, OnOk, ⊤};
 ghost use Rattle.lj_pool.specs.declared.pool.NotPosted.TheVariants.{Closed};
+ghost use Rattle.lj_pool.specs.Accounts.{IsKnownByName};
 ghost use Rattle.lj_pool.specs.Seen.{IsHandedOut, IsPosted, SameOwed, StaysClosed, nothing_seen};
 ghost use Rattle.lj_queue.specs.PoolPass.{with_push, open_task_of};
 
@@ -98,6 +99,8 @@ impl<'p, L: PoolIdentity, R: Wait> Pool for QueueEnd<'p, L, R> {
 
     ghost last = { λ end. end.last };
 
+    ghost is_uncounted = { λ _. ⊤ };
+
     fn post_from(&mut self, task: &Task, wait: bool) -> Result<(), NotPosted>
         requires room { length self.old.seen.owed < MAX_OWED }
         ensures pushed { let ticket = open_task_of self.old.number self.old.user task.now in
@@ -128,15 +131,14 @@ impl<'p, L: PoolIdentity, R: Wait> Pool for QueueEnd<'p, L, R> {
         posted
     }
 
-    fn fetch_in(&mut self, _user: u8) -> bool
+    fn fetch_uncounted(&mut self, _user: u8) -> bool
         ensures pass { self.new.pass ≡ self.old.pass }
         ensures number { self.new.number ≡ self.old.number }
         ensures user { self.new.user ≡ self.old.user }
         ensures whose { result ≡ true → self.new.last.name.label.user ≡ self.old.user }
         ensures in_hand { result ≡ true → 0 < length self.old.hand
             → self.old.hand ≡ self.new.last ∷ self.new.hand }
-        ensures handed_out { result ≡ true → IsHandedOut self.new.last self.old.seen self.new.seen }
-        ensures unchanged { result ≡ false → SameOwed self.old.seen self.new.seen }
+        ensures unchanged { SameOwed self.old.seen self.new.seen }
         ensures closed { result ≡ false → self.new.seen.closed ≡ true }
         ensures stays_closed { StaysClosed self.old.seen self.new.seen }
     {
@@ -160,23 +162,41 @@ impl<'p, L: PoolIdentity, R: Wait> Pool for QueueEnd<'p, L, R> {
         fetched
     }
 
-    fn poll_in(&mut self, _user: u8) -> bool
+    fn poll_uncounted(&mut self, _user: u8) -> bool
         ensures pass { self.new.pass ≡ self.old.pass }
         ensures number { self.new.number ≡ self.old.number }
         ensures user { self.new.user ≡ self.old.user }
-        ensures open { self.new.seen.closed ≡ self.old.seen.closed }
+        ensures seen { self.new.seen ≡ self.old.seen }
+        ensures unchanged { SameOwed self.old.seen self.new.seen }
+        ensures stays_closed { StaysClosed self.old.seen self.new.seen }
         ensures whose { result ≡ true → self.new.last.name.label.user ≡ self.old.user }
         ensures in_hand { result ≡ true → 0 < length self.old.hand
             → self.old.hand ≡ self.new.last ∷ self.new.hand }
-        ensures handed_out { result ≡ true → IsHandedOut self.new.last self.old.seen self.new.seen }
-        ensures unchanged { result ≡ false → SameOwed self.old.seen self.new.seen }
-        ensures stays_closed { StaysClosed self.old.seen self.new.seen }
     {
         let polled = !self.is_closed() && self.look() && self.hand_out();
         if !polled {
             self.tell(1);
         }
         polled
+    }
+
+    fn count(&mut self)
+        ensures unchanged { self.new ≡ record self.old { seen = self.new.seen } }
+        ensures handed_out { IsHandedOut self.old.last self.old.seen self.new.seen }
+        ensures closed { self.new.seen.closed ≡ self.old.seen.closed }
+        ensures stays_closed { StaysClosed self.old.seen self.new.seen }
+    {
+        self.account.count(self.slots.last.done().task());
+    }
+
+    fn count_by_name(&mut self)
+        requires { IsKnownByName self.old.seen.owed self.old.last }
+        ensures unchanged { self.new ≡ record self.old { seen = self.new.seen } }
+        ensures handed_out { IsHandedOut self.old.last self.old.seen self.new.seen }
+        ensures closed { self.new.seen.closed ≡ self.old.seen.closed }
+        ensures stays_closed { StaysClosed self.old.seen self.new.seen }
+    {
+        self.account.count_by_name(self.slots.last.done().task());
     }
 
     fn fetched(&self) -> DoneRef<'_> {
@@ -222,24 +242,19 @@ impl<'p, L: PoolIdentity, R: Wait> QueueEnd<'p, L, R> {
         !self.slots.hand.is_empty() || self.pool.poll(self.rt, self.user, &mut self.slots.hand)
     }
 
-    /// Hands out the next result that it has in hand. False where it has none.
+    /// Shows the next result that it has in hand. False where it has none.
     fn hand_out(&mut self) -> bool
         ensures some { IsTrue result ↔ (0 < length self.old.hand) }
         ensures next { result ≡ true → self.old.hand ≡ self.new.last ∷ self.new.hand }
         ensures whose { result ≡ true → self.new.last.name.label.user ≡ self.old.user }
-        ensures handed_out { result ≡ true → IsHandedOut self.new.last self.old.seen self.new.seen }
-        ensures unchanged { result ≡ false → self.new ≡ self.old }
-        ensures pass { self.new.pass ≡ self.old.pass }
-        ensures number { self.new.number ≡ self.old.number }
-        ensures user { self.new.user ≡ self.old.user }
-        ensures open { self.new.seen.closed ≡ self.old.seen.closed }
+        ensures unchanged { self.new ≡ record self.old { last = self.new.last; hand = self.new.hand } }
+        ensures none { result ≡ false → self.new ≡ self.old }
     {
         let Some(first) = self.slots.hand.pop(self.user) else {
             return false;
         };
         let older = mem::replace(&mut self.slots.last, first);
         self.reuse(older.into_task());
-        self.account.count(self.slots.last.done().task());
         true
     }
 

@@ -1,6 +1,6 @@
 //! Streams after which steps are owed to sessions: they are done for the next stream, over a pool that may be closed at any
 //! of its calls.
-ghost use Rattle.std.specs.Prelude.{◌≡◌};
+ghost use Rattle.std.specs.Prelude.{◌≡◌, IsSome};
 ghost use Rattle.lj_pool.specs.Seen.{nothing_seen};
 
 use arrayvec::ArrayVec;
@@ -49,6 +49,8 @@ impl Pool for ClosingPool {
 
     ghost last = { λ pool. pool.inner.last };
 
+    ghost is_uncounted = { λ pool. IsSome pool.inner.held };
+
     ghost for_others = { λ _ _. 0 };
 
     ghost most = { 1 };
@@ -61,19 +63,23 @@ impl Pool for ClosingPool {
         self.inner.post_from(task, wait)
     }
 
-    fn fetch_in(&mut self, user: u8) -> bool {
+    fn fetch_uncounted(&mut self, user: u8) -> bool {
         if !self.is_open() {
             self.closed = true;
             return false;
         }
-        self.inner.fetch_in(user)
+        self.inner.fetch_uncounted(user)
     }
 
-    fn poll_in(&mut self, user: u8) -> bool {
+    fn poll_uncounted(&mut self, user: u8) -> bool {
         if !self.is_open() {
             return false;
         }
-        self.inner.poll_in(user)
+        self.inner.poll_uncounted(user)
+    }
+
+    fn count(&mut self) {
+        self.inner.count();
     }
 
     fn fetched(&self) -> DoneRef<'_> {

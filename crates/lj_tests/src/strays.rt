@@ -1,5 +1,5 @@
 //! Pools that hand out results which are not awaited, or that are closed: what a connection is told over them.
-ghost use Rattle.std.specs.Prelude.{◌≡◌, None, IfSome};
+ghost use Rattle.std.specs.Prelude.{◌≡◌, ◌↔◌, None, Some, IfSome, IsTrue, ⊤};
 
 use arrayvec::ArrayVec;
 use lj_pool::{NotPosted, Pool, Served, serve_lines};
@@ -61,6 +61,16 @@ impl OddPool {
         }
         Some(earlier.copy())
     }
+
+    /// Whether the result that was handed out last is of the task that is held.
+    fn shows_held(&self) -> bool
+        ensures { IsTrue result ↔ (self.now.held ≡ Some self.now.shown) }
+    {
+        match &self.held {
+            Some(held) => held.task().is(self.shown.task()),
+            None => false,
+        }
+    }
 }
 
 impl Pool for OddPool {
@@ -74,6 +84,8 @@ impl Pool for OddPool {
     } };
 
     ghost last = { λ pool. pool.shown };
+
+    ghost is_uncounted = { λ _. ⊤ };
 
     ghost for_others = { λ _ _. 0 };
 
@@ -92,33 +104,40 @@ impl Pool for OddPool {
         Ok(())
     }
 
-    fn fetch_in(&mut self, _user: u8) -> bool {
+    fn fetch_uncounted(&mut self, _user: u8) -> bool {
         if self.fetches == 0 {
             self.closed = true;
             return false;
         }
         if let Some(stray) = self.stray() {
             self.left = self.left.saturating_sub(1);
-            self.strays = self.strays.saturating_add(1);
             self.shown = stray;
             return true;
         }
-        let Some(done) = self.held.take() else {
+        let Some(held) = &self.held else {
             return false;
         };
         self.fetches -= 1;
         self.left = self.copies;
-        self.earlier = Some(done.copy());
-        self.good = self.good.saturating_add(1);
-        self.shown = done;
+        self.earlier = Some(held.copy());
+        self.shown = held.copy();
         true
     }
 
-    fn poll_in(&mut self, user: u8) -> bool {
+    fn poll_uncounted(&mut self, user: u8) -> bool {
         if self.held.is_none() || self.stray().is_some() {
             return false;
         }
-        self.fetch_in(user)
+        self.fetch_uncounted(user)
+    }
+
+    fn count(&mut self) {
+        if self.shows_held() {
+            self.held = None;
+            self.good = self.good.saturating_add(1);
+        } else {
+            self.strays = self.strays.saturating_add(1);
+        }
     }
 
     fn fetched(&self) -> DoneRef<'_> {

@@ -4,7 +4,7 @@ ghost use Rattle.std.specs.Prelude.{◌≡◌, ◌+◌, ◌-◌, ◌<◌, ◌≤
 ghost use Rattle.lj_session.specs.Owner.{IsReplied, IsSettled, task_in, user_in, ready_session};
 ghost use Rattle.lj_wire.specs.Runs.{item_before};
 ghost use Rattle.lj_pool.specs.declared.engine.running.Halt.TheVariants.{TooManyStrays};
-ghost use Rattle.lj_pool.specs.Seen.{SameOwed};
+ghost use Rattle.lj_pool.specs.Seen.{IsStray, SameOwed};
 ghost use Rattle.lj_pool.specs.Gathering.{Gathers};
 ghost use Rattle.lj_pool.specs.Counting.{CountsRise, FallsShort, HandedWithin, StraysRise, item_tiles};
 ghost use Rattle.lj_pool.specs.Coming.{GoesOn, OwesNoMore, OwesNoneWhereWaited, posts_coming, tiles_coming, tiles_to_come};
@@ -317,10 +317,10 @@ fn fetch_next<P: Pool>(owner: &mut Owner, user: u8, pool: &mut P) -> Result<bool
     ensures halted { IfErr result (λ halt. IsHalted halt (P.seen pool.old) (P.seen pool.new)) }
     ensures own { P.for_others pool.new user ≡ P.for_others pool.old user }
 {
-    if !pool.fetch_in(user) {
+    if !pool.fetch_uncounted(user) {
         return Err(Halt::PoolClosed);
     }
-    Ok(owner.take_in(&pool.fetched()).is_ok())
+    Ok(take_in_and_count(owner, pool))
 }
 
 /// Takes in a result that is there now. False where it is of no tile that is awaited; it is dropped then. None where there
@@ -331,10 +331,28 @@ fn poll_next<P: Pool>(owner: &mut Owner, user: u8, pool: &mut P) -> Option<bool>
     ensures fewer { IfSome result (λ taken. taken ≡ true → tiles_coming owner.new < tiles_coming owner.old) }
     ensures own { P.for_others pool.new user ≡ P.for_others pool.old user }
 {
-    if !pool.poll_in(user) {
+    if !pool.poll_uncounted(user) {
         return None;
     }
-    Some(owner.take_in(&pool.fetched()).is_ok())
+    Some(take_in_and_count(owner, pool))
+}
+
+/// Takes in the result that the pool shows, and has it counted. False where it is of no tile that is awaited. A tile that is
+/// awaited has been compared, so its task is known by its name among those that are owed.
+fn take_in_and_count<P: Pool>(owner: &mut Owner, pool: &mut P) -> bool
+    requires gathers { Gathers owner.old (P.seen pool.old).owed }
+    requires uncounted { P.is_uncounted pool.old }
+    ensures goes_on { GoesOn owner.old (P.seen pool.old) owner.new (P.seen pool.new) }
+    ensures fewer { result ≡ true → tiles_coming owner.new < tiles_coming owner.old }
+    ensures stray { result ≡ false → IsStray (P.last pool.old) (P.seen pool.old) (P.seen pool.new) }
+    ensures own { (user : ℕ) → P.for_others pool.new user ≡ P.for_others pool.old user }
+{
+    if owner.take_in(&pool.fetched()).is_err() {
+        pool.count();
+        return false;
+    }
+    pool.count_by_name();
+    true
 }
 
 /// How many results in a row were of no tile that is awaited, after one more that was taken in or was not.

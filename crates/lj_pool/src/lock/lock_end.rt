@@ -1,7 +1,8 @@
 //! One connection's end of a pool behind a lock.
-ghost use Rattle.std.specs.Prelude.{◌≡◌, ◌+◌, ◌<◌, ◌≤◌, ◌↔◌, [], true, false, length, take, IfErr, OnErr, OnOk};
+ghost use Rattle.std.specs.Prelude.{◌≡◌, ◌+◌, ◌<◌, ◌≤◌, ◌↔◌, [], true, false, length, take, IfErr, OnErr, OnOk, ⊤};
 ghost use Rattle.lj_tile.specs.Blank.{blank_task};
 ghost use Rattle.lj_pool.specs.declared.pool.NotPosted.TheVariants.{Closed};
+ghost use Rattle.lj_pool.specs.Accounts.{IsKnownByName};
 ghost use Rattle.lj_pool.specs.EndBoxes.{IsNext};
 ghost use Rattle.lj_pool.specs.Seen.{ArePosted, IsHandedOut, IsPosted, SameOwed, StaysClosed, nothing_seen};
 
@@ -76,6 +77,8 @@ impl<'p, L: Ledger, R: Wait> Pool for LockEnd<'p, L, R> {
 
     ghost last = { λ end. end.last };
 
+    ghost is_uncounted = { λ _. ⊤ };
+
     ghost for_others = { λ _ _. 0 };
 
     ghost most = { MAX_OWED };
@@ -121,43 +124,54 @@ impl<'p, L: Ledger, R: Wait> Pool for LockEnd<'p, L, R> {
         posted
     }
 
-    fn fetch_in(&mut self, user: u8) -> bool
+    fn fetch_uncounted(&mut self, user: u8) -> bool
         ensures whose { result ≡ true → self.new.last.name.label.user ≡ user }
         ensures next { result ≡ true → IsNext user self.old.hand self.new.last self.new.hand }
         ensures last { result ≡ false → self.new.last ≡ self.old.last }
         ensures hand { result ≡ false → self.new.hand ≡ self.old.hand }
-        ensures handed_out { result ≡ true → IsHandedOut self.new.last self.old.seen self.new.seen }
-        ensures unchanged { result ≡ false → SameOwed self.old.seen self.new.seen }
+        ensures unchanged { SameOwed self.old.seen self.new.seen }
         ensures closed { result ≡ false → self.new.seen.closed ≡ true }
         ensures stays_closed { StaysClosed self.old.seen self.new.seen }
     {
         let owed = self.account.owed().saturating_sub(self.boxes.in_hand());
         let fetched = self.pool.fetch(self.rt, user, owed, &mut self.boxes);
-        if fetched {
-            let last = self.boxes.last_or(self.pool.blank());
-            self.account.count(last.task());
-        } else {
+        if !fetched {
             self.account.close();
         }
         fetched
     }
 
-    fn poll_in(&mut self, user: u8) -> bool
+    fn poll_uncounted(&mut self, user: u8) -> bool
         ensures whose { result ≡ true → self.new.last.name.label.user ≡ user }
         ensures next { result ≡ true → IsNext user self.old.hand self.new.last self.new.hand }
         ensures last { result ≡ false → self.new.last ≡ self.old.last }
         ensures hand { result ≡ false → self.new.hand ≡ self.old.hand }
-        ensures open { self.new.seen.closed ≡ self.old.seen.closed }
-        ensures handed_out { result ≡ true → IsHandedOut self.new.last self.old.seen self.new.seen }
-        ensures unchanged { result ≡ false → SameOwed self.old.seen self.new.seen }
+        ensures seen { self.new.seen ≡ self.old.seen }
+        ensures unchanged { SameOwed self.old.seen self.new.seen }
         ensures stays_closed { StaysClosed self.old.seen self.new.seen }
     {
-        let polled = self.pool.poll(self.rt, user, &mut self.boxes);
-        if polled {
-            let last = self.boxes.last_or(self.pool.blank());
-            self.account.count(last.task());
-        }
-        polled
+        self.pool.poll(self.rt, user, &mut self.boxes)
+    }
+
+    fn count(&mut self)
+        ensures boxes { self.new ≡ record self.old { seen = self.new.seen } }
+        ensures handed_out { IsHandedOut self.old.last self.old.seen self.new.seen }
+        ensures closed { self.new.seen.closed ≡ self.old.seen.closed }
+        ensures stays_closed { StaysClosed self.old.seen self.new.seen }
+    {
+        let last = self.boxes.last_or(self.pool.blank());
+        self.account.count(last.task());
+    }
+
+    fn count_by_name(&mut self)
+        requires { IsKnownByName self.old.seen.owed self.old.last }
+        ensures boxes { self.new ≡ record self.old { seen = self.new.seen } }
+        ensures handed_out { IsHandedOut self.old.last self.old.seen self.new.seen }
+        ensures closed { self.new.seen.closed ≡ self.old.seen.closed }
+        ensures stays_closed { StaysClosed self.old.seen self.new.seen }
+    {
+        let last = self.boxes.last_or(self.pool.blank());
+        self.account.count_by_name(last.task());
     }
 
     fn fetched(&self) -> DoneRef<'_> {
