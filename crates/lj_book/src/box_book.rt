@@ -97,7 +97,7 @@ impl BoxBook {
             return Err(task);
         }
         let number = self.held.posted();
-        self.held.post(Numbered { number, task });
+        self.held.post(Numbered::new(number, task));
         Ok(())
     }
 
@@ -113,7 +113,7 @@ impl BoxBook {
     {
         let key = self.held.find_open(pick)?;
         let slip = self.held.open_at(key).slip();
-        let Numbered { number, task } = self.held.let_out(key, slip);
+        let Numbered { number, task, .. } = self.held.let_out(key, slip);
         Some(Lent { key, number, task })
     }
 
@@ -154,7 +154,7 @@ impl BoxBook {
         if !self.is_out(key, number, user) {
             return Err(task);
         }
-        self.held.reopen(key, Numbered { number, task });
+        self.held.reopen(key, Numbered::new(number, task));
         Ok(())
     }
 

@@ -9,11 +9,14 @@ use lj_table::Table;
 use lj_tile::{DoneRef, Task};
 use std::marker::Model;
 
-/// A task that stands open in its box, by the number of its post.
+/// A task that stands open in its box, by the number of its post. Its user stands beside the box, so that who takes the task
+/// need not read the box for it, whose lines another processor has written.
 #[derive(Drop)]
 pub(crate) struct Numbered {
     pub(crate) number: u64,
+    user: u8,
     pub(crate) task: TaskBox,
+    ghost whose: { user ≡ user_of task },
 }
 
 impl Model for Numbered {
@@ -25,13 +28,21 @@ impl Model for Numbered {
 }
 
 impl Numbered {
+    /// A task in its box, by this number of its post.
+    pub(crate) fn new(number: u64, task: TaskBox) -> Numbered
+        ensures { result ≡ record { number = number; work = task } }
+    {
+        let user = task.task().name().label.user;
+        Numbered { number, user, task }
+    }
+
     /// What is kept of the task while its box is out.
     pub(crate) fn slip(&self) -> Slip
         ensures { result ≡ slip_for self.now }
     {
         Slip {
             number: self.number,
-            user: self.task.task().name().label.user,
+            user: self.user,
         }
     }
 }
@@ -42,7 +53,7 @@ impl Keeps for Numbered {
     ghost boxed = { λ n. true };
 
     fn user(&self) -> u8 {
-        self.task.task().name().label.user
+        self.user
     }
 
     fn into_box(self) -> Option<TaskBox> {
