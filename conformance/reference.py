@@ -31,7 +31,7 @@ def unless(holds: bool, refusal: str) -> None:
         raise Refused(refusal)
 
 
-# Words: lj_fixed/specs/Numbers and Decimal; lj_wire/specs/Displacements; lj_tile/specs/Names; lj_xyz/specs/Symbols
+# Words: lj_fixed/specs/Numbers and Decimal; lj_wire/specs/Displacements; lj_base/specs/Names; lj_xyz/specs/Symbols
 SHAPES = {
     "name": rb"[A-Za-z0-9_-]{1,16}",
     "symbol": rb"[!-~]{1,16}",
@@ -169,7 +169,7 @@ def stepped(atoms: Composition, sim: Simulation) -> Simulation:
     return Simulation(sim.cur, following, sim.step + sim.dir, sim.dir)
 
 
-# The body of a load: lj_xyz/specs/Lines, Atoms and Frames
+# The body of a load: lj_base/specs/Words; lj_xyz/specs/Lines, Atoms and Frames
 
 
 def words_of(line: bytes) -> Words:

@@ -1,4 +1,3 @@
-pub mod SameLemmas
 pub mod RowLemmas
 pub mod UserLemmas
 pub mod Passing

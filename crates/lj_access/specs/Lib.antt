@@ -1,4 +1,3 @@
-pub mod Tokens
 pub mod Users
 pub mod Rows
 pub mod Directories

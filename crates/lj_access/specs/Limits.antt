@@ -1,8 +1,7 @@
--- How many users there may be, how many tickets one has, and the size of a token.
+-- How many users there may be, and how many tickets one has.
 use Rattle.std.specs.Prelude.{◌≡◌, ◌^◌, refl}
 use Rattle.lj_access.specs.declared.directory.TheConstants.{MAX_USERS}
 use Rattle.lj_access.specs.declared.user_row.TheConstants.{MAX_TICKETS}
-use Rattle.lj_access.specs.declared.user.TheConstants.{TOKEN_BYTES}
 
 -- a directory has at most 64 users
 most_users : MAX_USERS ≡ 64
@@ -11,7 +10,3 @@ most_users = refl
 -- a user is granted at most 2^32 tickets
 most_tickets : MAX_TICKETS ≡ 2 ^ 32
 most_tickets = refl
-
--- a token has 32 bytes
-token_bytes : TOKEN_BYTES ≡ 32
-token_bytes = refl

@@ -10,8 +10,8 @@ ghost use Rattle.lj_access.specs.Rows.{first_row, user_with, HasTicketLeft, next
 use crate::ticket::{Denied, NotEntered, Ticket};
 use crate::user::User;
 use crate::user_row::Row;
+use lj_base::Name;
 use lj_session::UserState;
-use lj_tile::Name;
 use std::alloc::{AllocError, Global};
 use std::fmt;
 use std::marker::Model;

@@ -9,7 +9,6 @@ mod user_row;
 
 pub use directory::{Directory, MAX_USERS};
 pub use given_up::GivenUp;
-pub use lj_tile::Name;
 pub use ticket::{Denied, NotEntered, Ticket};
-pub use user::{TOKEN_BYTES, Token, User, is_named};
+pub use user::{User, is_named};
 pub use user_row::MAX_TICKETS;

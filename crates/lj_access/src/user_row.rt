@@ -3,9 +3,9 @@ ghost use Rattle.std.specs.Prelude.{◌≡◌, ◌↔◌, ◌<◌, IsTrue, IsSom
 ghost use Rattle.lj_access.specs.Rows.{first_row, is_of, HasTicketLeft, IsFirst, CanEnter, HasEntered, with_ticket, without_home, with_home};
 ghost use Rattle.lj_session.specs.UserState.{Reached};
 
-use crate::user::{Token, User};
+use crate::user::User;
+use lj_base::{Name, Token};
 use lj_session::UserState;
-use lj_tile::Name;
 use std::alloc::Global;
 use std::marker::Model;
 

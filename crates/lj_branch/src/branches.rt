@@ -11,8 +11,8 @@ ghost use Rattle.lj_branch.specs.declared.branch_faults.SaveFault.TheVariants.{E
 
 use crate::branch_faults::{NoBranch, SaveFault};
 use indexmap::IndexMap;
+use lj_base::Name;
 use lj_step::{Sim, Snapshot};
-use lj_tile::Name;
 use std::alloc::Global;
 use std::marker::Model;
 

@@ -3,7 +3,7 @@ use Rattle.std.specs.Prelude.{◌≡◌, ◌≤◌, ℕ, Bool, true, false, List
 use Rattle.std.specs.Prelude.{Option, Some, None, IfSome, IsSome, IsSomeAnd}
 use Rattle.std.specs.List.{filter, IsDistinct}
 use Rattle.std.specs.Str.{bytes_eq}
-use Rattle.lj_tile.specs.declared.names.Label.{Label}
+use Rattle.lj_base.specs.declared.names.Label.{Label}
 use Rattle.lj_tile.specs.Task.{Task}
 use Rattle.lj_step.specs.Sim.{Sim, OpenStep}
 use Rattle.lj_step.specs.OpenSteps.{cover, task_of, tiles_left}

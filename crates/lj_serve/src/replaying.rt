@@ -14,7 +14,7 @@ use crate::replaying::schedule::{Schedule, read_schedule};
 use bstr::ByteSlice;
 use itoa::Buffer;
 use lj_access::User;
-use lj_tile::Name;
+use lj_base::Name;
 use lj_wire::{Sink, put_all};
 use lj_world::{Entry, World};
 use std::alloc::{AllocError, Global};

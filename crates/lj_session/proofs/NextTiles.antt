@@ -6,7 +6,7 @@ use Rattle.std.specs.Prelude.{Bool, is_some}
 use Rattle.std.specs.List.{IsDistinct}
 use Rattle.std.specs.Option.{option_map}
 use Rattle.std.specs.Str.{bytes_eq}
-use Rattle.lj_tile.specs.declared.names.Label.{Label}
+use Rattle.lj_base.specs.declared.names.Label.{Label}
 use Rattle.lj_step.specs.OpenSteps.{tiles_of}
 use Rattle.lj_session.specs.UserState.{HeldSession, UserState, IsNextTile, NoTaskBefore, first_with_task, names, held_session_at, held_session, next_of, next_task, next_tile}
 use Rattle.lj_session.proofs.Firsts.{NoneBefore, none-first, none-next, find-at, find-nowhere}

@@ -4,7 +4,7 @@ use Rattle.std.specs.Prelude.{◌∷◌, length, map, position, slice_get, Optio
 use Rattle.std.specs.Option.{option_map, option_map_or, option_and_then}
 use Rattle.std.specs.List.{find, range_with_len}
 use Rattle.std.specs.Str.{bytes_eq}
-use Rattle.lj_tile.specs.declared.names.Label.{Label}
+use Rattle.lj_base.specs.declared.names.Label.{Label}
 use Rattle.lj_tile.specs.declared.names.Kind.{Kind}
 use Rattle.lj_tile.specs.declared.names.Kind.TheVariants.{Force, Energy}
 use Rattle.lj_tile.specs.Task.{Task}

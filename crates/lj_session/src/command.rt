@@ -2,8 +2,8 @@
 
 use crate::body::LoadBody;
 use crate::substance::Substance;
+use lj_base::Name;
 use lj_fixed::Nano;
-use lj_tile::Name;
 
 /// How many frames of its body a load reads.
 #[derive(Clone, Copy, Debug, PartialEq, Eq)]

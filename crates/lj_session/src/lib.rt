@@ -20,7 +20,7 @@ pub use command::{Command, Load, Mode};
 pub use laws::{
     accept_keeps_user, begun_waits_alike, listed_is_there, posted_keeps_user, rest_keeps_user,
 };
-pub use lj_tile::Name;
+pub use lj_base::Name;
 pub use owner::{Begin, Owner};
 pub use refusal::Refusal;
 pub use reply::Reply;

@@ -21,8 +21,9 @@ use crate::refusal::Refusal;
 use crate::reply::Reply;
 use crate::state::UserState;
 use crate::tile_cursor::TileCursor;
+use lj_base::{Label, Name};
 use lj_step::{NotAwaited, Stray};
-use lj_tile::{Done, DoneRef, Kind, Label, Name, Task};
+use lj_tile::{Done, DoneRef, Kind, Task};
 use std::marker::Model;
 use std::mem;
 

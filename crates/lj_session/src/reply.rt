@@ -1,8 +1,8 @@
 //! Replies to commands.
 
 use crate::refusal::Refusal;
+use lj_base::Name;
 use lj_ring::Place;
-use lj_tile::Name;
 
 /// What an item is answered. A reply names the step that it describes.
 #[derive(Debug, PartialEq, Eq, Drop)]

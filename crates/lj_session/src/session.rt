@@ -13,9 +13,10 @@ ghost use Rattle.lj_session.specs.Answers.{can_advance};
 ghost use Rattle.lj_session.specs.UserState as states;
 ghost use Rattle.lj_session.specs.UserState.{session_meant, with_simulation, with_saved, IsWhole};
 
+use lj_base::{Label, Name};
 use lj_branch::{Branches, NoBranch, SaveFault};
 use lj_step::{Displacement, MAX_STEP, NotAwaited, Sim};
-use lj_tile::{DoneRef, Kind, Label, Name, Task};
+use lj_tile::{DoneRef, Kind, Task};
 use lj_xyz::Symbol;
 use std::marker::Model;
 

@@ -5,9 +5,9 @@ ghost use Rattle.lj_session.specs.Substances.{load_reply, mix_of_substance, nano
 
 use crate::refusal::Refusal;
 use crate::reply::Reply;
+use lj_base::Name;
 use lj_fixed::Nano;
 use lj_ring::{Mix, Scale};
-use lj_tile::Name;
 use lj_xyz::SymbolPair;
 
 /// The numbers of a class of pairs. Each is `None` where its word is no such number.

@@ -2,7 +2,7 @@
 use Rattle.std.proofs.Common.{◌≡◌, ◌≤◌, ◌+◌, ◌*◌, ◌^◌, ◌+ℤ◌, ◌-ℤ◌, unsigned_abs, false, true, length, slice_index_or}
 use Rattle.std.proofs.Common.{slice_set, vec_capacity, Some, None, refl, sym, ap, ◌∙◌, subst}
 use Rattle.std.proofs.lemmas.List.{length-set}
-use Rattle.lj_tile.specs.declared.names.Label.{Label}
+use Rattle.lj_base.specs.declared.names.Label.{Label}
 use Rattle.lj_tile.specs.declared.names.Kind.{Kind}
 use Rattle.lj_tile.specs.declared.names.Kind.TheVariants.{Energy}
 use Rattle.lj_tile.specs.Task.{Task, task_energy}

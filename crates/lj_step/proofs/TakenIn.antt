@@ -1,7 +1,7 @@
 -- An open step in the code that takes in the result of a task it awaits.
 use Rattle.std.proofs.Common.{◌+◌, ◌/◌, ◌%◌, ◌^◌, ◌<◌, ◌≤◌, ◌≡◌, ◌+ℤ◌, unsigned_abs, Bool, true, false, List}
 use Rattle.std.proofs.Common.{length, slice_index_or, slice_set, Option, Some, None, refl, sym, ap, ◌∙◌, subst, arith}
-use Rattle.lj_tile.specs.declared.names.Label.{Label}
+use Rattle.lj_base.specs.declared.names.Label.{Label}
 use Rattle.lj_tile.specs.declared.names.Kind.{Kind}
 use Rattle.lj_tile.specs.declared.names.Kind.TheVariants.{Energy}
 use Rattle.lj_tile.specs.Task.{Task, task_energy}

@@ -10,7 +10,7 @@ use Rattle.lj_ring.specs.Ring.{ring_sum, int_sum_below}
 use Rattle.lj_tile.specs.Species.{Composition, class_between}
 use Rattle.lj_ring.specs.Scale.{Scale}
 use Rattle.lj_tile.specs.declared.pairs.Push.{Push}
-use Rattle.lj_tile.specs.declared.names.Label.{Label}
+use Rattle.lj_base.specs.declared.names.Label.{Label}
 use Rattle.lj_tile.specs.declared.names.Kind.{Kind}
 use Rattle.lj_tile.specs.declared.names.Kind.TheVariants.{Force, Energy}
 use Rattle.lj_tile.specs.Pushes.{no_push, energy}

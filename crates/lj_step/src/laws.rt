@@ -5,7 +5,7 @@ ghost use Rattle.lj_tile.specs.Species.{Composition};
 ghost use Rattle.lj_tile.specs.declared.names.Kind.TheVariants.{Force, Energy};
 ghost use Rattle.lj_tile.specs.Tiles.{Tile, IsForceCover, IsEnergyCover};
 ghost use Rattle.lj_step.specs.Motion.{Simulation, steps, next_simulation, reversal, potential};
-ghost use Rattle.lj_tile.specs.declared.names.Label.{Label};
+ghost use Rattle.lj_base.specs.declared.names.Label.{Label};
 ghost use Rattle.lj_step.specs.declared.frames.TheConstants.{MAX_ATOMS};
 ghost use Rattle.lj_step.specs.Sim.{Sim};
 ghost use Rattle.lj_step.specs.OpenSteps.{cover_tiles, task_of, tile_of};

@@ -6,8 +6,9 @@ ghost use Rattle.lj_step.specs.Laws.{drift};
 ghost use Rattle.lj_step.specs.OpenSteps.{with_step_closed};
 
 use crate::Sim;
+use lj_base::Label;
 use lj_table::Table;
-use lj_tile::{Kind, Label, compute};
+use lj_tile::{Kind, compute};
 
 /// Goes so many steps on, reverses, goes as many back and reverses again. Nothing has changed then, but that a step
 /// that was open is closed.

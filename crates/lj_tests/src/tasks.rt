@@ -1,8 +1,9 @@
 //! A task for tests in which its blocks do not matter.
 
+use lj_base::{Label, Name};
 use lj_fixed::Nano;
 use lj_ring::{Mix, Place, Scale};
-use lj_tile::{Block, Kind, Label, Name, Task, TaskName};
+use lj_tile::{Block, Kind, Task, TaskName};
 use std::process::Abort;
 
 /// A task of a user: a block of one atom, at this step.

@@ -4,9 +4,9 @@ ghost use Rattle.std.specs.List.{IsDistinct, list_any};
 ghost use Rattle.std.specs.Str.{bytes_eq};
 ghost use Rattle.lj_access.specs.Users.{names};
 
-use lj_access::{MAX_USERS, TOKEN_BYTES, Token, User, is_named};
+use lj_access::{MAX_USERS, User, is_named};
+use lj_base::{Name, TOKEN_BYTES, Token};
 use lj_quota::Quota;
-use lj_tile::Name;
 use std::alloc::{AllocError, AllocGlobal};
 use std::process::Abort;
 

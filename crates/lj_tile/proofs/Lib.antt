@@ -1,6 +1,5 @@
 pub mod PushLemmas
 pub mod Opposites
-pub mod NameLemmas
 pub mod SumLemmas
 pub mod RowLemmas
 pub mod Splits

@@ -4,7 +4,7 @@ use Rattle.lj_ring.specs.Mix.{pure_mix}
 use Rattle.lj_ring.specs.Scale.{least_scale}
 use Rattle.lj_tile.specs.declared.names.Kind.TheVariants.{Energy}
 use Rattle.lj_tile.specs.Block.{Block}
-use Rattle.lj_tile.specs.Names.{blank_name}
+use Rattle.lj_base.specs.Names.{blank_name}
 use Rattle.lj_tile.specs.Task.{Task}
 
 -- one atom of the first species, in the corner of the box

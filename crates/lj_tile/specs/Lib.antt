@@ -1,6 +1,5 @@
 pub mod Species
 pub mod Pushes
-pub mod Names
 pub mod Block
 pub mod Tiles
 pub mod Task

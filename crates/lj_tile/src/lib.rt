@@ -14,7 +14,8 @@ mod sums;
 mod tasks;
 
 pub use blocks::{BLOCK, Block};
-pub use names::{Kind, Label, MAX_NAME_BYTES, Name, TaskName};
+pub use lj_base::{Label, Name};
+pub use names::{Kind, TaskName};
 pub use pairs::{Push, pair_push};
 pub use results::{Done, DoneRef, Sums, compute, compute_in, compute_sums};
 pub use tasks::Task;

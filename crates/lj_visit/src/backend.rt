@@ -6,8 +6,9 @@ ghost use Rattle.lj_visit.specs.Events.{Event, Happens};
 ghost use Rattle.lj_visit.specs.Events.Event.{granted, denied, entered, shut_out, opened, withdrawn, left, closed};
 
 use lj_access::{Denied, Ticket};
+use lj_base::Name;
 use lj_pool::Pool;
-use lj_session::{Name, UserState};
+use lj_session::UserState;
 use lj_wire::TokenWord;
 
 /// A user's state while a ticket has it.

@@ -1,7 +1,7 @@
 -- The body put into the item of a line.
 use Rattle.std.proofs.Common.{◌≡◌, ℕ, Bool, true, false, cond, nat_lt, List, [], ◌∷◌, length, Option, Some, None, refl}
 use Rattle.std.specs.Option.{option_map}
-use Rattle.lj_tile.specs.Names.{name_of}
+use Rattle.lj_base.specs.Names.{name_of}
 use Rattle.lj_fixed.specs.Numbers.{number_of}
 use Rattle.lj_session.specs.declared.body.LoadBody.{LoadBody}
 use Rattle.lj_session.specs.declared.body.LoadBody.TheVariants.{Unread}

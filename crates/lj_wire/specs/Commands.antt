@@ -9,7 +9,7 @@ use Rattle.std.specs.Str.{bytes_eq}
 use Rattle.std.specs.Str.Lines.{strip_carriage_return}
 use Rattle.lj_fixed.specs.Decimal.{nano_of}
 use Rattle.lj_fixed.specs.Numbers.{number_of}
-use Rattle.lj_xyz.specs.Lines.{words_of}
+use Rattle.lj_base.specs.Words.{words_of}
 use Rattle.lj_xyz.specs.Symbols.{SymbolPair, is_symbol, pair_of}
 use Rattle.lj_session.specs.declared.body.LoadBody.{LoadBody}
 use Rattle.lj_session.specs.declared.body.LoadBody.TheVariants.{Unread, Read}
@@ -21,7 +21,7 @@ use Rattle.lj_session.specs.declared.command.Command.TheVariants as command
 use Rattle.lj_session.specs.declared.substance.ClassNumbers.{ClassNumbers}
 use Rattle.lj_session.specs.declared.substance.Substance.{Substance}
 use Rattle.lj_session.specs.declared.substance.Substance.TheVariants.{Pure, Mixed}
-use Rattle.lj_tile.specs.Names.{name_of}
+use Rattle.lj_base.specs.Names.{name_of}
 use Rattle.lj_wire.specs.declared.command_line.TheConstants.{MAX_COUNT_DIGITS}
 use Rattle.lj_wire.specs.declared.item.Fault.TheVariants as fault
 use Rattle.lj_wire.specs.declared.item.Item.{Item}

@@ -4,7 +4,7 @@ use Rattle.std.specs.Prelude.{if◌then◌else◌, codes}
 use Rattle.std.specs.Io.KnownBytes.{Consumes, IsAtEnd}
 use Rattle.std.specs.Option.{unwrap_or}
 use Rattle.std.specs.Str.{bytes_eq}
-use Rattle.lj_tile.specs.Names.{name_of}
+use Rattle.lj_base.specs.Names.{name_of}
 use Rattle.lj_wire.specs.declared.hello.TheConstants.{TOKEN_WORD_BYTES}
 use Rattle.lj_wire.specs.declared.hello.Hello.{Hello}
 use Rattle.lj_wire.specs.declared.hello.Hello.TheVariants.{Asked, Other}

@@ -11,10 +11,11 @@ use Rattle.lj_fixed.specs.Numbers.{number_of}
 use Rattle.lj_table.specs.Entries.{push_entry, energy_entry}
 use Rattle.lj_tile.specs.Pushes.{push}
 use Rattle.lj_step.specs.Motion.{force}
-use Rattle.lj_xyz.specs.Lines.{is_line_feed, lines_of, words_of}
+use Rattle.lj_base.specs.Words.{words_of}
+use Rattle.lj_xyz.specs.Lines.{is_line_feed, lines_of}
 use Rattle.lj_xyz.specs.Atoms as atoms
 use Rattle.lj_xyz.specs.Reading.{head_in, behind_comment, next_row, rows_in, frame_in, reading}
-use Rattle.lj_tile.specs.Names.{name_of}
+use Rattle.lj_base.specs.Names.{name_of}
 use Rattle.lj_quota.specs.declared.Quota.{Quota}
 use Rattle.lj_session.specs.Users.{User, fresh_user}
 use Rattle.lj_session.specs.Answers.{command_result}

@@ -12,9 +12,9 @@ use crate::displacement::parse_displacement;
 use crate::item::Item;
 use crate::limits::MAX_BODY_BYTES;
 use crate::verb::Verb;
-use crate::words::Words;
+use lj_base::{Name, Words};
 use lj_fixed::{parse_nano, parse_number};
-use lj_session::{ClassNumbers, Command, Load, LoadBody, Mode, Name, Substance};
+use lj_session::{ClassNumbers, Command, Load, LoadBody, Mode, Substance};
 use lj_xyz::{Symbol, SymbolPair};
 
 /// The most digits of the count of a load.

@@ -3,8 +3,7 @@ ghost use Rattle.std.specs.Prelude.{◌≡◌, Some, codes};
 ghost use Rattle.lj_wire.specs.Greetings.{hello_asked, greeting, hello_of, token_word};
 
 use crate::line::{is_over, words_in};
-use crate::words::Words;
-use lj_session::Name;
+use lj_base::{Name, Words};
 use std::fmt;
 use std::marker::Model;
 

@@ -16,7 +16,6 @@ mod reader;
 mod reading;
 mod replies;
 mod verb;
-mod words;
 
 pub use asked::{Asked, Reads, Writes};
 pub use ends::{
@@ -39,4 +38,3 @@ pub use replies::{
     put_reply_line, put_welcome_line, reply_line,
 };
 pub use verb::is_load;
-pub use words::Words;

@@ -4,9 +4,8 @@ ghost use Rattle.lj_wire.specs.Commands.{is_over, words_in};
 ghost use Rattle.lj_wire.specs.Streams.{LacksLineFeed};
 
 use crate::limits::MAX_LINE_BYTES;
-use crate::words::Words;
 use bstr::ByteSlice;
-use lj_xyz::without_return;
+use lj_base::{Words, without_return};
 
 /// The first line of `stream` without its line feed, and what follows that line feed. `None` where
 /// `stream` has no line feed.

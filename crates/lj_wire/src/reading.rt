@@ -10,7 +10,7 @@ use crate::item::{Fault, Item};
 use crate::limits::LONG_LINE_BYTES;
 use crate::line::{is_over, words_in};
 use crate::verb::Verb;
-use crate::words::Words;
+use lj_base::Words;
 
 /// What a line says.
 #[derive(Debug, Drop)]

@@ -17,9 +17,10 @@ ghost use Rattle.lj_wire.specs.Lines.{blank_and, is_one_line, listed_session};
 
 use arrayvec::ArrayVec;
 use itoa::{Buffer, Integer};
+use lj_base::Name;
 use lj_branch::Branches;
 use lj_ring::{Place, micro_of};
-use lj_session::{Name, Refusal, Reply, UserState};
+use lj_session::{Refusal, Reply, UserState};
 use lj_xyz::{FrameLine, push_atom_line};
 
 /// The most bytes of a line of a reply, with its line feed.

@@ -1,6 +1,6 @@
 -- The numbers of connections and workers, and how many tasks a connection may have posted.
 use Rattle.std.specs.Prelude.{◌≡◌, refl}
-use Rattle.lj_access.specs.declared.user.TheConstants.{TOKEN_BYTES}
+use Rattle.lj_base.specs.declared.tokens.TheConstants.{TOKEN_BYTES}
 use Rattle.lj_wire.specs.declared.hello.TheConstants.{TOKEN_WORD_BYTES}
 use Rattle.lj_world.specs.declared.limits.TheConstants.{MAX_CONNECTIONS, MAX_POSTED, MAX_WORKERS}
 

@@ -5,8 +5,8 @@ ghost use Rattle.lj_world.specs.OwnerReplies.{Begins, CanTurn, TurnsTo};
 
 use crate::texts::text_of;
 use crate::transcript::ReplyText;
+use lj_base::Name;
 use lj_session::{Begin, Owner, Reply};
-use lj_tile::Name;
 use lj_wire::Item;
 use std::alloc::{AllocError, Global};
 

@@ -1,6 +1,6 @@
 //! The events of a world.
 
-use lj_access::{Name, Token};
+use lj_base::{Name, Token};
 use lj_wire::Item;
 
 /// An event. Connections are numbered from 1 to `MAX_CONNECTIONS`, workers from 1 to `MAX_WORKERS`. An event that is not

@@ -5,7 +5,7 @@ use Rattle.lj_xyz.specs.declared.xyz_fault.XyzKind.{XyzKind}
 use Rattle.lj_xyz.specs.declared.xyz_fault.XyzFault.{XyzFault}
 use Rattle.lj_xyz.specs.declared.atom_row.Row.{Row}
 use Rattle.lj_xyz.specs.declared.frame_reader.Position.{Position}
-use Rattle.lj_xyz.specs.Lines.{words_of}
+use Rattle.lj_base.specs.Words.{words_of}
 use Rattle.lj_xyz.specs.Symbols.{SymbolPair}
 use Rattle.lj_xyz.specs.Atoms.{◌>>=◌, count_of}
 use Rattle.lj_xyz.specs.Frames.{missing, fault_behind}

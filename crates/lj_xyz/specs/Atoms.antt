@@ -7,7 +7,7 @@ use Rattle.lj_xyz.specs.declared.xyz_fault.XyzKind.{XyzKind}
 use Rattle.lj_xyz.specs.declared.xyz_fault.XyzKind.TheVariants as kind
 use Rattle.lj_xyz.specs.declared.frame_reader.TheConstants.{MAX_FRAME_ATOMS}
 use Rattle.lj_xyz.specs.declared.atom_row.Row.{Row}
-use Rattle.lj_xyz.specs.Lines.{words_of}
+use Rattle.lj_base.specs.Words.{words_of}
 use Rattle.lj_xyz.specs.Kinds.{kind_of}
 use Rattle.lj_xyz.specs.Symbols.{SymbolPair, is_symbol, is_of_species}
 

@@ -1,19 +1,12 @@
--- The lines of a text, and the words of a line.
-use Rattle.std.specs.Prelude.{ℕ, Bool, ◌==◌, ◌||◌, nat_lt, List, [], ◌∷◌, length, map, filter, if◌then◌else◌}
+-- The lines of a text.
+use Rattle.std.specs.Prelude.{ℕ, Bool, ◌==◌, List, [], ◌∷◌, map, if◌then◌else◌}
 use Rattle.std.specs.List.{slice_split}
 use Rattle.std.specs.Str.Lines.{strip_carriage_return}
+use Rattle.lj_base.specs.Words.{is_word}
 
 -- the line feed, which ends a line
 abbrev pub is_line_feed : ℕ → Bool
 is_line_feed b = b == 10
-
--- space and tab, which alone stand between words
-abbrev pub is_blank : ℕ → Bool
-is_blank b = b == 32 || b == 9
-
--- a part between blanks that has a byte
-abbrev pub is_word : List ℕ → Bool
-is_word part = nat_lt 0 (length part)
 
 -- the parts, without an empty last one
 abbrev pub but_empty_last : List (List ℕ) → List (List ℕ)
@@ -25,7 +18,3 @@ but_empty_last (part ∷ next ∷ parts) = part ∷ but_empty_last (next ∷ par
 -- last line feed is a line if it has a byte.
 unfoldable pub lines_of : List ℕ → List (List ℕ)
 lines_of text = map strip_carriage_return (but_empty_last (slice_split is_line_feed text))
-
--- the words of a line: the longest parts without a blank
-unfoldable pub words_of : List ℕ → List (List ℕ)
-words_of line = filter is_word (slice_split is_blank line)

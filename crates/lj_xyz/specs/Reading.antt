@@ -10,7 +10,7 @@ use Rattle.lj_xyz.specs.declared.xyz_fault.XyzError.TheVariants as errors
 use Rattle.lj_xyz.specs.declared.atom_row.Row.{Row}
 use Rattle.lj_xyz.specs.declared.frame_reader.Position.{Position}
 use Rattle.lj_xyz.specs.declared.frame_reader.Position.TheVariants.{First, Second}
-use Rattle.lj_xyz.specs.Lines.{words_of}
+use Rattle.lj_base.specs.Words.{words_of}
 use Rattle.lj_xyz.specs.Symbols.{SymbolPair}
 use Rattle.lj_xyz.specs.Atoms.{◌>>=◌, count_of, row_of}
 use Rattle.lj_xyz.specs.Frames.{Mode, rest, pair, admits, missing, fault_behind}

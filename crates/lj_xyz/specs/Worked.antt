@@ -8,7 +8,8 @@ use Rattle.lj_xyz.specs.declared.xyz_fault.XyzKind.{XyzKind}
 use Rattle.lj_xyz.specs.declared.xyz_fault.XyzKind.TheVariants as kind
 use Rattle.lj_xyz.specs.declared.xyz_fault.XyzFault.{XyzFault}
 use Rattle.lj_xyz.specs.declared.atom_row.Row.{Row}
-use Rattle.lj_xyz.specs.Lines.{lines_of, words_of}
+use Rattle.lj_base.specs.Words.{words_of}
+use Rattle.lj_xyz.specs.Lines.{lines_of}
 use Rattle.lj_xyz.specs.Symbols.{SymbolPair}
 use Rattle.lj_xyz.specs.Atoms.{row_of, row_of_four}
 use Rattle.lj_xyz.specs.Frames.{Mode, rest, pair}
@@ -46,11 +47,6 @@ ends_of_lines = refl
 only_a_return : lines_of (codes "a\n\r") ≡ codes "a" ∷ [] ∷ []
 unfolding lines_of
 only_a_return = refl
-
--- words: only space and tab are blanks, and the vertical tab is not
-words_of_line : words_of (codes " \tNa  1\u{b}2\t") ≡ codes "Na" ∷ codes "1\u{b}2" ∷ []
-unfolding words_of
-words_of_line = refl
 
 half_a_nano : answer rest (codes "1\nq\nH -0.0000000005 0 0\n")
     ≡ Ok ((atom (codes "H") (negsuc 0) (pos 0) (pos 0) ∷ []) ∷ [])

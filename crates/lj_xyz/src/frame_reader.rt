@@ -11,10 +11,11 @@ ghost use Rattle.lj_xyz.specs.Reading.{rows_in, frame_in, reading};
 ghost use Rattle.lj_xyz.specs.Cursor.{left_of};
 
 use crate::atom_row::{FramePair, Row, Rows};
-use crate::lines::{Lines, split_word};
+use crate::lines::Lines;
 use crate::symbol::Symbol;
 use crate::symbol_pair::SymbolPair;
 use crate::xyz_fault::{XyzError, XyzFault, XyzKind};
+use lj_base::split_word;
 use lj_fixed::{parse_nano, parse_number};
 use std::alloc::Global;
 

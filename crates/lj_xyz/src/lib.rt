@@ -14,7 +14,6 @@ mod xyz_fault;
 pub use atom_row::{FramePair, Row, Rows};
 pub use frame_reader::{MAX_FRAME_ATOMS, read_pair, read_rest};
 pub use laws::one_reading;
-pub use lines::{split_word, without_return};
 pub use symbol::Symbol;
 pub use symbol_pair::SymbolPair;
 pub use writer::{FrameLine, MAX_LINE_BYTES, atom_line, comment_line, count_line, push_atom_line};

@@ -1,10 +1,9 @@
-//! The lines of a text, and the words of a line.
-ghost use Rattle.std.specs.Prelude.{◌≡◌, ◌+◌, ◌-◌, ◌≤◌, ◌<◌, ◌^◌, [], ◌∷◌, length, not, MatchOption};
-ghost use Rattle.std.specs.List.{position_or_len};
-ghost use Rattle.std.specs.Str.Lines.{strip_carriage_return};
-ghost use Rattle.lj_xyz.specs.Lines.{is_blank, lines_of, words_of};
+//! The lines of a text.
+ghost use Rattle.std.specs.Prelude.{◌≡◌, ◌+◌, ◌-◌, ◌<◌, ◌^◌, [], ◌∷◌, length, MatchOption};
+ghost use Rattle.lj_xyz.specs.Lines.{lines_of};
 
 use bstr::ByteSlice;
+use lj_base::without_return;
 
 /// The lines of a text that are not yet taken, and how many are.
 #[derive(Drop)]
@@ -57,53 +56,4 @@ fn split_line(text: &[u8]) -> Option<(&[u8], &[u8])>
         None => Some((without_return(text), &text[text.len()..])),
         Some(end) => Some((without_return(&text[..end]), &text[end + 1..])),
     }
-}
-
-/// A line without the carriage return at its end, if one stands there.
-pub fn without_return(line: &[u8]) -> &[u8]
-    ensures { result.now ≡ strip_carriage_return line.now }
-{
-    match line {
-        [line @ .., b'\r'] => line,
-        _ => line,
-    }
-}
-
-fn is_blank(byte: u8) -> bool
-    ensures { result ≡ is_blank byte }
-{
-    byte == b' ' || byte == b'\t'
-}
-
-// How many bytes stand before the first blank.
-fn word_len(line: &[u8]) -> usize
-    ensures value { result ≡ position_or_len is_blank line.now }
-    ensures within { result ≤ length line.now }
-{
-    line.iter()
-        .position(|byte| is_blank(*byte))
-        .unwrap_or(line.len())
-}
-
-// How many blanks stand in front.
-fn blanks_len(line: &[u8]) -> usize
-    ensures value { result ≡ position_or_len (λ byte. not (is_blank byte)) line.now }
-    ensures within { result ≤ length line.now }
-{
-    line.iter()
-        .position(|byte| !is_blank(*byte))
-        .unwrap_or(line.len())
-}
-
-/// The first word of a line, and what follows it.
-pub fn split_word(line: &[u8]) -> Option<(&[u8], &[u8])>
-    ensures { MatchOption result
-        (words_of line.now ≡ [])
-        (λ p. words_of line.now ≡ p.0.now ∷ words_of p.1.now) }
-{
-    let line = &line[blanks_len(line)..];
-    if line.is_empty() {
-        return None;
-    }
-    Some(line.split_at(word_len(line)))
 }

@@ -4,12 +4,10 @@ ghost use Rattle.lj_serve.specs.Named.{AreUsers};
 
 use crate::input::text::{FromLines, LineFault, TextFault, first_line, read_lines, without_user};
 use crate::quota_limits::{MAX_QUOTA_ATOMS, MAX_QUOTA_BRANCHES, MAX_QUOTA_SESSIONS};
-use lj_access::{MAX_USERS, Token, User, is_named};
+use lj_access::{MAX_USERS, User, is_named};
+use lj_base::{Name, Token, Words, split_word};
 use lj_fixed::parse_number;
 use lj_quota::Quota;
-use lj_tile::Name;
-use lj_wire::Words;
-use lj_xyz::split_word;
 use std::alloc::Global;
 use std::marker::Model;
 

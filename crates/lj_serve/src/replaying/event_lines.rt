@@ -3,12 +3,11 @@ ghost use Rattle.std.specs.Prelude.{◌≡◌, ◌≤◌, IfSome};
 ghost use Rattle.lj_session.specs.declared.body.LoadBody.TheVariants.{Lost};
 ghost use Rattle.lj_wire.specs.Commands.{item_with};
 
-use lj_access::{Name, Token};
+use lj_base::{Name, Token, Words, split_word};
 use lj_fixed::parse_number;
 use lj_session::LoadBody;
-use lj_wire::{Fault, Item, Words, is_load, parse_command};
+use lj_wire::{Fault, Item, is_load, parse_command};
 use lj_world::{ConnectionEvent, Event, MAX_CONNECTIONS, MAX_WORKERS, WorkerEvent};
-use lj_xyz::split_word;
 
 /// The event that a first word and those after it say. An arriving item is none of these.
 pub fn parse_event(verb: &[u8], words: Words) -> Option<Event> {

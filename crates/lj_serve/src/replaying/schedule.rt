@@ -5,10 +5,10 @@ ghost use Rattle.lj_serve.specs.Named.{AreUsers};
 use crate::input::{FromLines, LineFault, TextFault, Users, first_line, read_lines, without_user};
 use crate::replaying::event_lines::{parse_arrival, parse_event, parse_loss};
 use lj_access::User;
+use lj_base::{Words, split_word};
 use lj_session::{Body, Command, LoadBody};
-use lj_wire::{Item, LineReading, Words, read_line};
+use lj_wire::{Item, LineReading, read_line};
 use lj_world::{ConnectionEvent, Event};
-use lj_xyz::split_word;
 use std::alloc::{AllocError, Global};
 
 /// Users, at least one, and events.

@@ -7,12 +7,12 @@ ghost use Rattle.lj_visit.specs.Events.Event.{withdrawn};
 use crate::serve::visitor::Visitor;
 use crate::serve::worker_pool::WorkerPool;
 use lj_access::{Denied, Ticket};
+use lj_base::Name;
 use lj_pool::Share;
 use lj_queue::{
     CONNECTIONS, PoolIdentity, PoolPass, QueueBlank, QueueEnd, QueuePool, Settled, gather,
     work_queue,
 };
-use lj_session::Name;
 use lj_table::Table;
 use lj_visit::{Backend, Lent, Shut, UserEnd, Visited, visit};
 use lj_wire::{LineReader, Sink, Source, TokenWord};

@@ -5,7 +5,7 @@ ghost use Rattle.lj_session.specs.UserState.{Reached};
 use crate::serve::first_line::Deadline;
 use crate::serve::shared_directory::{Entry, SharedDirectory};
 use lj_access::{Denied, Ticket};
-use lj_session::Name;
+use lj_base::Name;
 use lj_visit::{Lent, Shut, Visited};
 use lj_wire::TokenWord;
 use log::{Log, info};

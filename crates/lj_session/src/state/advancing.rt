@@ -16,7 +16,7 @@ use crate::refusal::Refusal;
 use crate::reply::Reply;
 use crate::session::HeldSession;
 use crate::state::UserState;
-use lj_tile::Name;
+use lj_base::Name;
 
 impl Command {
     /// The session that it waits for, until no step is owed to it.

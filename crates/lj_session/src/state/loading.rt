@@ -11,9 +11,9 @@ use crate::refusal::Refusal;
 use crate::reply::Reply;
 use crate::session::HeldSession;
 use crate::state::UserState;
+use lj_base::Name;
 use lj_quota::{may_load, may_session};
 use lj_ring::Mix;
-use lj_tile::Name;
 
 impl UserState {
     /// Loads a session from a body.

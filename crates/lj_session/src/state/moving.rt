@@ -6,8 +6,8 @@ ghost use Rattle.lj_session.specs.UserState.{Performs, owed_in};
 use crate::refusal::Refusal;
 use crate::reply::Reply;
 use crate::state::UserState;
+use lj_base::Name;
 use lj_step::Displacement;
-use lj_tile::Name;
 
 impl UserState {
     /// Turns the motion of a session back.

@@ -6,8 +6,8 @@ ghost use Rattle.lj_session.specs.UserState.{Performs, owed_in};
 use crate::refusal::Refusal;
 use crate::reply::Reply;
 use crate::state::UserState;
+use lj_base::Name;
 use lj_quota::may_branch;
-use lj_tile::Name;
 
 impl UserState {
     /// Saves the simulation of a session under a new name.

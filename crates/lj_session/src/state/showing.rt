@@ -7,7 +7,7 @@ ghost use Rattle.lj_session.specs.UserState.{Reads, names, owed_in};
 use crate::refusal::Refusal;
 use crate::reply::Reply;
 use crate::state::UserState;
-use lj_tile::Name;
+use lj_base::Name;
 
 impl UserState {
     /// Shows the place of an atom of a session. The index is that of the session.

@@ -12,8 +12,9 @@ ghost use Rattle.lj_session.specs.UserState.{with_tile_in, with_no_step, with_st
 ghost use Rattle.lj_session.specs.UserState as states;
 
 use crate::state::UserState;
+use lj_base::{Label, Name};
 use lj_step::NotAwaited;
-use lj_tile::{DoneRef, Kind, Label, Name, Task};
+use lj_tile::{DoneRef, Kind, Task};
 
 impl UserState {
     /// Opens a step of a kind in a session. No tile of it is posted or in.

@@ -1,6 +1,6 @@
 use Rattle.std.proofs.Common.{◌≡◌, ◌∙◌, List, ℕ, Some, ap, sym, slice_get}
 use Rattle.std.proofs.lemmas.Option.{same_Some}
-use Rattle.lj_tile.specs.declared.names.Label.{Label}
+use Rattle.lj_base.specs.declared.names.Label.{Label}
 use Rattle.lj_tile.specs.Task.{Task}
 use Rattle.lj_session.specs.declared.tile_cursor.TileCursor.{TileCursor}
 use Rattle.lj_session.specs.Cursors.{IsPostedTo}

@@ -1,7 +1,7 @@
 use Rattle.std.proofs.Common.{rules, sym, ◌∙◌}
-use Rattle.lj_tile.specs.Names.{name_of}
-use Rattle.lj_tile.proofs.NameLemmas.{IsOk-from_name}
-use Rattle.lj_tile.proofs.names.Name.parse.Goals as goal
+use Rattle.lj_base.specs.Names.{name_of}
+use Rattle.lj_base.proofs.NameLemmas.{IsOk-from_name}
+use Rattle.lj_base.proofs.names.Name.parse.Goals as goal
 
 pub returns-then-not-is_name : goal.returns-then-not-is_name
 unfolding name_of

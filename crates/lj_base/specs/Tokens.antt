@@ -2,7 +2,7 @@
 use Rattle.std.specs.Prelude.{ℕ, ◌≡◌, Bool, true, ◌==◌, ◌&&◌, List, length, Option, Some, None, if◌then◌else◌}
 use Rattle.std.specs.List.{list_all}
 use Rattle.std.specs.Char.{is_ascii_alphanumeric}
-use Rattle.lj_access.specs.declared.user.TheConstants.{TOKEN_BYTES}
+use Rattle.lj_base.specs.declared.tokens.TheConstants.{TOKEN_BYTES}
 
 -- 32 letters or digits
 abbrev pub is_token : List ℕ → Bool

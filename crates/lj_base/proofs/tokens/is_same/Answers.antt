@@ -1,6 +1,6 @@
 use Rattle.std.proofs.Common.{◌≡◌, ℕ, length, arith, subst, Decides}
-use Rattle.lj_access.proofs.SameLemmas.{SameBefore, bytes_eq-from_indices}
-use Rattle.lj_access.proofs.user.is_same.Goals as goal
+use Rattle.lj_base.proofs.SameLemmas.{SameBefore, bytes_eq-from_indices}
+use Rattle.lj_base.proofs.tokens.is_same.Goals as goal
 
 pub returns : goal.returns
 returns c =

@@ -1,9 +1,9 @@
--- Names of sessions, and of tasks.
+-- Names of users, sessions and saved simulations.
 use Rattle.std.specs.Prelude.{ℕ, ◌≡◌, Bool, true, ◌==◌, ◌&&◌, ◌||◌, nat_le, List, [], ◌∷◌, length, Option, Some, None}
 use Rattle.std.specs.Prelude.{if◌then◌else◌}
 use Rattle.std.specs.List.{list_all}
 use Rattle.std.specs.Char.{is_ascii_alphanumeric}
-use Rattle.lj_tile.specs.declared.names.TheConstants.{MAX_NAME_BYTES}
+use Rattle.lj_base.specs.declared.names.TheConstants.{MAX_NAME_BYTES}
 
 -- a letter, a digit, `_` or `-`
 abbrev pub is_name_byte : ℕ → Bool

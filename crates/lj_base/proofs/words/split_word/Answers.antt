@@ -1,7 +1,7 @@
 use Rattle.std.proofs.Common.{sym, ◌∙◌, eqb-true, arith}
 use Rattle.std.proofs.lemmas.Bool.{eqb-false}
-use Rattle.lj_xyz.proofs.LineLaws.{no_word, word_at}
-use Rattle.lj_xyz.proofs.lines.split_word.Goals as goal
+use Rattle.lj_base.proofs.WordLaws.{no_word, word_at}
+use Rattle.lj_base.proofs.words.split_word.Goals as goal
 
 pub returns-then-is_empty : goal.returns-then-is_empty
 returns-then-is_empty c =
