@@ -5,12 +5,12 @@ use crate::owing::ClosingPool;
 use crate::users::users;
 use arrayvec::{ArrayString, ArrayVec};
 use lj_access::{Denied, Directory, Ticket};
-use lj_base::Name;
+use lj_base::{Name, Token};
 use lj_pool::{Pool, Served};
 use lj_quota::Quota;
 use lj_session::UserState;
 use lj_visit::{Backend, Lent, Shut, UserEnd, Visited, visit};
-use lj_wire::{LineReader, Reading, Sink, TokenWord, WriteFault, Writing};
+use lj_wire::{LineReader, Reading, Sink, WriteFault, Writing};
 use std::alloc::AllocGlobal;
 use std::fmt;
 use std::fmt::Write;
@@ -128,7 +128,7 @@ impl<R: Abort + AllocGlobal> Backend for FakeBackend<'_, R> {
 
     ghost events = { λ fake. Some fake.notes.items };
 
-    fn hello(&mut self, name: &Name, token: &TokenWord) -> Result<Ticket, Denied> {
+    fn hello(&mut self, name: &Name, token: &Token) -> Result<Ticket, Denied> {
         let word = self.bytes(token.as_bytes());
         match self.directory.hello(name.as_bytes(), token.as_bytes()) {
             Ok(ticket) => {

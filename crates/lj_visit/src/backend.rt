@@ -6,10 +6,9 @@ ghost use Rattle.lj_visit.specs.Events.{Event, Happens};
 ghost use Rattle.lj_visit.specs.Events.Event.{granted, denied, entered, shut_out, opened, withdrawn, left, closed};
 
 use lj_access::{Denied, Ticket};
-use lj_base::Name;
+use lj_base::{Name, Token};
 use lj_pool::Pool;
 use lj_session::UserState;
-use lj_wire::TokenWord;
 
 /// A user's state while a ticket has it.
 #[derive(Drop)]
@@ -46,7 +45,7 @@ pub trait Backend {
     ///
     /// # Errors
     /// No user has both, or all tickets of this user are granted.
-    fn hello(&mut self, name: &Name, token: &TokenWord) -> Result<Ticket, Denied>
+    fn hello(&mut self, name: &Name, token: &Token) -> Result<Ticket, Denied>
         ensures granted { IfOk result (λ ticket. Happens (events self.old) (events self.new)
             (granted name.now token.now ticket ∷ [])) }
         ensures denied { OnErr result (Happens (events self.old) (events self.new)

@@ -5,7 +5,7 @@ use Rattle.std.specs.Io.KnownBytes.{Consumes, IsAtEnd}
 use Rattle.std.specs.Option.{unwrap_or}
 use Rattle.std.specs.Str.{bytes_eq}
 use Rattle.lj_base.specs.Names.{name_of}
-use Rattle.lj_wire.specs.declared.hello.TheConstants.{TOKEN_WORD_BYTES}
+use Rattle.lj_base.specs.Tokens.{token_of}
 use Rattle.lj_wire.specs.declared.hello.Hello.{Hello}
 use Rattle.lj_wire.specs.declared.hello.Hello.TheVariants.{Asked, Other}
 use Rattle.lj_wire.specs.declared.limits.TheConstants.{LONG_LINE_BYTES}
@@ -16,15 +16,11 @@ use Rattle.lj_wire.specs.Ends.{Rises}
 use Rattle.lj_wire.specs.LineReader.{LineReader}
 use Rattle.lj_wire.specs.Streams.{LacksLineFeed, IsLine}
 
--- a word of 32 bytes
-abbrev pub token_word : List ℕ → Option (List ℕ)
-token_word word = if length word == TOKEN_WORD_BYTES then Some word else None
-
 -- the words after HELLO: a name and a token
 abbrev pub hello_asked : Words → Option Hello
 hello_asked (name ∷ token ∷ []) = do
   name ← name_of name
-  token ← token_word token
+  token ← token_of token
   Some (Asked name token)
 hello_asked words = None
 

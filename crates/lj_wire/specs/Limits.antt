@@ -1,7 +1,6 @@
--- The sizes of lines, bodies and tokens, and how many items a connection may bring.
+-- The sizes of lines and bodies, and how many items a connection may bring.
 use Rattle.std.specs.Prelude.{◌≡◌, ◌^◌, refl}
 use Rattle.lj_wire.specs.declared.command_line.TheConstants.{MAX_COUNT_DIGITS}
-use Rattle.lj_wire.specs.declared.hello.TheConstants.{TOKEN_WORD_BYTES}
 use Rattle.lj_wire.specs.declared.limits.TheConstants.{MAX_LINE_BYTES, LONG_LINE_BYTES, MAX_BODY_BYTES, MAX_ITEMS}
 
 -- the line of a command has at most 256 bytes before its LF
@@ -23,7 +22,3 @@ most_body_bytes = refl
 -- at most a million items of a connection are answered before it ends
 most_items : MAX_ITEMS ≡ 10 ^ 6
 most_items = refl
-
--- the word of a token has 32 bytes
-token_word_bytes : TOKEN_WORD_BYTES ≡ 32
-token_word_bytes = refl

@@ -22,7 +22,7 @@ pub use ends::{
     CountedReading, CountedWriting, ReadFault, Reading, Sink, Source, WriteFault, Writing,
 };
 pub use held_writing::HeldWriting;
-pub use hello::{Hello, TOKEN_WORD_BYTES, TokenWord};
+pub use hello::Hello;
 pub use item::{Fault, Item};
 pub use laws::{
     alike_is_told, body_is_bounded, body_missing_is_marked, commands_are_items, lines_are_the_text,

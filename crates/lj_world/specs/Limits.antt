@@ -1,7 +1,5 @@
 -- The numbers of connections and workers, and how many tasks a connection may have posted.
 use Rattle.std.specs.Prelude.{◌≡◌, refl}
-use Rattle.lj_base.specs.declared.tokens.TheConstants.{TOKEN_BYTES}
-use Rattle.lj_wire.specs.declared.hello.TheConstants.{TOKEN_WORD_BYTES}
 use Rattle.lj_world.specs.declared.limits.TheConstants.{MAX_CONNECTIONS, MAX_POSTED, MAX_WORKERS}
 
 -- connections are numbered up to 64
@@ -15,7 +13,3 @@ most_workers = refl
 -- a connection has at most 64 tasks that are posted and not fetched
 most_posted : MAX_POSTED ≡ 64
 most_posted = refl
-
--- the token of a HELLO is as long as that of a user
-token_of_hello : TOKEN_WORD_BYTES ≡ TOKEN_BYTES
-token_of_hello = refl

@@ -6,12 +6,12 @@ ghost use Rattle.lj_visit.specs.Events.Event.{withdrawn};
 use crate::serve::visitor::Visitor;
 use crate::serve::worker_pool::WorkerPool;
 use lj_access::{Denied, Ticket};
-use lj_base::Name;
+use lj_base::{Name, Token};
 use lj_book::Counts;
 use lj_pool::{LockEnd, LockPool, Share, gather, work};
 use lj_table::Table;
 use lj_visit::{Backend, Lent, Shut, UserEnd, Visited, visit};
-use lj_wire::{LineReader, Sink, Source, TokenWord};
+use lj_wire::{LineReader, Sink, Source};
 use lj_world::OutOfMemory;
 use log::{Log, info};
 use std::alloc::{AllocError, Global};
@@ -82,7 +82,7 @@ impl<'s, L: Ledger, R: Wait + Clock + Log> Backend for LockBackend<'_, 's, L, R>
 
     ghost events = { λ _. None };
 
-    fn hello(&mut self, name: &Name, token: &TokenWord) -> Result<Ticket, Denied> {
+    fn hello(&mut self, name: &Name, token: &Token) -> Result<Ticket, Denied> {
         self.visitor.hello(name, token)
     }
 

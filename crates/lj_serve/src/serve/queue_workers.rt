@@ -7,7 +7,7 @@ ghost use Rattle.lj_visit.specs.Events.Event.{withdrawn};
 use crate::serve::visitor::Visitor;
 use crate::serve::worker_pool::WorkerPool;
 use lj_access::{Denied, Ticket};
-use lj_base::Name;
+use lj_base::{Name, Token};
 use lj_pool::Share;
 use lj_queue::{
     CONNECTIONS, PoolIdentity, PoolPass, QueueBlank, QueueEnd, QueuePool, Settled, gather,
@@ -15,7 +15,7 @@ use lj_queue::{
 };
 use lj_table::Table;
 use lj_visit::{Backend, Lent, Shut, UserEnd, Visited, visit};
-use lj_wire::{LineReader, Sink, Source, TokenWord};
+use lj_wire::{LineReader, Sink, Source};
 use lj_world::OutOfMemory;
 use log::{Log, info};
 use std::alloc::{AllocError, Global};
@@ -140,7 +140,7 @@ impl<'s, L: PoolIdentity, R: Wait + Clock + Log> Backend for QueueBackend<'_, 's
 
     ghost events = { λ _. None };
 
-    fn hello(&mut self, name: &Name, token: &TokenWord) -> Result<Ticket, Denied> {
+    fn hello(&mut self, name: &Name, token: &Token) -> Result<Ticket, Denied> {
         self.visitor.hello(name, token)
     }
 

@@ -5,9 +5,8 @@ ghost use Rattle.lj_session.specs.UserState.{Reached};
 use crate::serve::first_line::Deadline;
 use crate::serve::shared_directory::{Entry, SharedDirectory};
 use lj_access::{Denied, Ticket};
-use lj_base::Name;
+use lj_base::{Name, Token};
 use lj_visit::{Lent, Shut, Visited};
-use lj_wire::TokenWord;
 use log::{Log, info};
 use std::io::ErrorKind;
 use std::net::TcpStream;
@@ -52,7 +51,7 @@ impl<'s, R: Wait + Clock + Log> Visitor<'s, R> {
     }
 
     /// Asks for a ticket of the user with this name and this token. The first line is there then.
-    pub fn hello(&mut self, name: &Name, token: &TokenWord) -> Result<Ticket, Denied> {
+    pub fn hello(&mut self, name: &Name, token: &Token) -> Result<Ticket, Denied> {
         self.deadline.lift(self.stream);
         let asked = self
             .directory
