@@ -1,10 +1,12 @@
-//! Names, labels and tokens, and the words of a line.
+//! Names, labels and tokens, the words of a line, and the error where memory is refused.
 #![tactic(auto)]
 
 mod names;
+mod out_of_memory;
 mod tokens;
 mod words;
 
 pub use names::{Label, MAX_NAME_BYTES, Name};
+pub use out_of_memory::OutOfMemory;
 pub use tokens::{TOKEN_BYTES, Token};
 pub use words::{Words, split_word, without_return};

@@ -5,8 +5,8 @@ ghost use Rattle.lj_serve.specs.declared.program_fault.Fault.TheVariants.{Memory
 ghost use Rattle.lj_serve.specs.declared.program_fault.ReplayFault.TheVariants.{Memory as NoMemory, Write as WriteFailed};
 
 use crate::input::{TextFault, UsersFault};
+use lj_base::OutOfMemory;
 use lj_wire::WriteFault;
-use lj_world::OutOfMemory;
 use std::alloc::AllocError;
 use thiserror::Error;
 

@@ -3,9 +3,10 @@
 
 use crate::users::{USERS, name, token, users};
 use arrayvec::ArrayString;
+use lj_base::OutOfMemory;
 use lj_session::{Body, LoadBody};
 use lj_wire::{Item, read_line};
-use lj_world::{ConnectionEvent, Entry, Event, OutOfMemory, WorkerEvent, World};
+use lj_world::{ConnectionEvent, Entry, Event, WorkerEvent, World};
 use std::alloc::{AllocError, AllocGlobal};
 use std::fmt::Write;
 use std::process::Abort;

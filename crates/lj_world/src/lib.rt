@@ -22,4 +22,4 @@ pub use laws::{
 };
 pub use limits::{MAX_CONNECTIONS, MAX_POSTED, MAX_WORKERS};
 pub use transcript::{Entry, ReplyText, Transcript};
-pub use world::{OutOfMemory, World};
+pub use world::World;

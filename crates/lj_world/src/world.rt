@@ -13,26 +13,9 @@ use crate::laws::headline;
 use crate::machine::Machine;
 use crate::transcript::{Entry, Transcript};
 use lj_access::{MAX_USERS, User};
-use std::alloc::{AllocError, AllocFailed, Global};
+use lj_base::OutOfMemory;
+use std::alloc::Global;
 use std::marker::Model;
-use thiserror::Error;
-
-/// There was no memory for a world, a step or a run.
-#[derive(Clone, Copy, PartialEq, Eq, Debug, Error)]
-#[error("out of memory")]
-pub struct OutOfMemory;
-
-impl From<AllocError> for OutOfMemory {
-    fn from(_error: AllocError) -> OutOfMemory {
-        OutOfMemory
-    }
-}
-
-impl<T: Drop> From<AllocFailed<T>> for OutOfMemory {
-    fn from(_failed: AllocFailed<T>) -> OutOfMemory {
-        OutOfMemory
-    }
-}
 
 /// Users, connections, workers and the book of tasks: one state machine, which takes one event after the other. A world
 /// that has run out of memory is lost: it takes no further step.

@@ -7,7 +7,7 @@ ghost use Rattle.lj_visit.specs.Events.Event.{withdrawn};
 use crate::serve::visitor::Visitor;
 use crate::serve::worker_pool::WorkerPool;
 use lj_access::{Denied, Ticket};
-use lj_base::{Name, Token};
+use lj_base::{Name, OutOfMemory, Token};
 use lj_pool::Share;
 use lj_queue::{
     CONNECTIONS, PoolIdentity, PoolPass, QueueBlank, QueueEnd, QueuePool, Settled, gather,
@@ -16,7 +16,6 @@ use lj_queue::{
 use lj_table::Table;
 use lj_visit::{Backend, Lent, Shut, UserEnd, Visited, visit};
 use lj_wire::{LineReader, Sink, Source};
-use lj_world::OutOfMemory;
 use log::{Log, info};
 use std::alloc::{AllocError, Global};
 use std::rt::Clock;
