@@ -10,7 +10,7 @@ use Rattle.lj_fixed.specs.declared.decimal_words.TheConstants.{MAX_EXPONENT_DIGI
 use Rattle.lj_fixed.specs.declared.numbers.NumberFault.{NumberFault}
 use Rattle.lj_fixed.specs.declared.numbers.NumberFault.TheVariants.{BadNumber, OutOfRange}
 
--- what a word says: a sign, all digits as one number, how many of them stand after the point, and the exponent of ten
+-- the parts of a word: its sign, all digits as one number, how many of them stand after the point, and the exponent of ten
 pub record Decimal : Type 0 where
   pub negative : Bool
   pub digits : ℕ
@@ -34,7 +34,7 @@ is_short_number digits =
 abbrev pub is_exponent : List ℕ → Bool
 is_exponent text = is_short_number (without_leading_sign text)
 
--- the exponent after the first letter, which is 0 where there is no letter
+-- the exponent after the first letter, and 0 if there is no letter
 abbrev pub exponent_of : List ℕ → Option ℤ
 exponent_of text =
     let power = after_first is_exponent_letter text in
@@ -69,18 +69,18 @@ abbrev pub places_down : ℤ → ℕ
 places_down (pos n) = 0
 places_down (negsuc n) = n + 1
 
--- the size of a decimal's value is the fraction of these two
+-- the size of a decimal's value is numerator / denominator
 abbrev pub numerator : Decimal → ℕ
 numerator d = d.digits * 10 ^ places_up d.exponent
 
 abbrev pub denominator : Decimal → ℕ
 denominator d = 10 ^ (d.behind + places_down d.exponent)
 
--- the whole number nearest to n / d, and of two the larger: halves go away from zero
+-- n / d rounded to the nearest whole number, halves up: away from zero
 abbrev pub rounded_quotient : ℕ → ℕ → ℕ
 rounded_quotient n d = (2 * n + d) / (2 * d)
 
--- the size of a decimal's value in billionths
+-- the size of a decimal's value in billionths, rounded
 abbrev pub nano_size : Decimal → ℕ
 nano_size d = rounded_quotient (numerator d * 10 ^ NANO_PLACES) (denominator d)
 
@@ -88,12 +88,12 @@ nano_size d = rounded_quotient (numerator d * 10 ^ NANO_PLACES) (denominator d)
 abbrev pub signed_number : Bool → ℕ → ℤ
 signed_number negative n = if negative then neg_ℤ (pos n) else pos n
 
--- the nano of a decimal, if there is one
+-- the nano of a parsed word, or its fault
 abbrev pub nano_or_fault : Option Decimal → Result ℤ NumberFault
 nano_or_fault None = Err BadNumber
 nano_or_fault (Some d) =
     if nat_le (nano_size d) MAX_NANO then Ok (signed_number d.negative (nano_size d)) else Err OutOfRange
 
--- the nano that a word writes: `BadNumber` outside the grammar, and `OutOfRange` beyond the limit
+-- the nano of a word: `BadNumber` outside the grammar, and `OutOfRange` beyond the limit
 unfoldable pub nano_of : List ℕ → Result ℤ NumberFault
 nano_of word = nano_or_fault (decimal_of word)

@@ -1,4 +1,4 @@
--- Decimal words, whole numbers and printed millionths: how long they are, and how large what they say.
+-- Limits of decimal words, whole numbers and printed millionths.
 use Rattle.std.specs.Prelude.{◌≡◌, ◌^◌, refl}
 use Rattle.lj_fixed.specs.declared.numbers.TheConstants.{MAX_NANO}
 use Rattle.lj_fixed.specs.declared.printing.TheConstants.{MAX_MICRO_BYTES}
@@ -17,7 +17,7 @@ most_exponent_digits = refl
 nano_places : NANO_PLACES ≡ 9
 nano_places = refl
 
--- a decimal word is at most a million in size, in nano
+-- the size of a nano is at most a million file units
 greatest_nano : MAX_NANO ≡ 10 ^ 15
 greatest_nano = refl
 

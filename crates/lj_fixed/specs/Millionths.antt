@@ -7,6 +7,6 @@ abbrev pub last_digits : ℕ → ℕ → List ℕ
 last_digits zero n = []
 last_digits (suc k) n = last_digits k (n / 10) ++ (48 + n % 10) ∷ []
 
--- so many millionths: the whole part, a point and six decimals
+-- n millionths: the whole part, a point and six decimals
 unfoldable pub millionths : ℕ → List ℕ
 millionths n = decimal (n / 10 ^ 6) ++ 46 ∷ last_digits 6 (n % 10 ^ 6)

@@ -21,7 +21,7 @@ const MAX_EXPONENT_DIGITS: usize = 3;
 /// The decimal places of a billionth.
 const NANO_PLACES: u32 = 9;
 
-// The digits of a mantissa, how many they are and how many of them stand after the point; and what comes next.
+// The digits of a mantissa, their number, the number of those after the point, and the text that follows.
 #[derive(Drop)]
 struct Mantissa<'a> {
     significand: Significand,
@@ -30,7 +30,7 @@ struct Mantissa<'a> {
     tail: &'a [u8],
 }
 
-// A decimal word as it was read.
+// A parsed decimal word.
 #[derive(Clone, Copy)]
 struct Numeral {
     negative: bool,
@@ -43,7 +43,7 @@ struct Numeral {
     ghost highest: { exponent ≤ℤ pos 999 },
 }
 
-// Whether a minus stands first, and what stands after a sign.
+// Splits off a leading sign: returns true for a minus, and the text after the sign.
 fn split_sign(text: &[u8]) -> (bool, &[u8])
     ensures negative { result.0 ≡ starts_with_minus text.now }
     ensures rest { result.1.now ≡ without_leading_sign text.now }
@@ -55,8 +55,8 @@ fn split_sign(text: &[u8]) -> (bool, &[u8])
     }
 }
 
-// If a point comes next, the digits after it: the whole part with them at its end, how many they are, and what
-// comes next.
+// Reads the digits after a point, if `rest` begins with one: returns `whole` with them appended, their number, and the
+// text after them.
 fn read_fraction(whole: Significand, rest: &[u8]) -> (Significand, usize, &[u8])
     requires { whole.dropped + length rest.now < 2 ^ 31 }
     ensures number { (n : ℕ) → Leads whole.number whole.dropped n
@@ -75,7 +75,7 @@ fn read_fraction(whole: Significand, rest: &[u8]) -> (Significand, usize, &[u8])
     }
 }
 
-// The digits at the front of a text, with a point before, among or after them or without one.
+// Reads the digits at the front of a text, with at most one point before, among or after them.
 fn read_mantissa(text: &[u8]) -> Mantissa<'_>
     requires { length text.now ≤ MAX_WORD_BYTES }
     ensures number { Leads result.significand.number result.significand.dropped
@@ -96,7 +96,7 @@ fn read_mantissa(text: &[u8]) -> Mantissa<'_>
     }
 }
 
-// One to three digits.
+// Reads a number of one to three digits; `None` for any other text.
 fn read_short_number(digits: &[u8]) -> Option<u16>
     ensures value { result ≡ (if is_short_number digits.now
         then Some (digits_value 10 digits.now) else None) }
@@ -112,7 +112,7 @@ fn read_short_number(digits: &[u8]) -> Option<u16>
     Some(significand.number as u16)
 }
 
-// The exponent that stands after the letter: an optional sign and one to three digits.
+// Reads an exponent without its letter: an optional sign and one to three digits.
 fn read_power(text: &[u8]) -> Option<i32>
     ensures value { result ≡ (if is_exponent text.now
         then Some (signed_digits_value 10 text.now) else None) }
@@ -130,7 +130,7 @@ fn is_exponent_letter(byte: u8) -> bool
     matches!(byte, b'e' | b'E' | b'd' | b'D')
 }
 
-// The exponent of a word whose mantissa stands before `tail`.
+// Reads the exponent in the text after the mantissa: 0 if that is empty, and `None` if it is not an exponent.
 fn read_exponent(tail: &[u8]) -> Option<i32>
     ensures value { result ≡ (if is_exponent_start tail.now
         then exponent_of tail.now else None) }
@@ -167,7 +167,7 @@ impl Numeral {
         })
     }
 
-    // Its size in billionths, rounded, if that is at most the limit.
+    // Returns the size in billionths, rounded, if that is at most `MAX_NANO`.
     fn nano_size(&self) -> Option<u64>
         ensures { (d : Decimal) → StandsFor self.now d → result ≡ number_within_limit (nano_size d) }
     {
@@ -182,8 +182,12 @@ impl Numeral {
 
 /// Reads a decimal word, and rounds it to billionths, halves away from zero.
 ///
-/// A word that is not of the grammar is a `BadNumber`, and one whose rounded number is above a million file
-/// units in size is `OutOfRange`.
+/// # Errors
+/// `BadNumber` if the word is outside the grammar, `OutOfRange` if its rounded size is above a million file units.
+///
+/// ```rust
+/// assert_eq!(parse_nano(b"15D-1")?.get(), 1_500_000_000);
+/// ```
 ///
 /// Promise: the result is the nano of the word, its value times 10^9 with halves rounded away from zero, or the fault
 /// of the word.

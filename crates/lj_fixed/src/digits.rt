@@ -1,4 +1,4 @@
-//! The digits of a number, as far as they matter to a nano.
+//! The leading digits of a number, as many as a nano depends on.
 ghost use Rattle.std.specs.Prelude.{◌≡◌, ℕ, ◌+◌, ◌*◌, ◌^◌, ◌<◌, ◌≤◌, MatchOption, length, take};
 ghost use Rattle.std.specs.Char.{is_ascii_digit};
 ghost use Rattle.std.specs.List.{prefix_len};
@@ -8,7 +8,7 @@ ghost use Rattle.lj_fixed.specs.Reading.{Leads, number_within_limit};
 
 use crate::numbers::MAX_NANO;
 
-// A number from here on has eighteen digits, and takes no more.
+// The least number of eighteen digits: a significand of this size takes no more.
 const FULL: u64 = 100_000_000_000_000_000;
 
 const POWERS_OF_TEN: [u64; 20] = [
@@ -34,14 +34,14 @@ const POWERS_OF_TEN: [u64; 20] = [
     10_000_000_000_000_000_000,
 ];
 
-// Ten to a power, if it fits.
+// Returns ten to a power, if it fits a `u64`.
 fn power_of_ten(power: u32) -> Option<u64>
     ensures { MatchOption result (20 ≤ power) (λ value. value ≡ 10 ^ power) }
 {
     POWERS_OF_TEN.get(power as usize).copied()
 }
 
-// `number` times ten to a power, or nothing if that is above `MAX_NANO`.
+// Returns `number` times ten to a power; `None` only if that is above `MAX_NANO`.
 fn raised(number: u64, power: u32) -> Option<u64>
     ensures { MatchOption result (MAX_NANO < number * 10 ^ power)
         (λ value. value ≡ number * 10 ^ power) }
@@ -52,7 +52,7 @@ fn raised(number: u64, power: u32) -> Option<u64>
     number.checked_mul(power_of_ten(power)?)
 }
 
-// `number` divided by ten to a power above 0, rounded. Whether the rest is a half or more, its first digit tells.
+// Divides `number` by ten to a power above 0 and rounds halves up, by the first digit of the remainder.
 fn lowered(number: u64, power: u32) -> u64
     requires power { 0 < power }
     requires number { number < 10 ^ 18 }
@@ -64,8 +64,8 @@ fn lowered(number: u64, power: u32) -> u64
     }
 }
 
-// The digits of a number, of which those after the first eighteen are dropped and only counted: where one of
-// them matters, the number is out of range.
+// The first eighteen digits of a number, and how many were dropped after them. If a dropped digit matters, the number
+// is out of range.
 #[derive(Clone, Copy)]
 pub struct Significand {
     pub number: u64,
@@ -84,7 +84,7 @@ impl Significand {
         }
     }
 
-    // The number with one more digit after it.
+    // Appends one digit.
     fn push(self, digit: u8) -> Significand
         requires digit { digit < 10 }
         requires dropped { self.dropped < 2 ^ 31 }
@@ -105,7 +105,7 @@ impl Significand {
         }
     }
 
-    // The number with the digits at the front of `text` after it, and how many these are.
+    // Appends the digits at the front of `text`, and returns how many there are.
     pub fn read_on(self, text: &[u8]) -> (Significand, usize)
         requires { self.dropped + length text.now < 2 ^ 31 }
         ensures count { result.1 ≡ prefix_len is_ascii_digit text.now }
@@ -123,7 +123,7 @@ impl Significand {
         (significand, text.len())
     }
 
-    // The number times ten to the power `up` over ten to the power `down`, rounded, if it is at most `MAX_NANO`.
+    // Returns the number times 10^up over 10^down, rounded, if that is at most `MAX_NANO`.
     pub fn scaled(self, up: u32, down: u32) -> Option<u64>
         requires { self.dropped + up < 2 ^ 32 }
         ensures { (n : ℕ) → Leads self.number self.dropped n

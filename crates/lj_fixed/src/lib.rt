@@ -1,4 +1,4 @@
-//! Decimal words as whole billionths of a file unit, millionths as text, and whole numbers as words.
+//! Parsing of decimal words into billionths of a file unit and of whole numbers, and printing of millionths.
 #![tactic(auto)]
 
 mod decimal_words;

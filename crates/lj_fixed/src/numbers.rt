@@ -9,12 +9,12 @@ use thiserror::Error;
 /// The largest size of a [`Nano`]: a million file units.
 pub const MAX_NANO: u64 = 1_000_000_000_000_000;
 
-/// Why a decimal word is no [`Nano`].
+/// The reason why a decimal word is no [`Nano`].
 #[derive(Clone, Copy, Debug, PartialEq, Eq, Error)]
 pub enum NumberFault {
-    /// It is outside the grammar of decimal words.
+    /// Outside the grammar of decimal words.
     BadNumber,
-    /// It is beyond a million file units.
+    /// Beyond a million file units.
     OutOfRange,
 }
 
@@ -50,7 +50,7 @@ impl Model for Nano {
 }
 
 impl Nano {
-    /// The number of that many billionths, if its size is at most [`MAX_NANO`].
+    /// Makes a number of billionths, if its size is at most [`MAX_NANO`].
     pub fn new(billionths: i64) -> Option<Nano>
         ensures within { IsSome result ↔ (unsigned_abs billionths ≤ MAX_NANO) }
         ensures value { IfSome result (λ nano. nano ≡ billionths) }
@@ -62,7 +62,7 @@ impl Nano {
         }
     }
 
-    /// How many billionths it is.
+    /// Returns the number of billionths.
     pub fn get(self) -> i64
         ensures value { result ≡ self }
         ensures within { unsigned_abs result ≤ MAX_NANO }
@@ -70,7 +70,7 @@ impl Nano {
         self.0
     }
 
-    // The number of a sign and a size.
+    // Makes a number from a sign and a size.
     pub(crate) fn with_sign(negative: bool, size: u64) -> Nano
         requires { size ≤ MAX_NANO }
         ensures { result ≡ signed_number negative size }

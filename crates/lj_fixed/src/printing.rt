@@ -22,9 +22,13 @@ fn push_six_digits(text: &mut ArrayString<MAX_MICRO_BYTES>, number: u64)
     }
 }
 
-/// So many millionths as a decimal: the whole part, a point and six decimals.
+/// Prints a number of millionths as a decimal: the whole part, a point and six decimals.
 ///
-/// Promise: the text is the whole part, a point and six decimals of so many millionths.
+/// ```rust
+/// assert_eq!(micro_text(1_499_894).as_str(), "1.499894");
+/// ```
+///
+/// Promise: the text is the number of millionths as a whole part, a point and six decimals.
 #[tactic(auto, unfolding(crate::specs::Millionths::millionths))]
 pub fn micro_text(micros: u64) -> ArrayString<MAX_MICRO_BYTES>
     ensures { result.bytes ≡ millionths micros }

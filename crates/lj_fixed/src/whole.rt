@@ -1,4 +1,4 @@
-//! Whole numbers as words.
+//! Parsing of whole numbers.
 ghost use Rattle.std.specs.Prelude.{◌≡◌, IsTrue};
 ghost use Rattle.std.specs.List.{list_all};
 ghost use Rattle.std.specs.Char.{is_ascii_digit};
@@ -8,7 +8,7 @@ ghost use Rattle.lj_fixed.specs.Numbers.{is_number, number_of};
 /// The most digits of a whole number. Any 19 digits fit a `u64`.
 const MAX_DIGITS: usize = 19;
 
-/// The value of a word of 1 to 19 digits, and `None` for any other word.
+/// Parses a word of 1 to 19 digits; `None` for any other word.
 ///
 /// Promise: the result is the value of a word of 1 to 19 digits, and nothing for any other word.
 #[tactic(auto, unfolding(crate::specs::Numbers::number_of))]
@@ -30,7 +30,7 @@ fn all_digits(word: &[u8]) -> bool
     word.iter().all(u8::is_ascii_digit)
 }
 
-// The value of digits in base ten.
+// Returns the value of digits in base ten.
 fn digits_value(digits: &[u8]) -> u64
     requires { IsTrue (is_number digits.now) }
     ensures { result ≡ digits_value 10 digits.now }
