@@ -1,4 +1,4 @@
--- Arcs of the ring that the atoms of a block lie on, axis by axis, and the gaps between the arcs of two blocks.
+-- The arcs of the ring that hold the atoms of a block, axis by axis, and the gaps between the arcs of two blocks.
 use Rattle.std.specs.Prelude.{ℕ, zero, suc, ◌+◌, ◌-◌, ◌*◌, ◌≤◌, ◌<◌, ℤ, pos, ◌+ℤ◌, ◌-ℤ◌, nat_le, min, ◌||◌}
 use Rattle.std.specs.Prelude.{unsigned_abs, List, length, if◌then◌else◌}
 use Rattle.std.specs.Int.{int_min, int_max}
@@ -7,12 +7,12 @@ use Rattle.lj_ring.specs.declared.arcs.Arc.{Arc}
 use Rattle.lj_ring.specs.declared.arcs.Arcs.{Arcs}
 use Rattle.lj_ring.specs.Ring.{image, ring_residue, ring_difference, place_at}
 
--- the least of 0 and the first n of some numbers
+-- the least of 0 and f 0, .. f (n - 1)
 abbrev pub least_below : ℕ → (ℕ → ℤ) → ℤ
 least_below zero f = pos 0
 least_below (suc n) f = int_min (least_below n f) (f n)
 
--- the greatest of 0 and the first n of some numbers
+-- the greatest of 0 and f 0, .. f (n - 1)
 abbrev pub greatest_below : ℕ → (ℕ → ℤ) → ℤ
 greatest_below zero f = pos 0
 greatest_below (suc n) f = int_max (greatest_below n f) (f n)
@@ -21,8 +21,7 @@ greatest_below (suc n) f = int_max (greatest_below n f) (f n)
 abbrev pub offset : (Place → ℕ) → List Place → ℕ → ℤ
 offset axis places i = image (axis (place_at places i)) (axis (place_at places 0))
 
--- the arc of some atoms along one axis, from the least image of their coordinates from the first one's to the greatest;
--- the first one's own is 0
+-- the arc of some atoms along one axis: from the least to the greatest image of a coordinate from the first atom's
 abbrev pub arc_along : (Place → ℕ) → List Place → Arc
 arc_along axis places =
     let lo = least_below (length places) (offset axis places) in
@@ -37,7 +36,7 @@ arcs_of places = record {
   z = arc_along (λ p. p.z) places;
 }
 
--- a coordinate lies on an arc: it is reached by going on from the start, at most to the end
+-- a coordinate lies on an arc: it is at most `len` units after the start
 abbrev pub IsOnArc : Arc → ℕ → Type 0
 IsOnArc arc c = ring_difference c arc.start ≤ arc.len
 

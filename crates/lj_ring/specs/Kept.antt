@@ -1,4 +1,4 @@
--- What a scale keeps beside its three numbers.
+-- The numbers that a scale stores beside its three, derived from sigma.
 use Rattle.std.specs.Prelude.{ℕ, ◌+◌, ◌-◌, ◌*◌, ◌/◌, ◌^◌, ◌<◌, ◌≤◌, ◌≡◌, min}
 use Rattle.std.specs.Int.{div_ceil, leading_zeros, w64}
 use Rattle.lj_ring.specs.Scale.{Scale}
@@ -17,7 +17,7 @@ inverse_of square = div_ceil (2 ^ 95) square
 abbrev pub cut_of : ℕ → ℕ
 cut_of sigma = CUTOFF_HALVES * sigma / 2 + 1
 
--- by how many bits three squares of that length are longer than 32
+-- how many bits 3 * cut² has beyond 32
 abbrev pub shift_of : ℕ → ℕ
 shift_of sigma = 32 - leading_zeros w64 (3 * (cut_of sigma * cut_of sigma))
 
@@ -33,11 +33,11 @@ cut_square cut x = min x cut * min x cut
 abbrev pub cut_sum : ℕ → ℕ → ℕ → ℕ → ℕ
 cut_sum cut x y z = cut_square cut x + cut_square cut y + cut_square cut z
 
--- the scale that is kept
+-- the scale of its stored form
 abbrev pub scale_of_kept : Inside → Scale
 scale_of_kept a = record { edge = a.edge; sigma = a.sigma; strength = a.strength }
 
--- the kept numbers are those of sigma
+-- the stored numbers are derived from sigma, which is in range
 pub record IsKept (a : Inside) : Type 0 where
   pub sigma_least : MIN_SIGMA ≤ a.sigma
   pub sigma_most : CUTOFF_HALVES * a.sigma < 2 ^ 32
@@ -49,7 +49,7 @@ pub record IsKept (a : Inside) : Type 0 where
   pub shift_is : a.shift ≡ shift_of a.sigma
   pub reciprocal_is : a.reciprocal ≡ reciprocal_of a.sigma
 
--- what is kept of a scale
+-- the stored form of a scale
 abbrev pub kept_of : Scale → Inside
 kept_of u = record {
   edge = u.edge;

@@ -1,4 +1,4 @@
--- Scales, bins of squared distance and weights of energies: where they begin and end.
+-- Limits of scales, bins of squared distance and weights of energies.
 use Rattle.std.specs.Prelude.{◌≡◌, ◌^◌, refl}
 use Rattle.lj_ring.specs.declared.mixes.TheConstants.{MAX_WEIGHT, WHOLE_WEIGHT}
 use Rattle.lj_ring.specs.declared.scales.TheConstants.{MIN_EDGE, MAX_EDGE, MIN_SIGMA, MAX_STEP_FACTOR}
@@ -40,6 +40,6 @@ least_bin = refl
 greatest_weight : MAX_WEIGHT ≡ 65536
 greatest_weight = refl
 
--- that of 256 parts leaves energies as they are
+-- a weight of 256 parts leaves energies as they are
 whole_weight : WHOLE_WEIGHT ≡ 256
 whole_weight = refl

@@ -33,7 +33,7 @@ whole_class units = record { scale = units; weight = WHOLE_WEIGHT }
 abbrev pub pure_mix : Scale → Mix
 pure_mix units = mixed (whole_class units) (whole_class units) (whole_class units)
 
--- atoms of some species may interact at this squared distance
+-- two atoms of some species interact at this squared distance
 abbrev pub can_interact : Mix → ℕ → Bool
 can_interact mix s =
     is_in_cutoff (class_of mix First First).scale s
@@ -48,28 +48,28 @@ IsMixture mix = (a b : Species) → IsScale (class_of mix a b).scale
 abbrev pub is_weight : ℕ → Bool
 is_weight weight = nat_le 1 weight && nat_le weight MAX_WEIGHT
 
--- a class of a scale and a weight, or the fault of the scale before that of the weight
+-- the class of a scale and a weight, or the fault of the scale before that of the weight
 abbrev pub class_from : Result Scale ScaleFault → ℕ → Result Class ClassFault
 class_from (Err fault) weight = Err (OfScale fault)
 class_from (Ok units) weight = if is_weight weight then Ok (record { scale = units; weight = weight }) else Err Weight
 
--- the class of an edge, and of a sigma, a step factor and a weight
+-- the class of an edge, a sigma, a step factor and a weight
 abbrev pub class_of_numbers : ℤ → ℤ × ℕ × ℕ → Result Class ClassFault
 class_of_numbers edge numbers = class_from (scale_of edge numbers.0 numbers.1) numbers.2
 
--- the class of that number, or its fault under that number
+-- a class, or its fault with the number of the class
 abbrev pub class_at : ℕ → Result Class ClassFault → Result Class MixFault
 class_at number (Ok class) = Ok class
 class_at number (Err fault) = Err (record { class = number; fault = fault })
 
--- the mixture of three classes, or the first fault of them
+-- the mixture of three classes, or their first fault
 abbrev pub mixture_from : Result Class MixFault → Result Class MixFault → Result Class MixFault → Result Mix MixFault
 mixture_from (Err fault) unlike second = Err fault
 mixture_from (Ok first) (Err fault) second = Err fault
 mixture_from (Ok first) (Ok unlike) (Err fault) = Err fault
 mixture_from (Ok first) (Ok unlike) (Ok second) = Ok (mixed first unlike second)
 
--- the mixture of an edge, and of sigma, step factor and weight of each class, or its first fault, class by class
+-- the mixture of an edge and each class's sigma, step factor and weight, or its first fault, class by class
 abbrev pub mixture_of : ℤ → (first unlike second : ℤ × ℕ × ℕ) → Result Mix MixFault
 mixture_of edge first unlike second =
     mixture_from (class_at 1 (class_of_numbers edge first)) (class_at 2 (class_of_numbers edge unlike))

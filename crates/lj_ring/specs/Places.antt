@@ -1,4 +1,4 @@
--- Places in the ring of positions in file units, of which a Nano counts the billionths.
+-- Positions in nano, the billionths of a file unit, and their coordinates on the ring.
 use Rattle.std.specs.Prelude.{ℕ, ◌*◌, ◌/◌, ◌^◌, ℤ, pos, negsuc, ◌*ℤ◌}
 use Rattle.lj_ring.specs.Ring.{ring_residue}
 
@@ -7,14 +7,14 @@ abbrev pub floor_div : ℤ → ℕ → ℤ
 floor_div (pos n) d = pos (n / d)
 floor_div (negsuc n) d = negsuc (n / d)
 
--- how many ring units a length is, rounded down: the edge of the box is 2^32 of them
+-- a length in ring units, rounded down: the edge of the box is 2^32 of them
 abbrev pub units_of : ℕ → ℤ → ℤ
 units_of edge length = floor_div (length *ℤ pos (2 ^ 32)) edge
 
--- the place on the ring of a coordinate
+-- the coordinate on the ring of a position
 abbrev pub place_of : ℕ → ℤ → ℕ
 place_of edge position = ring_residue (units_of edge position)
 
--- the coordinate of a place in millionths of a file unit, rounded down
+-- the position of a coordinate in millionths of a file unit, rounded down
 abbrev pub micro_of : ℕ → ℕ → ℕ
 micro_of edge place = place * edge / (2 ^ 32 * 1000)

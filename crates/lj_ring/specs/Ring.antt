@@ -1,4 +1,4 @@
--- Coordinates on the ring of 2^32 units that one axis of the periodic box is, and sums on it.
+-- Coordinates on one axis of the periodic box, a ring of 2^32 units, and sums on it.
 use Rattle.std.specs.Prelude.{ℕ, zero, suc, ◌+◌, ◌-◌, ◌*◌, ◌%◌, ◌^◌, ℤ, pos, ◌+ℤ◌, ◌-ℤ◌, ◌*ℤ◌, neg_ℤ, ◌≤ℤ◌, ◌<ℤ◌}
 use Rattle.std.specs.Prelude.{unsigned_abs, ◌<◌, ◌≡◌, List, slice_index_or}
 use Rattle.std.specs.Int.{cast_signed, int_rem_euclid, w32}
@@ -14,11 +14,11 @@ pub record IsOnRing (p : Place) : Type 0 where
 abbrev pub place_at : List Place → ℕ → Place
 place_at places i = slice_index_or places i (record { x = 0; y = 0; z = 0 })
 
--- a difference on the ring
+-- the difference a - b on the ring
 abbrev pub ring_difference : ℕ → ℕ → ℕ
 ring_difference a b = (a + (2 ^ 32 - b)) % 2 ^ 32
 
--- the coordinate that a whole number of units comes to, once round the ring as often as need be
+-- a whole number of units modulo 2^32: the coordinate after going round the ring
 abbrev pub ring_residue : ℤ → ℕ
 ring_residue z = unsigned_abs (int_rem_euclid z (pos (2 ^ 32)))
 
@@ -26,7 +26,7 @@ ring_residue z = unsigned_abs (int_rem_euclid z (pos (2 ^ 32)))
 abbrev pub image : ℕ → ℕ → ℤ
 image a b = cast_signed w32 ((a + (2 ^ 32 - b)) % 2 ^ 32)
 
--- z is the least image of a - b: it lies in -2^31 ..= 2^31 - 1 and is a - b but for whole turns of the ring
+-- z is the least image of a - b: it lies in -2^31 ..= 2^31 - 1 and differs from a - b by whole turns of the ring
 pub record IsLeastImage (a b : ℕ) (z : ℤ) : Type 0 where
   pub from : neg_ℤ (pos (2 ^ 31)) ≤ℤ z
   pub below : z <ℤ pos (2 ^ 31)

@@ -1,4 +1,4 @@
--- The scale of a simulation, and the bins of squared distance that its tables stand on.
+-- The scale of a simulation, and the bins of squared distance that index its tables.
 use Rattle.std.specs.Prelude.{ℕ, ◌*◌, ◌/◌, ◌^◌, ℤ, pos, ◌&&◌, Bool, int_le, nat_le, nat_lt, if◌then◌else◌, max}
 use Rattle.std.specs.Prelude.{unsigned_abs, Result, Ok, Err, ◌<◌, ◌≡◌, true}
 use Rattle.lj_ring.specs.declared.scales.TheConstants.{MIN_EDGE, MAX_EDGE, MIN_SIGMA, MAX_STEP_FACTOR, BINS, MIN_BIN}

@@ -1,4 +1,4 @@
--- Scales at their limits, the bins where pairs stop to interact, and arcs and their gaps, worked out.
+-- Worked examples: scales at their limits, bins at the cutoff, and arcs with their gaps.
 use Rattle.std.specs.Prelude.{◌≡◌, ◌+◌, ◌-◌, ◌*◌, ◌^◌, true, false, pos, negsuc, [], ◌∷◌, Ok, Err, refl}
 use Rattle.lj_ring.specs.declared.scales.ScaleFault.TheVariants.{Edge, Sigma, StepFactor}
 use Rattle.lj_ring.specs.Arcs.{arcs_of, gap, squared_gap}

@@ -1,4 +1,4 @@
-//! Arcs of the ring that the atoms of a block lie on, and how far apart two blocks are by them.
+//! The arcs of the ring that hold the atoms of a block, and the gap between two blocks.
 ghost use Rattle.std.specs.Prelude.{ℕ, ◌≡◌, ◌≤◌, ◌<◌, ◌^◌, ◌*◌, length, unsigned_abs};
 ghost use Rattle.lj_ring.specs.Arcs as arcs;
 ghost use Rattle.lj_ring.specs.Ring.{IsOnRing, image, place_at};
@@ -6,14 +6,14 @@ ghost use Rattle.lj_ring.specs.Spans.{arc_over, span_reaching, spans_below, wide
 
 use crate::coordinates::{self, Place};
 
-/// An arc of the ring: from `start` on, so many ring units; both ends belong to it.
+/// An arc of the ring: `len` ring units from `start` on, both ends included.
 #[derive(Clone, Copy, PartialEq, Eq, Debug)]
 pub struct Arc {
     pub start: u32,
     pub len: u32,
 }
 
-/// The arcs that the atoms of a block lie on, one on each axis.
+/// The arcs that hold the atoms of a block, one on each axis.
 #[derive(Clone, Copy, PartialEq, Eq, Debug)]
 pub struct Arcs {
     pub x: Arc,
@@ -22,8 +22,8 @@ pub struct Arcs {
 }
 
 impl Arcs {
-    /// The arcs of some places, at least one: along each axis from the least image of their coordinates from the first
-    /// one's to the greatest.
+    /// Returns the arcs of one or more places: on each axis from the least to the greatest image of a coordinate from
+    /// the first place's.
     ///
     /// Promise: the arcs hold each of the places, along each axis.
     pub fn of(places: &[Place]) -> Arcs
@@ -41,8 +41,8 @@ impl Arcs {
         }
     }
 
-    /// The squared gap of two blocks by their arcs, in square ring units: the sum of the squares of the gaps along each
-    /// axis, at most 3 * 2^62.
+    /// Returns the squared gap of two blocks, in square ring units: the sum of the squares of the gaps of their arcs
+    /// along each axis, at most 3 * 2^62.
     #[inline]
     pub fn squared_gap(&self, other: &Arcs) -> u64
         ensures value { result ≡ arcs.squared_gap self.now other.now }
@@ -54,7 +54,7 @@ impl Arcs {
     }
 }
 
-/// The gap between two arcs, in ring units, the shorter way round: 0 where they meet, and at most 2^31.
+/// Returns the gap between two arcs the shorter way round, in ring units: 0 where they meet, and at most 2^31.
 ///
 /// Promise: the gap of two arcs is at most the size of the image of any two coordinates on them.
 #[inline]
@@ -78,7 +78,7 @@ fn squared(gap: u32) -> u64
     u64::from(gap) * u64::from(gap)
 }
 
-/// How far some images reach on both sides of 0, in ring units.
+/// The least and the greatest of 0 and some images, in ring units.
 #[derive(Clone, Copy)]
 struct Span {
     least: i32,
@@ -86,7 +86,7 @@ struct Span {
 }
 
 impl Span {
-    /// It, with the image of a coordinate more.
+    /// Returns the span, widened to include the image of `to - from`.
     #[inline(always)]
     fn with(self, to: u32, from: u32) -> Span
         ensures { result ≡ span_reaching self to from }
@@ -98,7 +98,7 @@ impl Span {
         }
     }
 
-    /// The arc that reaches so far on both sides of a coordinate.
+    /// Returns the arc from `middle + least` to `middle + greatest`.
     fn arc(self, middle: u32) -> Arc
         ensures { result ≡ arc_over self middle }
     {
@@ -109,7 +109,7 @@ impl Span {
     }
 }
 
-/// How far the images of some places from the first one reach, axis by axis.
+/// The spans of the images of some places from the first one, one on each axis.
 #[derive(Clone, Copy)]
 struct Spans {
     x: Span,

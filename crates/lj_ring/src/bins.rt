@@ -1,4 +1,4 @@
-//! Bins of squared distance in lanes, by a guess without a division, and what a scale keeps for it.
+//! Bins of squared distance for eight pairs at once without a division, and the numbers that a scale stores for it.
 ghost use Rattle.std.specs.Prelude.{ℕ, ◌≡◌, ◌≤◌, ◌<◌, ◌+◌, ◌-◌, ◌*◌, ◌/◌, ◌%◌, ◌^◌, slice_index};
 ghost use Rattle.lj_ring.specs.declared.scales.TheConstants.{MIN_SIGMA, CUTOFF_HALVES, BINS_TO_SQUARE};
 ghost use Rattle.lj_ring.specs.Kept as kept;
@@ -9,7 +9,7 @@ use crate::lanes::{
 use crate::scales::CUTOFF_HALVES;
 use std::simd::prelude::*;
 
-/// The least length beyond the cutoff, in ring units.
+/// Returns the least length beyond the cutoff, in ring units.
 pub(crate) fn cut_of(sigma: u32) -> u32
     requires { CUTOFF_HALVES * sigma < 2 ^ 32 }
     ensures value { result ≡ kept.cut_of sigma }
@@ -18,7 +18,7 @@ pub(crate) fn cut_of(sigma: u32) -> u32
     (CUTOFF_HALVES * u64::from(sigma) / 2 + 1) as u32
 }
 
-/// By how many bits three squares of that length are longer than 32.
+/// Returns how many bits `3 * cut²` has beyond 32.
 pub(crate) fn shift_of(sigma: u32) -> u64
     requires { CUTOFF_HALVES * sigma < 2 ^ 32 }
     ensures value { result ≡ kept.shift_of sigma }
@@ -28,7 +28,7 @@ pub(crate) fn shift_of(sigma: u32) -> u64
     u64::from(32u32.saturating_sub((3 * (cut * cut)).leading_zeros()))
 }
 
-/// `2^(58 + shift) / sigma²`, which is below 2^32.
+/// Returns `floor(2^(58 + shift) / sigma²)`, which is below 2^32.
 pub(crate) fn reciprocal_of(sigma: u32, shift: u64) -> u64
     requires least { MIN_SIGMA ≤ sigma }
     requires most { CUTOFF_HALVES * sigma < 2 ^ 32 }
@@ -38,7 +38,7 @@ pub(crate) fn reciprocal_of(sigma: u32, shift: u64) -> u64
     ((1u128 << (58 + shift)) / (u128::from(sigma) * u128::from(sigma))) as u64
 }
 
-/// The squared distances of eight pairs by the lengths of their images along the axes, with `cut` in place of longer ones.
+/// Returns the squared distances of eight pairs by the lengths of their images along the axes, with `cut` for longer ones.
 #[inline(always)]
 pub(crate) fn squares_cut_off(x: u32x8, y: u32x8, z: u32x8, cut: u32) -> u64x8
     requires { cut ≤ 2 ^ 31 }
@@ -49,8 +49,8 @@ pub(crate) fn squares_cut_off(x: u32x8, y: u32x8, z: u32x8, cut: u32) -> u64x8
     sums(sums(squares(x), squares(y)), squares(z))
 }
 
-/// `128 s / sigma_square` in each lane, by a guess that is right or one less, and a correction: the rest after the guess is
-/// below two squares, so it is exact modulo 2^64.
+/// Returns `128 s / sigma_square` in each lane: a guess that is right or one too small, then a correction. The
+/// remainder of the guess is below `2 sigma_square`, so it is exact modulo 2^64.
 #[inline(always)]
 pub(crate) fn quotients(squared: u64x8, sigma_square: u64, shift: u64, reciprocal: u64) -> u64x8
     requires shift { shift ≤ 32 }
@@ -81,7 +81,7 @@ fn guesses(squared: u64x8, shift: u64, reciprocal: u64) -> u64x8
     shifted_right(product, 51)
 }
 
-/// The lanes times a number, modulo 2^64, by the halves of the number.
+/// Multiplies the lanes by a number modulo 2^64, by its upper and its lower half.
 #[inline(always)]
 fn multiples(v: u64x8, number: u64) -> u64x8
     ensures { (k : ℕ) → k < 8 → slice_index result k ≡ slice_index v k * number % 2 ^ 64 }

@@ -6,7 +6,7 @@ ghost use Rattle.lj_ring.specs.Ring as ring;
 use crate::scales::Edge;
 use lj_fixed::Nano;
 
-/// The place of an atom: a coordinate on each axis, in ring units, of which the box edge has 2^32.
+/// The place of an atom: a coordinate on each axis, in ring units of 2^-32 of the box edge.
 #[derive(Clone, Copy, PartialEq, Eq, Default, Debug)]
 pub struct Place {
     pub x: u32,
@@ -14,7 +14,11 @@ pub struct Place {
     pub z: u32,
 }
 
-/// The least image of `to - from`, in ring units: the difference round the ring that is nearest to 0.
+/// Returns the least image of `to - from`, in ring units, -2^31 to 2^31 - 1: the difference round the ring nearest to 0.
+///
+/// ```rust
+/// assert_eq!(image(4, 4_294_967_290), 10);
+/// ```
 ///
 /// Promise: the result is the difference of the two that is nearest to 0 round the ring.
 #[inline]
@@ -25,7 +29,7 @@ pub fn image(to: u32, from: u32) -> i32
     to.wrapping_sub(from).cast_signed()
 }
 
-/// The square of an image, in square ring units.
+/// Returns the square of an image, in square ring units.
 #[inline]
 fn square(image: i32) -> u64
     ensures value { result ≡ ring.square image }
@@ -35,7 +39,7 @@ fn square(image: i32) -> u64
     (length * length).unsigned_abs()
 }
 
-/// The squared distance of two places, in square ring units, at most 3 * 2^62.
+/// Returns the squared distance of two places, in square ring units, at most 3 * 2^62.
 ///
 /// Promise: the result is the sum of the squares of the three images.
 #[inline]
@@ -48,7 +52,12 @@ pub fn dist2(a: &Place, b: &Place) -> u64
     square(image(a.x, b.x)) + square(image(a.y, b.y)) + square(image(a.z, b.z))
 }
 
-/// The coordinate of a position in nano: `floor(position * 2^32 / edge)` round the ring.
+/// Returns the coordinate of a position in nano: `floor(position * 2^32 / edge)` round the ring.
+///
+/// ```rust
+/// let scale = Scale::new(parse_nano(b"256")?, parse_nano(b"1")?, 1)?;
+/// assert_eq!(place_of(parse_nano(b"1.5")?, &scale.edge()), 25_165_824);
+/// ```
 ///
 /// Promise: the result is floor(position * 2^32 / edge) round the ring.
 pub fn place_of(position: Nano, edge: &Edge) -> u32
@@ -60,7 +69,7 @@ pub fn place_of(position: Nano, edge: &Edge) -> u32
         .rem_euclid(1 << 32) as u32
 }
 
-/// The coordinate of a place in millionths of a file unit: `floor(place * edge / (2^32 * 1000))`.
+/// Returns the position of a coordinate in millionths of a file unit: `floor(place * edge / (2^32 * 1000))`.
 ///
 /// Promise: the result is floor(place * edge / (2^32 * 1000)).
 pub fn micro_of(place: u32, edge: &Edge) -> u64

@@ -73,7 +73,7 @@ pub(crate) fn shifted_right(v: u64x8, by: u64) -> u64x8
     v >> u64x8::splat(by)
 }
 
-/// The lower halves.
+/// Returns the lower 32 bits of each lane.
 #[inline(always)]
 pub(crate) fn low(v: u64x8) -> u64x8
     ensures { (k : ℕ) → k < 8 → slice_index result k ≡ slice_index v k % 2 ^ 32 }
@@ -81,7 +81,7 @@ pub(crate) fn low(v: u64x8) -> u64x8
     v & u64x8::splat(0xffff_ffff)
 }
 
-/// The numbers, and `most` in place of greater ones.
+/// Returns each lane, or `most` if the lane is greater.
 #[inline(always)]
 pub(crate) fn least(v: u32x8, most: u32) -> u32x8
     ensures { (k : ℕ) → k < 8 → slice_index result k ≡ min (slice_index v k) most }

@@ -15,7 +15,7 @@ const MAX_WEIGHT: u32 = 65_536;
 /// The weight of energies that leaves them as they are, in 256ths.
 const WHOLE_WEIGHT: u32 = 256;
 
-/// The species of an atom: each is one of two.
+/// The species of an atom, one of two.
 #[derive(Clone, Copy, PartialEq, Eq, Debug)]
 pub enum Species {
     First,
@@ -49,7 +49,7 @@ impl Weight {
         parts: WHOLE_WEIGHT,
     };
 
-    /// The weight of so many 256ths: `None` unless they are 1 to 65,536.
+    /// Makes a weight of `parts` 256ths; `None` unless they are 1 to 65,536.
     pub fn new(parts: u64) -> Option<Weight>
         ensures { SomeIff result (IsTrue (is_weight parts)) parts }
     {
@@ -62,7 +62,7 @@ impl Weight {
         }
     }
 
-    /// How many 256ths it is.
+    /// Returns the weight in 256ths.
     #[inline]
     pub fn parts(&self) -> u32
         ensures value { result ≡ self.now }
@@ -72,17 +72,17 @@ impl Weight {
     }
 }
 
-/// How two atoms of given species interact: by the scale of the pair, and with energies of this weight.
+/// The interaction of two atoms of given species: the scale of the pair, and the weight of its energies.
 #[derive(Clone, Copy, PartialEq, Eq, Debug)]
 pub struct Class {
     pub scale: Scale,
     pub weight: Weight,
 }
 
-/// Why a class is refused: the first that does not fit.
+/// The reason why a class is refused: the first number of it that does not fit.
 #[derive(Clone, Copy, PartialEq, Eq, Debug, Error)]
 pub enum ClassFault {
-    /// Its scale: the edge, sigma or the step factor.
+    /// The scale: its edge, sigma or step factor does not fit.
     Scale(ScaleFault),
     /// The weight is not 1 to 65,536.
     Weight,
@@ -113,7 +113,7 @@ impl fmt::Display for ClassFault {
     }
 }
 
-/// Why a mixture is refused: the first class that is, counted from 1 as LOADMIX names them, and its fault.
+/// The reason why a mixture is refused: its first class that does not fit, counted from 1 as in LOADMIX, and the fault.
 #[derive(Clone, Copy, PartialEq, Eq, Debug, Error)]
 pub struct MixFault {
     pub class: u8,
@@ -131,7 +131,7 @@ impl fmt::Display for MixFault {
     }
 }
 
-/// Two species of atoms in one box: the class of each two of them.
+/// A mixture of two species of atoms in one box: the class of each pair of species.
 #[derive(Clone, Copy, PartialEq, Eq, Debug)]
 pub struct Mix {
     first: Class,
@@ -157,12 +157,12 @@ impl Model for Mix {
 }
 
 impl Mix {
-    /// The mixture of a box of this edge, in nano. Each class has a sigma in nano, a step factor in units of 2^-32, 1 to
-    /// 2^24, and a weight in 256ths, 1 to 65,536: first that of two atoms of the first species, then that of one of each,
-    /// then that of two of the second.
+    /// Makes the mixture of a box of this edge, in nano. Each class has a sigma in nano, a step factor in units of
+    /// 2^-32, 1 to 2^24, and a weight in 256ths, 1 to 65,536. They are the classes of two atoms of the first species,
+    /// of one of each, and of two of the second.
     ///
     /// # Errors
-    /// The first class that does not fit, with the first of edge, sigma, step factor and weight that does not.
+    /// The first class that does not fit, with the first of its edge, sigma, step factor and weight that does not.
     ///
     /// Promise: the result is the mixture, or the first fault of the first class that has one.
     pub fn new(classes: [(Nano, u64, u64); 3], edge: Nano) -> Result<Mix, MixFault>
@@ -177,7 +177,7 @@ impl Mix {
         })
     }
 
-    /// The mixture in which all atoms are alike: one class of the whole weight.
+    /// Returns the mixture in which all atoms are alike: one class of the whole weight.
     pub fn one(scale: Scale) -> Mix
         ensures { result ≡ mixtures.pure_mix scale }
     {
@@ -188,14 +188,14 @@ impl Mix {
         }
     }
 
-    /// The edge of the box.
+    /// Returns the edge of the box.
     pub fn edge(&self) -> Edge
         ensures { result ≡ edge_of self.now }
     {
         self.first.scale.edge()
     }
 
-    /// The class of two atoms by their species, in either order.
+    /// Returns the class of two atoms by their species, in either order.
     ///
     /// Promise: the class of two atoms is that of their species, in either order.
     #[inline]
@@ -210,8 +210,8 @@ impl Mix {
         }
     }
 
-    /// The least squared distance out of reach of all pairs, in square ring units: that of the class of the greatest
-    /// sigma. No pair that interacts lies half the box apart.
+    /// Returns the least squared distance out of reach of all pairs, in square ring units: that of the class of the
+    /// greatest sigma. No pair that interacts lies half the box apart.
     ///
     /// Promise: some pair can interact exactly below this squared distance.
     #[inline]
@@ -225,7 +225,7 @@ impl Mix {
     }
 }
 
-/// The class of a scale whose energies have the whole weight.
+/// Returns the class of a scale whose energies have the whole weight.
 fn whole_class(scale: &Scale) -> Class
     ensures { result ≡ mixtures.whole_class scale.now }
 {
@@ -235,7 +235,7 @@ fn whole_class(scale: &Scale) -> Class
     }
 }
 
-/// The class of that number: of an edge, and of a sigma, a step factor and a weight.
+/// Makes the class of an edge and of a sigma, a step factor and a weight; a fault gets the number of the class.
 fn class_at(class: u8, edge: Nano, numbers: (Nano, u64, u64)) -> Result<Class, MixFault>
     ensures { result ≡ mixtures.class_at class (mixtures.class_of_numbers edge numbers) }
 {
@@ -243,8 +243,8 @@ fn class_at(class: u8, edge: Nano, numbers: (Nano, u64, u64)) -> Result<Class, M
     class_from(edge, sigma, h, parts).map_err(|fault| MixFault { class, fault })
 }
 
-/// The class of a box of this edge, of a sigma in nano, a step factor in units of 2^-32 and a weight in 256ths, or the
-/// first of them that does not fit.
+/// Makes the class of a box of this edge from a sigma in nano, a step factor in units of 2^-32 and a weight in 256ths,
+/// or returns the first of these that does not fit.
 fn class_from(edge: Nano, sigma: Nano, h: u64, parts: u64) -> Result<Class, ClassFault>
     ensures { result ≡ mixtures.class_of_numbers edge (sigma, h, parts) }
 {

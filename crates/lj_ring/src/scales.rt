@@ -25,16 +25,16 @@ const MIN_SIGMA: u32 = 65_536;
 /// The greatest step factor, in units of 2^-32.
 const MAX_STEP_FACTOR: u32 = 1 << 24;
 
-/// The cutoff, from which on no pair interacts, in halves of sigma: it is 2.5 sigma.
+/// The cutoff in halves of sigma: no pair interacts from 2.5 sigma on.
 pub const CUTOFF_HALVES: u64 = 5;
 
-/// How many bins of squared distance there are to the square of sigma.
+/// The number of bins of squared distance to sigma².
 const BINS_TO_SQUARE: u64 = 128;
 
-/// The bins of squared distance within the cutoff: 128 * 2.5².
+/// The number of bins of squared distance within the cutoff: 128 * 2.5².
 pub const BINS: usize = (BINS_TO_SQUARE * CUTOFF_HALVES * CUTOFF_HALVES / 4) as usize;
 
-/// The bin whose entries closer pairs use too.
+/// The least bin with entries of its own: closer pairs use them too.
 pub const MIN_BIN: u16 = 64;
 
 /// The edge of the cubic box, 10^6 to 10^15 nano (billionths of a file unit).
@@ -57,7 +57,7 @@ impl Model for Edge {
 }
 
 impl Edge {
-    /// The length of the edge in nano.
+    /// Returns the length of the edge in nano.
     #[inline]
     pub fn nano(&self) -> u64
         ensures value { result ≡ self.now }
@@ -67,7 +67,7 @@ impl Edge {
         self.nano
     }
 
-    /// An edge of this length, where it fits.
+    /// Makes an edge of this length, if it fits.
     fn new(length: Nano) -> Option<Edge>
         ensures { SomeIff result (IsTrue (is_edge length)) (unsigned_abs length) }
     {
@@ -80,7 +80,7 @@ impl Edge {
     }
 }
 
-/// Why a scale is refused: the first of the three that does not fit.
+/// The reason why a scale is refused: the first of the three that does not fit.
 #[derive(Clone, Copy, PartialEq, Eq, Debug, Error)]
 pub enum ScaleFault {
     /// The edge is not 10^6 to 10^15 nano.
@@ -107,7 +107,7 @@ impl fmt::Display for ScaleFault {
 }
 
 /// The scale of a simulation: the edge of its box, sigma in ring units, and the step factor dt² ε / (m σ²) in units of
-/// 2^-32. Beside them it keeps what the loop over pairs needs of sigma.
+/// 2^-32. It also stores numbers derived from sigma for the loop over pairs.
 #[derive(Clone, Copy, PartialEq, Eq, Debug)]
 pub struct Scale {
     edge: Edge,
@@ -116,13 +116,13 @@ pub struct Scale {
     sigma_square: u64,
     /// The first squared distance out of reach, the square of the cutoff: `ceil(25 sigma² / 4)`.
     reach: u64,
-    /// `ceil(2^95 / sigma²)`, by which a bin is guessed without a division.
+    /// `ceil(2^95 / sigma²)`, to find a bin without a division.
     inverse: u64,
-    /// The least length beyond the cutoff, `floor(5 sigma / 2) + 1`: no pair interacts one of whose images is as long.
+    /// The least length beyond the cutoff, `floor(5 sigma / 2) + 1`: a pair with an image as long does not interact.
     cut: u32,
-    /// By how many bits three squares of `cut` are longer than 32.
+    /// How many bits `3 * cut²` has beyond 32.
     shift: u64,
-    /// `floor(2^(58 + shift) / sigma²)`, below 2^32, by which bins are guessed in lanes.
+    /// `floor(2^(58 + shift) / sigma²)`, below 2^32, to find bins in lanes.
     reciprocal: u64,
 }
 
@@ -143,7 +143,7 @@ impl Model for Scale {
 }
 
 impl Scale {
-    /// The scale of an edge and a sigma in nano, and a step factor `h` in units of 2^-32, 1 to 2^24.
+    /// Makes the scale of an edge and a sigma in nano, and a step factor `h` in units of 2^-32, 1 to 2^24.
     /// The edge is tested first, then sigma, then the step factor.
     ///
     /// Promise: the result is the scale, or the first fault of edge, sigma and step factor.
@@ -162,21 +162,21 @@ impl Scale {
         Ok(Scale::of(edge, sigma, strength))
     }
 
-    /// The scale of the greatest box, with the least sigma and the least step factor.
+    /// Returns the scale of the greatest box, with the least sigma and the least step factor.
     pub fn least() -> Scale
         ensures { result ≡ least_scale }
     {
         Scale::of(Edge { nano: MAX_EDGE }, MIN_SIGMA, 1)
     }
 
-    /// The edge of the box.
+    /// Returns the edge of the box.
     pub fn edge(&self) -> Edge
         ensures { result ≡ self.now.edge }
     {
         self.edge
     }
 
-    /// The step factor in units of 2^-32. No pair that interacts lies half the box apart.
+    /// Returns the step factor in units of 2^-32. No pair that interacts lies half the box apart.
     #[inline]
     pub fn strength(&self) -> u32
         ensures value { result ≡ self.now.strength }
@@ -186,8 +186,7 @@ impl Scale {
         self.strength
     }
 
-    /// The least squared distance out of reach, in square ring units: from it on no pair interacts, and each does below
-    /// it.
+    /// Returns the least squared distance out of reach, in square ring units: a pair interacts below it and not from it on.
     ///
     /// Promise: a pair is within the cutoff exactly below this squared distance.
     #[inline]
@@ -198,8 +197,8 @@ impl Scale {
         self.reach
     }
 
-    /// The bins of eight pairs whose images have these lengths along the axes, in ring units, and [`BINS`] of those that do
-    /// not interact.
+    /// Returns the bins of eight pairs whose images have these lengths along the axes, in ring units; [`BINS`] for a
+    /// pair that does not interact.
     ///
     /// Promise: each bin is that of its pair's squared distance, and 800 out of reach.
     #[inline(always)]
@@ -213,7 +212,7 @@ impl Scale {
         least(narrowed(quotients), BINS as u32)
     }
 
-    /// The bin, below [`BINS`], of a pair at squared distance `s`, or None where it does not interact.
+    /// Returns the bin, below [`BINS`], of a pair at squared distance `s`, or None if it does not interact.
     #[inline]
     pub fn bin_within_reach(&self, s: u64) -> Option<usize>
         ensures reach { MatchOption result (is_in_cutoff self.now s ≡ false)
@@ -251,7 +250,7 @@ impl Scale {
     }
 }
 
-/// Sigma in ring units, where it fits.
+/// Returns sigma in ring units, if it fits.
 fn sigma_in_units(sigma: Nano, edge: &Edge) -> Option<u32>
     ensures { SomeIff result (IsTrue (is_sigma (units_of edge.now sigma)))
         (unsigned_abs (units_of edge.now sigma)) }
@@ -278,7 +277,7 @@ fn step_factor(h: u64) -> Option<u32>
     }
 }
 
-/// `128 s / sigma_square`, by a guess that is mostly right, and else by the division.
+/// Returns `128 s / sigma_square`, by a guess that is mostly right, and else by the division.
 #[inline]
 fn quotient(s: u64, sigma_square: u64, inverse: u64) -> usize
     requires { BINS_TO_SQUARE * s < BINS * sigma_square }

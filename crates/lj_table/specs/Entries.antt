@@ -16,11 +16,11 @@ push_entry k = int_div (pos (24 * 2 ^ 56) *ℤ (pos (2 ^ 25) -ℤ pos (centre k 
 unfoldable pub energy_entry : ℕ → ℤ
 energy_entry k = int_div (pos (2 ^ 50) *ℤ (pos (2 ^ 24) -ℤ pos (centre k ^ 3))) (pos (centre k ^ 6))
 
--- what a table gives for a pair at a squared distance: the entry of its bin, and 0 out of reach
+-- the value of a table for a pair at a squared distance: the entry of its bin, and 0 out of reach
 abbrev pub table_value : (ℕ → ℤ) → Scale → ℕ → ℤ
 table_value entry_of u s = if is_in_cutoff u s then entry_of (entry (bin u s)) else pos 0
 
--- the entry of a bin, and 0 of the bin of all pairs out of reach
+-- the entry of a bin, and 0 for the bin of all pairs out of reach
 abbrev pub cell : (ℕ → ℤ) → ℕ → ℤ
 cell entry_of k = if nat_lt k BINS then entry_of (entry k) else pos 0
 
@@ -32,11 +32,11 @@ push_at u s = table_value push_entry u s
 abbrev pub energy_at : Scale → ℕ → ℤ
 energy_at u s = table_value energy_entry u s
 
--- an energy by a weight in 256ths, rounded toward zero
+-- an energy times a weight in 256ths, rounded toward zero
 abbrev pub weighted_energy : ℕ → ℤ → ℤ
 weighted_energy weight energy = int_div (energy *ℤ pos weight) (pos 256)
 
--- the cells of a table are the entries of the bins, each below bin 64 that of bin 64
+-- the cells of a table are the entries of their bins, and below bin 64 the entry of bin 64
 abbrev pub HasEntries : (ℕ → ℤ) → List ℤ → Type 0
 HasEntries entry_of cells = (k : ℕ) → k < BINS → slice_index_or cells k (pos 0) ≡ entry_of (entry k)
 
@@ -44,6 +44,6 @@ HasEntries entry_of cells = (k : ℕ) → k < BINS → slice_index_or cells k (p
 abbrev pub AreSmall : List ℤ → Type 0
 AreSmall cells = (k : ℕ) → k < BINS → unsigned_abs (slice_index_or cells k (pos 0)) < 2 ^ 37
 
--- the cells of a table are the sizes of the entries of the bins, and 0 of the bin out of reach
+-- the cells of a table are the sizes of the entries of the bins, and 0 for the bin out of reach
 abbrev pub HasSizes : (ℕ → ℤ) → List ℕ → Type 0
 HasSizes entry_of cells = (k : ℕ) → k ≤ BINS → slice_index cells k ≡ unsigned_abs (cell entry_of k)

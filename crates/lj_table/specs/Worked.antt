@@ -34,7 +34,7 @@ pub energy_at_799 : energy_entry 799 ≡ negsuc 274262
 unfolding energy_entry
 energy_at_799 = refl
 
--- the energy of a pair at bin 288 by the least weight and by twice the whole one
+-- the energy of a pair at bin 288 with the least weight, and with twice the whole one
 pub energy_at_288_by_weight_1 : weighted_energy 1 (energy_entry 288) ≡ negsuc 20894
 unfolding energy_entry
 energy_at_288_by_weight_1 = refl

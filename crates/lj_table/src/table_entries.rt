@@ -4,7 +4,8 @@ ghost use Rattle.lj_table.specs.Entries as entries;
 
 use lj_ring::{BINS, MIN_BIN};
 
-/// The push of bin `k`, [`MIN_BIN`] or more and below [`BINS`], in units of 2^-24.
+/// Returns the push of bin `k`, [`MIN_BIN`] or more and below [`BINS`], in units of 2^-24: 24 (2 u^7 - u^4) where u is
+/// (sigma/r)² at its centre.
 pub fn push_entry(k: u16) -> i64
     requires from { MIN_BIN ≤ k }
     requires below { k < BINS }
@@ -16,7 +17,8 @@ pub fn push_entry(k: u16) -> i64
     signed_quotient(24 << 56, 1 << 25, cube, cube * cube * centre)
 }
 
-/// The energy of bin `k`, [`MIN_BIN`] or more and below [`BINS`], in units of 2^-24 ε.
+/// Returns the energy of bin `k`, [`MIN_BIN`] or more and below [`BINS`], in units of 2^-24 ε: 4 (u^6 - u^3) where u is
+/// (sigma/r)² at its centre.
 pub fn energy_entry(k: u16) -> i64
     requires from { MIN_BIN ≤ k }
     requires below { k < BINS }
@@ -28,7 +30,7 @@ pub fn energy_entry(k: u16) -> i64
     signed_quotient(1 << 50, 1 << 24, cube, cube * cube)
 }
 
-// The centre of bin `k`, in 256ths of the square of sigma.
+// Returns the centre of bin `k`, in 256ths of the square of sigma.
 fn centre_of(k: u16) -> u128
     requires from { MIN_BIN ≤ k }
     requires below { k < BINS }
@@ -39,7 +41,7 @@ fn centre_of(k: u16) -> u128
     u128::from(2 * k + 1)
 }
 
-// `factor * (top - cube) / power`, toward zero.
+// Returns `factor * (top - cube) / power`, toward zero.
 fn signed_quotient(factor: u128, top: u128, cube: u128, power: u128) -> i64
     requires product { factor * (top + cube) < 2 ^ 128 }
     requires above { factor * top < 2 ^ 37 * power }

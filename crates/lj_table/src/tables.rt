@@ -7,13 +7,13 @@ use crate::table_entries;
 use lj_ring::{BINS, MIN_BIN, Scale, Weight};
 use std::simd::prelude::*;
 
-/// The last bin whose push drives two atoms apart: from the next on they are drawn together.
+/// The last bin whose push is repulsive: from the next on it is attractive.
 pub const LAST_APART: u32 = 160;
 
 /// The last bin whose energy is positive: from the next on it is negative.
 pub const LAST_POSITIVE: u32 = 127;
 
-/// The bins within reach, and one for all pairs out of reach.
+/// The number of cells: the bins within reach, and one for all pairs out of reach.
 const CELLS: usize = BINS + 1;
 
 /// The pushes and energies of the bins within reach. The cells below bin [`MIN_BIN`] repeat that of this bin.
@@ -21,9 +21,9 @@ const CELLS: usize = BINS + 1;
 pub struct Table {
     pushes: [i64; BINS],
     energies: [i64; BINS],
-    /// The sizes of the pushes, and 0 of bin [`BINS`].
+    /// The sizes of the pushes, and 0 for bin [`BINS`].
     push_sizes: [u64; CELLS],
-    /// The sizes of the energies, and 0 of bin [`BINS`].
+    /// The sizes of the energies, and 0 for bin [`BINS`].
     energy_sizes: [u64; CELLS],
     ghost push_entries: { HasEntries push_entry pushes },
     ghost energy_entries: { HasEntries energy_entry energies },
@@ -34,7 +34,7 @@ pub struct Table {
 }
 
 impl Table {
-    /// The table, computed from the closed forms of its entries.
+    /// Computes the table from the closed forms of its entries.
     pub fn new() -> Table {
         let mut pushes = [0; BINS];
         let mut energies = [0; BINS];
@@ -54,7 +54,12 @@ impl Table {
         }
     }
 
-    /// The push of a pair at squared distance `s` (square ring units), in units of 2^-24; 0 out of reach.
+    /// Returns the push of a pair at squared distance `s` (square ring units), in units of 2^-24; 0 out of reach.
+    ///
+    /// ```rust
+    /// // 1.5 sigma apart, with sigma 2^24 ring units
+    /// assert_eq!(Table::new().push(25_165_824 * 25_165_824, &scale), -12_876_994);
+    /// ```
     ///
     /// Promise: the result is the entry of the pair's bin, and 0 out of reach.
     #[inline]
@@ -65,10 +70,10 @@ impl Table {
         looked_up(&self.pushes, s, scale)
     }
 
-    /// The sizes of the pushes of eight bins, in units of 2^-24, and 0 of bin [`BINS`]. Up to bin [`LAST_APART`] a push
-    /// drives two atoms apart, and from the next on together.
+    /// Returns the sizes of the pushes of eight bins, in units of 2^-24, and 0 for bin [`BINS`]. A push is repulsive up
+    /// to bin [`LAST_APART`], and attractive from the next on.
     ///
-    /// Promise: each number is the size of its bin's entry, whose sign the bin tells.
+    /// Promise: each number is the size of its bin's entry, whose sign follows from the bin.
     #[inline(always)]
     pub fn push_sizes(&self, bins: u32x8) -> u64x8
         requires { (k : ℕ) → k < 8 → slice_index bins k ≤ BINS }
@@ -81,10 +86,10 @@ impl Table {
         each_of(&self.push_sizes, bins)
     }
 
-    /// The energy of a pair at squared distance `s` (square ring units) by its weight, in units of 2^-24 ε and toward
-    /// zero; 0 out of reach.
+    /// Returns the energy of a pair at squared distance `s` (square ring units) times its weight, in units of 2^-24 ε
+    /// and rounded toward zero; 0 out of reach.
     ///
-    /// Promise: the result is the entry of the pair's bin by the weight, toward zero, and 0 out of reach.
+    /// Promise: the result is the entry of the pair's bin times the weight, toward zero, and 0 out of reach.
     #[inline]
     pub fn energy(&self, s: u64, scale: &Scale, weight: Weight) -> i64
         ensures value { result ≡ weighted_energy weight (energy_at scale.now s) }
@@ -93,8 +98,8 @@ impl Table {
         weighted(looked_up(&self.energies, s, scale), weight)
     }
 
-    /// The sizes of the energies of eight bins, in units of 2^-24 ε, and 0 of bin [`BINS`]. Up to bin [`LAST_POSITIVE`] an
-    /// energy is positive, and from the next on negative.
+    /// Returns the sizes of the energies of eight bins, in units of 2^-24 ε, and 0 for bin [`BINS`]. An energy is
+    /// positive up to bin [`LAST_POSITIVE`], and negative from the next on.
     #[inline(always)]
     pub fn energy_sizes(&self, bins: u32x8) -> u64x8
         requires { (k : ℕ) → k < 8 → slice_index bins k ≤ BINS }
@@ -108,7 +113,7 @@ impl Table {
     }
 }
 
-/// An entry by a weight in 256ths, toward zero.
+/// Multiplies an entry by a weight in 256ths, and rounds toward zero.
 #[inline]
 fn weighted(entry: i64, weight: Weight) -> i64
     requires { unsigned_abs entry < 2 ^ 37 }
@@ -118,7 +123,7 @@ fn weighted(entry: i64, weight: Weight) -> i64
     entry * i64::from(weight.parts()) / 256
 }
 
-/// The cells of eight bins.
+/// Returns the cells of eight bins.
 #[inline(always)]
 fn each_of(cells: &[u64; CELLS], bins: u32x8) -> u64x8
     requires { (k : ℕ) → k < 8 → slice_index bins k ≤ BINS }
@@ -136,7 +141,7 @@ fn each_of(cells: &[u64; CELLS], bins: u32x8) -> u64x8
     ])
 }
 
-// The cell of a pair at squared distance `s`, and 0 out of reach.
+// Returns the cell of a pair at squared distance `s`, and 0 out of reach.
 #[inline]
 fn looked_up(cells: &[i64; BINS], s: u64, scale: &Scale) -> i64
     requires { AreSmall cells.now }
