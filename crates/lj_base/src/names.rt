@@ -33,7 +33,7 @@ impl Model for Name {
 }
 
 impl Name {
-    /// The name that `word` is, if it is one.
+    /// Parses a name; `None` if `word` is not one.
     ///
     /// Promise: the result is the name that the word is, if it is one.
     pub fn parse(word: &[u8]) -> Option<Name>
@@ -47,7 +47,7 @@ impl Name {
         Some(Name { text })
     }
 
-    /// The name `_`.
+    /// Returns the name `_`.
     pub fn blank() -> Name
         ensures { result ≡ blank_name }
     {
@@ -56,7 +56,7 @@ impl Name {
         }
     }
 
-    /// Its bytes.
+    /// Returns the bytes of the name.
     pub fn as_bytes(&self) -> &[u8]
         ensures value { result.now ≡ self.now }
         ensures name { IsName result.now }
@@ -66,7 +66,7 @@ impl Name {
         self.as_str().as_bytes()
     }
 
-    /// Its text.
+    /// Returns the text of the name.
     pub fn as_str(&self) -> &str
         ensures value { result.now ≡ self.now }
         ensures name { IsName result.now }
@@ -76,7 +76,7 @@ impl Name {
         self.text.as_str()
     }
 
-    /// The same name once more.
+    /// Returns an equal name.
     pub fn copy(&self) -> Name
         ensures { result ≡ self.now }
     {
@@ -142,7 +142,7 @@ pub struct Label {
 }
 
 impl Label {
-    /// The same label once more.
+    /// Returns an equal label.
     pub fn copy(&self) -> Label
         ensures { result ≡ self.now }
     {

@@ -1,4 +1,4 @@
--- A task that makes room for others.
+-- A task that is made to be overwritten.
 use Rattle.std.specs.Prelude.{[], ◌∷◌, pos}
 use Rattle.lj_ring.specs.Mix.{pure_mix}
 use Rattle.lj_ring.specs.Scale.{least_scale}

@@ -12,7 +12,7 @@ is_same_place = eq_of_both (eq_of_both (on (λ p. p.x) ◌==◌) (on (λ p. p.y)
 abbrev pub are_same_places : List Place → List Place → Bool
 are_same_places = pointwise is_same_place
 
--- the value of a block: its places, and which of them are of atoms of the second species
+-- the value of a block: its places, and as bits which of them are of atoms of the second species
 pub record Block : Type 0 where
   pub places : List Place
   pub seconds : ℕ

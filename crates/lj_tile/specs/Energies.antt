@@ -1,4 +1,4 @@
--- The energies of lists of pairs of places, one of each block of a task, and of rows of pairs.
+-- The energies of lists and of rows of pairs of places, one of each block of a task.
 use Rattle.std.specs.Prelude.{ℕ, ℤ, pos, ◌+ℤ◌, Bool, neg_ℤ, List, [], ◌∷◌, if◌then◌else◌}
 use Rattle.lj_ring.specs.Ring.{int_sum_below}
 use Rattle.lj_ring.specs.declared.coordinates.Place.{Place}
@@ -10,7 +10,7 @@ use Rattle.lj_tile.specs.Task.{Task}
 use Rattle.lj_tile.specs.Rows.{energy_row}
 use Rattle.lj_tile.specs.Pairs.{first_of, second_of}
 
--- a number by its size, below zero or not
+-- n or -n
 abbrev pub signed_number : Bool → ℕ → ℤ
 signed_number below n = if below then neg_ℤ (pos n) else pos n
 
@@ -23,14 +23,14 @@ unfoldable pub list_energy : Class → (a b : List Place) → List ℕ → ℤ
 list_energy k a b [] = pos 0
 list_energy k a b (pair ∷ pairs) = pair_energy k a b pair +ℤ list_energy k a b pairs
 
--- the sum of those of two lists, each of one class
+-- the sum of the energies of two lists, each of one class
 abbrev pub lists_energy : Task → (k l : Class) → (ps qs : List ℕ) → ℤ
 lists_energy w k l ps qs = list_energy k w.a.places w.b.places ps +ℤ list_energy l w.a.places w.b.places qs
 
--- the energy of a row of a set, and none of a row that is not in the set
+-- the energy of a row that is in a set, and 0 of any other row
 abbrev pub chosen_row : Task → ℕ → ℕ → ℤ
 chosen_row w rows t = if is_in rows t then energy_row w t else pos 0
 
--- the sum of the energies of those of the first n rows that are in a set
+-- the sum of the energies of the rows below n that are in a set
 abbrev pub rows_energy : Task → ℕ → ℕ → ℤ
 rows_energy w rows n = int_sum_below n (chosen_row w rows)

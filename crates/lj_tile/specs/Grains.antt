@@ -9,10 +9,10 @@ grains grain coordinate = coordinate / 2 ^ grain % 2 ^ 16
 abbrev pub square_unit : ℕ → ℕ
 square_unit grain = 2 ^ 16 * (2 ^ grain * 2 ^ grain)
 
--- the difference of two coordinates in grains, round the ring of 2^16
+-- the difference b - a of two coordinates in grains, round the ring of 2^16
 abbrev pub grains_between : ℕ → ℕ → ℕ
 grains_between b a = (b + (2 ^ 16 - a)) % 2 ^ 16
 
--- how many grains they are apart, the shorter way round that ring
+-- the distance of two coordinates in grains, the shorter way round that ring
 abbrev pub grains_apart : ℕ → ℕ → ℕ
 grains_apart b a = min (grains_between b a) (2 ^ 16 - grains_between b a)

@@ -5,7 +5,7 @@ use Rattle.lj_ring.specs.Ring.{ring_difference}
 use Rattle.lj_tile.specs.declared.pairs.Push.{Push}
 use Rattle.lj_tile.specs.declared.lanes.Eight.{Eight}
 
--- lane k has the differences of two places on the ring
+-- lane k has the differences of the coordinates of two places on the ring
 pub record AreApartBy (v : Eight) (k : ℕ) (p q : Place) : Type 0 where
   pub x : slice_index v.x k ≡ ring_difference p.x q.x
   pub y : slice_index v.y k ≡ ring_difference p.y q.y
@@ -17,7 +17,7 @@ pub record IsPush (v : Eight) (k : ℕ) (push : Push) : Type 0 where
   pub y : slice_index v.y k ≡ push.y
   pub z : slice_index v.z k ≡ push.z
 
--- a push of this size along an image, or against it where the atoms are drawn together
+-- a push of this size along an image, or against it where it is attractive
 abbrev pub signed_push : Bool → ℕ → ℕ → ℕ
 signed_push together image size =
     if nat_le (2 ^ 31) image then (if together then size else ring_difference 0 size)

@@ -1,4 +1,4 @@
--- A quick test of which places are out of reach, by the coordinates of a block in grains of a few ring units.
+-- A quick test of which places are out of reach, by the coordinates of a block in grains.
 use Rattle.std.specs.Prelude.{ℕ, Bool, ◌+◌, ◌*◌, ◌^◌, ◌≡◌, ◌<◌, ◌≤◌, false, List, length, slice_index}
 use Rattle.lj_ring.specs.declared.coordinates.Place.{Place}
 use Rattle.lj_ring.specs.Ring.{IsOnRing, place_at}
@@ -25,16 +25,15 @@ pub record IsInside (bounds : Bounds) (p : Place) : Type 0 where
   pub z : grains_apart (grains 16 p.z) bounds.z.middle ≤ bounds.z.half
   pub ring : IsOnRing p
 
--- no pair interacts, by a test of squared distances, whose squared distance is `reach` less 3, in units of 2^16 square
--- grains, or more
+-- no pair interacts from the squared distance `reach - 3` on, in units of 2^16 square grains
 abbrev pub IsReach : (ℕ → Bool) → ℕ → ℕ → Type 0
 IsReach interact grain reach = (s : ℕ) → reach * square_unit grain ≤ s + 3 * square_unit grain → interact s ≡ false
 
--- no pair interacts that is 2048 grains apart, or more
+-- no pair interacts from 2048 grains on
 abbrev pub SpansFew : (ℕ → Bool) → ℕ → Type 0
 SpansFew interact grain = (s : ℕ) → 2 ^ 11 * 2 ^ grain * (2 ^ 11 * 2 ^ grain) ≤ s → interact s ≡ false
 
--- the columns are those of the places, and what they take for out of reach is
+-- the columns are those of the places, and no pair interacts beyond their reach
 pub record HasColumns (interact : ℕ → Bool) (columns : Columns) (places : List Place) : Type 0 where
   pub grain : columns.grain ≤ 16
   pub reach : IsReach interact columns.grain columns.reach

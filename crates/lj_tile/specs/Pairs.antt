@@ -16,7 +16,7 @@ use Rattle.lj_tile.specs.Tiles.{place_at}
 use Rattle.lj_ring.specs.declared.coordinates.Place.{Place}
 use Rattle.lj_tile.specs.declared.sums.ForceSums.{ForceSums}
 
--- the members of a set of numbers that are below n, in order
+-- the members of a set that are below n, in order
 unfoldable pub members : ℕ → ℕ → List ℕ
 members set zero = []
 members set (suc n) = if is_in set n then members set n ++ n ∷ [] else members set n
@@ -33,7 +33,7 @@ first_of pair = pair / BLOCK
 abbrev pub second_of : ℕ → ℕ
 second_of pair = pair % BLOCK
 
--- the pairs are of places of two blocks
+-- each pair has a place of the first block and one of the second
 pub record ArePairs (a b : List Place) (pairs : List ℕ) : Type 0 where
   pub first : (i : ℕ) → i < length pairs → first_of (slice_index_or pairs i 0) < length a
   pub second : (i : ℕ) → i < length pairs → second_of (slice_index_or pairs i 0) < length b
@@ -48,16 +48,16 @@ abbrev pub push_on_second : Scale → (a b : List Place) → ℕ → ℕ → Pus
 push_on_second u a b s pair =
     if second_of pair == s then push u (place_at b (second_of pair)) (place_at a (first_of pair)) else no_push
 
--- the sum of pushes of the pairs of a list
+-- the sum of the pushes of the pairs of a list
 unfoldable pub sum_of_pairs : (ℕ → Push) → List ℕ → Push
 sum_of_pairs f [] = no_push
 sum_of_pairs f (pair ∷ pairs) = sum_of_pushes (f pair) (sum_of_pairs f pairs)
 
--- a sum comes from an older one by the pushes of the pairs of a list
+-- the new sum is the old one plus the pushes of the pairs of a list
 abbrev pub IsMore : (ℕ → Push) → List ℕ → (old new : Push) → Type 0
 IsMore f pairs old new = sum_of_pushes new no_push ≡ sum_of_pushes old (sum_of_pairs f pairs)
 
--- the sums of two blocks' places have the pushes of the pairs of a list, of one class, more
+-- the new sums of both blocks' places are the old ones plus the pushes of the pairs of a list, of one class
 pub record HavePushes (u : Scale) (a b : List Place) (pairs : List ℕ) (old new : ForceSums) : Type 0 where
   pub first : (t : ℕ) → t < BLOCK
       → IsMore (push_on_first u a b t) pairs (slice_index_or old.first t no_push) (slice_index_or new.first t no_push)
@@ -70,11 +70,11 @@ pub record HavePushes (u : Scale) (a b : List Place) (pairs : List ℕ) (old new
 abbrev pub AreOnRing : List Place → Type 0
 AreOnRing places = (k : ℕ) → k < length places → IsOnRing (place_at places k)
 
--- a sum and the pushes of the pairs that are still to be added
+-- a sum plus the pushes of the pairs that are still to be added
 abbrev pub total : (ℕ → Push) → List ℕ → Push → Push
 total f pairs sum = sum_of_pushes sum (sum_of_pairs f pairs)
 
--- the sums of two blocks' places with what the pairs of a list, of one class, are still to add are the same as before
+-- the sums of both blocks' places plus the pairs still to be added, all of one class, are as before
 pub record HaveTotals (u : Scale) (a b : List Place) (before after : List ℕ) (old new : ForceSums) : Type 0 where
   pub first : (t : ℕ) → t < BLOCK
       → total (push_on_first u a b t) after (slice_index_or new.first t no_push)
@@ -85,11 +85,11 @@ pub record HaveTotals (u : Scale) (a b : List Place) (before after : List ℕ) (
   pub firsts : length new.first ≡ length old.first
   pub seconds : length new.second ≡ length old.second
 
--- a sum and the pushes of the pairs of two lists, each of one class, that are still to be added
+-- a sum plus the pushes of the pairs of two lists that are still to be added, each list of one class
 abbrev pub total_of_two : (f g : ℕ → Push) → (ps qs : List ℕ) → Push → Push
 total_of_two f g ps qs sum = total g qs (total f ps sum)
 
--- the same with the pushes of row t more
+-- the sums of both blocks' places plus the pairs still to be added have grown by the pushes of row t
 pub record HaveRow (w : Task) (u v : Scale) (t : ℕ) (ps qs ps_after qs_after : List ℕ) (old new : ForceSums) : Type 0 where
   pub first : (k : ℕ) → k < BLOCK
       → total_of_two (push_on_first u w.a.places w.b.places k) (push_on_first v w.a.places w.b.places k) ps_after qs_after
@@ -106,21 +106,21 @@ pub record HaveRow (w : Task) (u v : Scale) (t : ℕ) (ps qs ps_after qs_after :
   pub firsts : length new.first ≡ length old.first
   pub seconds : length new.second ≡ length old.second
 
--- the push of a row of a set on place s of the second block, and none of a row that is not in the set
+-- the push of row t on place s of the second block if the row is in a set, else none
 abbrev pub row_on_second : Task → ℕ → ℕ → ℕ → Push
 row_on_second w rows s t = if is_in rows t then push_back w t s else no_push
 
--- the sum of the pushes on place s of the second block of those of the first n rows that are in a set
+-- the sum of the pushes on place s of the second block of the rows below n that are in a set
 unfoldable pub rows_on_second : Task → ℕ → ℕ → ℕ → Push
 rows_on_second w rows s zero = no_push
 rows_on_second w rows s (suc n) = sum_of_pushes (rows_on_second w rows s n) (row_on_second w rows s n)
 
--- the sum of the pushes on place t of the first block, where it is one of the first n rows and in a set
+-- the sum of the pushes on place t of the first block if it is a row below n in a set, else none
 abbrev pub rows_on_first : Task → ℕ → ℕ → ℕ → Push
 rows_on_first w rows t n = if nat_lt t n && is_in rows t then sum_on_first w t (length w.b.places) else no_push
 
--- the sums of a task's places with what the pairs of two lists are still to add, those with atoms of the first species and
--- those with atoms of the second, have more by the first n rows that are in a set
+-- the sums of both blocks' places plus the pairs still to be added have grown by the rows below n that are in a set;
+-- the pairs are in two lists, with atoms of the first species and with atoms of the second
 pub record HaveRows (w : Task) (u v : Scale) (rows n : ℕ) (ps qs ps_after qs_after : List ℕ) (old new : ForceSums) : Type 0 where
   pub first : (t : ℕ) → t < BLOCK
       → total_of_two (push_on_first u w.a.places w.b.places t) (push_on_first v w.a.places w.b.places t) ps_after qs_after
@@ -137,12 +137,12 @@ pub record HaveRows (w : Task) (u v : Scale) (rows n : ℕ) (ps qs ps_after qs_a
   pub firsts : length new.first ≡ length old.first
   pub seconds : length new.second ≡ length old.second
 
--- the rows of a set are of places of the first block whose atoms are of one species
+-- the rows of a set are places of the first block whose atoms are of one species
 pub record AreRowsOf (w : Task) (own : Species) (rows : ℕ) : Type 0 where
   pub within : (t : ℕ) → bit_at rows t ≡ 1 → t < length w.a.places
   pub species : (t : ℕ) → bit_at rows t ≡ 1 → species_at w.a.seconds t ≡ own
 
--- the scale of an atom of a species with one of another
+-- the scale of a pair of two species
 abbrev pub scale_between : Task → Species → Species → Scale
 scale_between w own other = (class_of w.mix own other).scale
 

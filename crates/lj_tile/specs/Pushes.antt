@@ -7,15 +7,15 @@ use Rattle.lj_ring.specs.declared.mixes.Class.{Class}
 use Rattle.lj_table.specs.Entries.{push_at, energy_at, weighted_energy}
 use Rattle.lj_tile.specs.declared.pairs.Push.{Push}
 
--- no push
+-- the push that is 0
 abbrev pub no_push : Push
 no_push = record { x = 0; y = 0; z = 0 }
 
--- a push along one axis on the ring: table entry times step factor times image, in units of 2^-56, toward zero
+-- a push along one axis on the ring: table entry times step factor times image over 2^56, toward zero
 abbrev pub push_along : Scale → ℤ → ℤ → ℕ
 push_along u entry image = ring_residue (int_div (entry *ℤ pos u.strength *ℤ image) (pos (2 ^ 56)))
 
--- the push on an atom at p of an atom at q: along the images of p - q, and 0 where the pair does not interact
+-- the push on an atom at p by an atom at q: along the images of p - q, and 0 where the pair does not interact
 unfoldable pub push : Scale → Place → Place → Push
 push u p q =
     let entry = push_at u (distance p q) in
@@ -25,11 +25,11 @@ push u p q =
       z = push_along u entry (image p.z q.z);
     }
 
--- the energy of the pair by the weight of its class, in units of 2^-24 ε and toward zero: 0 where it does not interact
+-- the energy of a pair times the weight of its class, in units of 2^-24 ε and toward zero: 0 where it does not interact
 abbrev pub energy : Class → Place → Place → ℤ
 energy k p q = weighted_energy k.weight (energy_at k.scale (distance p q))
 
--- the same push the other way
+-- the push in the opposite direction
 abbrev pub opposite_push : Push → Push
 opposite_push p = record { x = ring_difference 0 p.x; y = ring_difference 0 p.y; z = ring_difference 0 p.z }
 

@@ -1,11 +1,11 @@
--- The sums that a result keeps.
+-- The sums that a result stores.
 use Rattle.std.specs.Prelude.{ℕ, ◌≡◌, ◌<◌, length, slice_index_or}
 use Rattle.lj_tile.specs.declared.names.Kind.TheVariants.{Force, Energy}
 use Rattle.lj_tile.specs.declared.results.Sums.{Sums}
 use Rattle.lj_tile.specs.Pushes.{no_push}
 use Rattle.lj_tile.specs.Task.{Task, IsTask, task_force, task_second, task_energy}
 
--- the sums are the value of the task: those of pushes of a force task, that of energies of an energy task
+-- the sums are the value of the task: pushes for a force task, an energy for an energy task
 pub record AreSums (w : Task) (sums : Sums) : Type 0 where
   pub sound : IsTask w
   pub first : w.name.kind ≡ Force → (t : ℕ) → t < length w.a.places

@@ -10,15 +10,15 @@ use Rattle.lj_tile.specs.Species.{is_in}
 use Rattle.lj_tile.specs.Tiles.{place_at, chosen_push, chosen_energy}
 use Rattle.lj_tile.specs.Task.{Task, are_in_order, class_in}
 
--- the push on place t of the first block of place s of the second, where the two are such a pair
+-- the push by place s of the second block on place t of the first if the atom of s is the later one, else none
 abbrev pub push_of : Task → ℕ → ℕ → Push
 push_of w t s = chosen_push (class_in w t s).scale (are_in_order w t s) (place_at w.a.places t) (place_at w.b.places s)
 
--- the push the other way
+-- the push by place t of the first block on place s of the second if the atom of s is the later one, else none
 abbrev pub push_back : Task → ℕ → ℕ → Push
 push_back w t s = chosen_push (class_in w t s).scale (are_in_order w t s) (place_at w.b.places s) (place_at w.a.places t)
 
--- the ring sum of the pushes on place t of the first block of the first n places of the second
+-- the ring sum of the pushes on place t of the first block by the first n places of the second
 abbrev pub sum_on_first : Task → ℕ → ℕ → Push
 sum_on_first w t n = record {
   x = ring_sum n (λ s. (push_of w t s).x);
@@ -26,7 +26,7 @@ sum_on_first w t n = record {
   z = ring_sum n (λ s. (push_of w t s).z);
 }
 
--- the ring sum of the pushes on place s of the second block of the first n places of the first
+-- the ring sum of the pushes on place s of the second block by the first n places of the first
 abbrev pub sum_on_second : Task → ℕ → ℕ → Push
 sum_on_second w s n = record {
   x = ring_sum n (λ t. (push_back w t s).x);
@@ -34,25 +34,25 @@ sum_on_second w s n = record {
   z = ring_sum n (λ t. (push_back w t s).z);
 }
 
--- the energy that place t of the first block and place s of the second add
+-- the energy of place t of the first block with place s of the second
 abbrev pub energy_of : Task → ℕ → ℕ → ℤ
 energy_of w t s = chosen_energy (class_in w t s) (are_in_order w t s) (place_at w.a.places t) (place_at w.b.places s)
 
--- places t and s do not push each other, and add no energy
+-- the push and the energy of places t and s are 0
 pub record IsSilent (w : Task) (t s : ℕ) : Type 0 where
   pub there : push_of w t s ≡ no_push
   pub back : push_back w t s ≡ no_push
   pub energy : energy_of w t s ≡ pos 0
 
--- the sums of the second block's places have the pushes of the first t places of the first
+-- the sums of the second block's places are the pushes by the first t places of the first
 abbrev pub AreRows : Task → ℕ → List Push → Type 0
 AreRows w t sums = (s : ℕ) → s < length w.b.places → slice_index_or sums s no_push ≡ sum_on_second w s t
 
--- the push of place s of a block on an atom `here`, where the place is in a set
+-- the push by place s of a block on an atom `here`, if the place is in a set
 abbrev pub push_in : Scale → ℕ → Place → List Place → ℕ → Push
 push_in u set here places s = chosen_push u (is_in set s) here (place_at places s)
 
--- the ring sum of those of the first n places
+-- the ring sum of the pushes by the first n places
 abbrev pub pushes_in : Scale → ℕ → Place → List Place → ℕ → Push
 pushes_in u set here places n = record {
   x = ring_sum n (λ s. (push_in u set here places s).x);
@@ -60,11 +60,11 @@ pushes_in u set here places n = record {
   z = ring_sum n (λ s. (push_in u set here places s).z);
 }
 
--- a sum of pushes, to which the push comes of an atom `here` on one at `there`, if it does
+-- a sum of pushes, with the push by an atom `here` on one at `there` added if `pushes`
 abbrev pub push_if : Bool → Scale → Place → Place → Push → Push
 push_if pushes u here there sum = if pushes then sum_of_pushes sum (push u there here) else sum
 
--- the sums of places of a block below n have the push of an atom `here` more, where the place is in a set
+-- the sums of places of a block below n have grown by the push of an atom `here`, where the place is in a set
 pub record ArePushed (u : Scale) (set : ℕ) (here : Place) (places : List Place) (n : ℕ) (old new : List Push) : Type 0 where
   pub passed : (s : ℕ) → s < length places → s < n
       → slice_index_or new s no_push
@@ -76,10 +76,10 @@ pub record ArePushed (u : Scale) (set : ℕ) (here : Place) (places : List Place
 abbrev pub energy_row : Task → ℕ → ℤ
 energy_row w t = int_sum_below (length w.b.places) (energy_of w t)
 
--- the energy of an atom `here` with place s of a block, where the place is in a set
+-- the energy of an atom `here` with place s of a block, if the place is in a set
 abbrev pub energy_in : Class → ℕ → Place → List Place → ℕ → ℤ
 energy_in class set here places s = chosen_energy class (is_in set s) here (place_at places s)
 
--- the sum of those of the first n places
+-- the sum of the energies with the first n places
 abbrev pub energies_in : Class → ℕ → Place → List Place → ℕ → ℤ
 energies_in class set here places n = int_sum_below n (energy_in class set here places)

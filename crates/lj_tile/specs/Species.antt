@@ -1,4 +1,4 @@
--- Which atoms are of the second species, and the class of two atoms.
+-- The bits of the atoms of the second species, and the class of two atoms.
 use Rattle.std.specs.Prelude.{ℕ, ◌==◌, Bool, if◌then◌else◌}
 use Rattle.std.specs.Int.{bit_at}
 use Rattle.lj_ring.specs.declared.mixes.Class.{Class}
@@ -6,19 +6,19 @@ use Rattle.lj_ring.specs.declared.mixes.Species.{Species}
 use Rattle.lj_ring.specs.declared.mixes.Species.TheVariants.{First, Second}
 use Rattle.lj_ring.specs.Mix.{Mix, class_of}
 
--- a number is in a set of numbers, which is itself a number: its bit of that place is 1
+-- i is in a set of numbers: bit i of the set is 1
 abbrev pub is_in : ℕ → ℕ → Bool
 is_in set i = bit_at set i == 1
 
--- the species of an atom that is in the set of those of the second, or is not
+-- the second species, or the first
 abbrev pub species_if : Bool → Species
 species_if second = if second then Second else First
 
--- the species of atom i, by the set of those of the second species
+-- the species of atom i, by the bits of the atoms of the second species
 abbrev pub species_at : ℕ → ℕ → Species
 species_at seconds i = species_if (is_in seconds i)
 
--- what the atoms of a simulation are: a mixture, and the set of those of the second species
+-- the composition of a simulation: its mixture, and the bits of the atoms of the second species
 pub record Composition : Type 0 where
   pub mix : Mix
   pub seconds : ℕ

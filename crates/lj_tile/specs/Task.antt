@@ -1,4 +1,4 @@
--- What a task stands for, and its value.
+-- A task and its value.
 use Rattle.std.specs.Prelude.{ℕ, ◌+◌, ◌*◌, ◌==◌, ◌≡◌, ◌<◌, ◌≤◌, Bool, not, nat_lt, ℤ, length}
 use Rattle.lj_ring.specs.Ring.{int_sum_below}
 use Rattle.lj_ring.specs.declared.mixes.Class.{Class}
@@ -21,11 +21,11 @@ pub record Task : Type 0 where
 abbrev pub atom : ℕ → ℕ → ℕ
 atom n t = BLOCK * n + t
 
--- place t of the first block and place s of the second are of different atoms
+-- place t of the first block and place s of the second hold different atoms
 abbrev pub are_apart : Task → ℕ → ℕ → Bool
 are_apart w t s = not (atom w.name.bi t == atom w.name.bj s)
 
--- place t of the first block is of an atom of lesser number than place s of the second
+-- the atom at place t of the first block has a lesser number than the one at place s of the second
 abbrev pub are_in_order : Task → ℕ → ℕ → Bool
 are_in_order w t s = nat_lt (atom w.name.bi t) (atom w.name.bj s)
 
@@ -33,11 +33,11 @@ are_in_order w t s = nat_lt (atom w.name.bi t) (atom w.name.bj s)
 abbrev pub class_in : Task → ℕ → ℕ → Class
 class_in w t s = class_of w.mix (species_at w.a.seconds t) (species_at w.b.seconds s)
 
--- the value of a force task, for place t of its first block: the ring sum of the pushes of the second's other atoms
+-- the value of a force task for place t of its first block: the ring sum of the pushes by the second's other atoms
 abbrev pub task_force : Task → ℕ → Push
 task_force w t = push_sum (class_in w t) (place_at w.a.places t) w.b.places (are_apart w t)
 
--- its value for place s of its second block: the ring sum of the pushes of the first's other atoms
+-- its value for place s of its second block: the ring sum of the pushes by the first's other atoms
 abbrev pub task_second : Task → ℕ → Push
 task_second w s = push_sum (λ t. class_in w t s) (place_at w.b.places s) w.a.places (λ t. are_apart w t s)
 
@@ -48,7 +48,7 @@ task_energy w =
     int_sum_below (length w.a.places) (λ t.
     chosen_energy (class_in w t s) (are_in_order w t s) (place_at w.a.places t) (place_at w.b.places s)))
 
--- what is true of each task: its blocks have 1 to 64 places, one block is the same twice, and the blocks are in order
+-- a task's blocks have 1 to 64 places and are in order, and a block with itself is the same twice
 pub record IsTask (w : Task) : Type 0 where
   pub some_first : 1 ≤ length w.a.places
   pub some_second : 1 ≤ length w.b.places

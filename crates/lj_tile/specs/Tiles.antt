@@ -1,4 +1,5 @@
--- Tiles, which a step over all pairs of atoms is cut into, and covers: lists of tiles that leave no pair out.
+-- Tiles, into which a step over all pairs of atoms is divided, and covers: lists of tiles that have each interacting
+-- pair once.
 use Rattle.std.specs.Prelude.{ℕ, ◌/◌, ◌==◌, ◌&&◌, ◌||◌, ◌≡◌, ◌≢◌, ◌<◌, ◌≤◌, Bool, true, false, not, nat_lt, ℤ, pos, List}
 use Rattle.std.specs.Prelude.{length, count_by, if◌then◌else◌}
 use Rattle.lj_ring.specs.declared.coordinates.Place.{Place}
@@ -11,15 +12,15 @@ use Rattle.lj_tile.specs.declared.pairs.Push.{Push}
 use Rattle.lj_tile.specs.Pushes.{push, no_push, energy}
 use Rattle.lj_tile.specs.Species.{Composition, class_between}
 
--- the push on an atom at p of the atom at q where the two are a chosen pair, and none where they are not
+-- the push on an atom at p by the atom at q if the pair is chosen, else none
 abbrev pub chosen_push : Scale → Bool → Place → Place → Push
 chosen_push u chosen p q = if chosen then push u p q else no_push
 
--- the energy of a chosen pair, and 0 of one that is not
+-- the energy of a pair if it is chosen, else 0
 abbrev pub chosen_energy : Class → Bool → Place → Place → ℤ
 chosen_energy k chosen p q = if chosen then energy k p q else pos 0
 
--- the sum on the ring of the pushes on an atom at p of those atoms of a list that are chosen, each by its class
+-- the ring sum of the pushes on an atom at p by the chosen atoms of a list, each by its class
 unfoldable pub push_sum : (ℕ → Class) → Place → List Place → (ℕ → Bool) → Push
 push_sum class p places chosen = record {
   x = ring_sum (length places) (λ j. (chosen_push (class j).scale (chosen j) p (place_at places j)).x);
@@ -27,7 +28,7 @@ push_sum class p places chosen = record {
   z = ring_sum (length places) (λ j. (chosen_push (class j).scale (chosen j) p (place_at places j)).z);
 }
 
--- a tile is a set of ordered pairs of atoms, each atom by its number: the pairs that the test picks
+-- a tile: a set of ordered pairs of atoms, by their numbers
 abbrev pub Tile : Type 0
 Tile = ℕ → ℕ → Bool
 
@@ -41,7 +42,7 @@ tile_energy c frame tile =
     int_sum_below (length frame) (λ j.
     int_sum_below j (λ i. chosen_energy (class_between c i j) (tile i j) (place_at frame i) (place_at frame j)))
 
--- in how many tiles of a list the pair lies
+-- how many tiles of a list contain the pair
 abbrev pub times : ℕ → ℕ → List Tile → ℕ
 times i j tiles = count_by (λ tile. tile i j) tiles
 
@@ -57,16 +58,16 @@ pub record IsForceCover (c : Composition) (frame : List Place) (tiles : List Til
       → times i j tiles ≤ 1
   pub itself : (i : ℕ) → i < length frame → times i i tiles ≡ 0
 
--- a cover for energies: the same of the pairs i < j
+-- a cover for energies: the same for the pairs i < j
 pub record IsEnergyCover (c : Composition) (frame : List Place) (tiles : List Tile) : Type 0 where
   pub near : (i j : ℕ) → i < j → j < length frame → are_near c frame i j ≡ true → times i j tiles ≡ 1
   pub far : (i j : ℕ) → i < j → j < length frame → are_near c frame i j ≡ false → times i j tiles ≤ 1
 
--- the block that an atom stands in
+-- the block of an atom
 abbrev pub block_of : ℕ → ℕ
 block_of i = i / BLOCK
 
--- one atom stands in the one block, and the other in the other
+-- one atom is in block bi and the other in block bj
 abbrev pub are_between : ℕ → ℕ → ℕ → ℕ → Bool
 are_between bi bj i j = block_of i == bi && block_of j == bj || block_of i == bj && block_of j == bi
 

@@ -1,4 +1,4 @@
--- Two atoms 1.5 sigma apart in a box of 256 sigma, as one block and as two: values of tasks as theorems by computation.
+-- Worked examples: two atoms 1.5 sigma apart in a box of 256 sigma, as one block and as two.
 use Rattle.std.specs.Prelude.{◌≡◌, ◌∷◌, [], ℕ, true, pos, negsuc, List, refl}
 use Rattle.lj_ring.specs.declared.coordinates.Place.{Place}
 use Rattle.lj_ring.specs.Mix.{pure_mix}
@@ -16,7 +16,7 @@ use Rattle.lj_tile.specs.Rows.{sum_on_first, sum_on_second}
 abbrev pub dimer_units : Scale
 dimer_units = record { edge = 256000000000; sigma = 16777216; strength = 131072 }
 
--- atoms that are all alike
+-- two atoms of one species
 abbrev pub dimer : Composition
 dimer = record { mix = pure_mix dimer_units; seconds = 0 }
 
@@ -45,7 +45,7 @@ task_of kind bi bj first second = record {
   b = record { places = second; seconds = 0 };
 }
 
--- in one block each atom is pushed by the other, and not by itself
+-- in one block each atom is pushed by the other and not by itself
 pub one_block_left : task_force (task_of Force 0 0 both both) 0 ≡ record { x = 589; y = 0; z = 0 }
 unfolding push_sum push push_entry
 one_block_left = refl
@@ -63,12 +63,12 @@ pub second_block : task_second (task_of Force 1 3 left right) 0 ≡ record { x =
 unfolding push_sum push push_entry
 second_block = refl
 
--- of one block twice the two are the same
+-- for one block twice the two sums are the same
 pub one_block_second : task_second (task_of Force 0 0 both both) 1 ≡ record { x = 4294966707; y = 0; z = 0 }
 unfolding push_sum push push_entry
 one_block_second = refl
 
--- so they are sums over the pairs i < j: of one block those of an atom with the later ones, and with the earlier ones
+-- sums over the pairs i < j: in one block those of an atom with the later ones, and with the earlier ones
 pub row_left : sum_on_first (task_of Force 0 0 both both) 0 2 ≡ record { x = 589; y = 0; z = 0 }
 unfolding push push_entry
 row_left = refl
@@ -81,7 +81,7 @@ pub row_right_later : sum_on_first (task_of Force 0 0 both both) 1 2 ≡ record 
 unfolding push push_entry
 row_right_later = refl
 
--- the pair counts once, whether its atoms stand in one block or in two
+-- the pair counts once, in one block and in two
 pub one_block_energy : task_energy (task_of Energy 0 0 both both) ≡ negsuc 5349131
 unfolding task_energy energy_entry
 one_block_energy = refl
@@ -94,7 +94,7 @@ two_blocks_energy = refl
 pub tile_both_ways : force_tile 0 1 70 3 ≡ true
 tile_both_ways = refl
 
--- on a frame of these two atoms the tile of their block with itself, and that of another block, with no pair of them
+-- the value for this frame of the tile of their block with itself, and of a tile without a pair of them
 pub tile_left : tile_force dimer both (force_tile 0 0) 0 ≡ record { x = 589; y = 0; z = 0 }
 unfolding push_sum push push_entry
 tile_left = refl

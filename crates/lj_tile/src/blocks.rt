@@ -10,8 +10,8 @@ use std::simd::prelude::*;
 /// The most atoms of a block.
 pub const BLOCK: usize = 64;
 
-/// A block of places of atoms that stand next to each other in the file, at most `BLOCK`. Bit `t` of `seconds` tells
-/// whether the atom at place `t` is of the second species.
+/// A block of places of atoms that stand next to each other in the file, at most `BLOCK`. Bit `t` of `seconds` is 1 if
+/// the atom at place `t` is of the second species.
 #[derive(PartialEq, Eq, Debug, Drop)]
 pub struct Block {
     places: ArrayVec<Place, BLOCK>,
@@ -29,7 +29,7 @@ impl Model for Block {
 }
 
 impl Block {
-    /// The block of these places, of which those of the second species are told by their bits.
+    /// Makes a block of these places; the bits of `seconds` mark those of the second species.
     pub fn new(places: &[Place], seconds: u64) -> Block
         requires { length places.now ≤ BLOCK }
         ensures { result ≡ record { places = places.now; seconds = seconds } }
@@ -42,7 +42,7 @@ impl Block {
         block
     }
 
-    /// Its places, in order.
+    /// Returns the places, in order.
     #[inline]
     pub fn places(&self) -> &[Place]
         ensures value { result.now ≡ self.now.places }
@@ -51,7 +51,7 @@ impl Block {
         self.places.as_slice()
     }
 
-    /// Which of its places are of atoms of the second species, bit by bit.
+    /// Returns which places are of atoms of the second species, bit by bit.
     #[inline]
     pub fn seconds(&self) -> u64
         ensures { result ≡ self.now.seconds }
@@ -59,7 +59,7 @@ impl Block {
         self.seconds
     }
 
-    /// An equal block.
+    /// Returns an equal block.
     pub fn copy(&self) -> Block
         ensures { result ≡ self.now }
     {
@@ -73,7 +73,7 @@ impl Block {
         self.remake(other.places(), other.seconds());
     }
 
-    /// Makes this the block of these places, of which those of the second species are told by their bits.
+    /// Makes this the block of these places; the bits of `seconds` mark those of the second species.
     pub fn remake(&mut self, places: &[Place], seconds: u64)
         requires { length places.now ≤ BLOCK }
         ensures { self.new ≡ record { places = places.now; seconds = seconds } }
@@ -87,7 +87,7 @@ impl Block {
         self.seconds = seconds;
     }
 
-    /// Whether it is the block of these places and species.
+    /// Returns whether this is the block of these places and species.
     #[inline]
     pub fn has(&self, places: &[Place], seconds: u64) -> bool
         ensures { IsTrue result ↔ (self.now ≡ record { places = places.now; seconds = seconds }) }
@@ -95,7 +95,7 @@ impl Block {
         self.seconds() == seconds && are_same(self.places(), places)
     }
 
-    /// Whether the other block is equal.
+    /// Returns whether the other block is equal.
     pub fn is(&self, other: &Block) -> bool
         ensures { IsTrue result ↔ (self.now ≡ other.now) }
     {
@@ -110,7 +110,7 @@ fn are_same(a: &[Place], b: &[Place]) -> bool
     a.len() == b.len() && is_same_list(a, b)
 }
 
-/// Whether two lists of one length have the same places. It looks at each of them, so that several are compared at once.
+/// Returns whether two lists of one length have the same places. It compares all of them, several at once.
 #[inline]
 fn is_same_list(a: &[Place], b: &[Place]) -> bool
     requires { length a.now ≡ length b.now }
@@ -120,8 +120,8 @@ fn is_same_list(a: &[Place], b: &[Place]) -> bool
     is_same_in_fours(a, b, fours) & is_same_from(a, b, 4 * fours)
 }
 
-/// Whether the first places of two lists are the same, so many times four. What differs is kept in lanes, and looked at
-/// once.
+/// Returns whether the first `4 * fours` places of two lists are the same. It gathers the differences in lanes, and
+/// tests them once at the end.
 #[inline]
 fn is_same_in_fours(a: &[Place], b: &[Place], fours: usize) -> bool
     requires count { length a.now ≡ length b.now }
@@ -136,7 +136,7 @@ fn is_same_in_fours(a: &[Place], b: &[Place], fours: usize) -> bool
     has_none(differences)
 }
 
-/// The bits in which the coordinates of the four places from one on differ, in lanes.
+/// Returns the bits in which the coordinates of four places, from `from` on, differ, in lanes.
 #[inline(always)]
 fn differences_of_four(a: &[Place], b: &[Place], from: usize) -> u32x4
     requires count { length a.now ≡ length b.now }
@@ -159,7 +159,7 @@ fn differences_of_four(a: &[Place], b: &[Place], from: usize) -> u32x4
     either(either(first, middle), last)
 }
 
-/// The first four coordinates of four places, as they lie.
+/// Returns the first four coordinates of four places, in their order in memory.
 #[inline(always)]
 fn first_lanes(first: &Place, second: &Place) -> u32x4
     ensures { result ≡ first.now.x ∷ first.now.y ∷ first.now.z ∷ second.now.x ∷ [] }
@@ -167,7 +167,7 @@ fn first_lanes(first: &Place, second: &Place) -> u32x4
     u32x4::from_array([first.x, first.y, first.z, second.x])
 }
 
-/// The middle four coordinates of four places, as they lie.
+/// Returns the middle four coordinates of four places, in their order in memory.
 #[inline(always)]
 fn middle_lanes(second: &Place, third: &Place) -> u32x4
     ensures { result ≡ second.now.y ∷ second.now.z ∷ third.now.x ∷ third.now.y ∷ [] }
@@ -175,7 +175,7 @@ fn middle_lanes(second: &Place, third: &Place) -> u32x4
     u32x4::from_array([second.y, second.z, third.x, third.y])
 }
 
-/// The last four coordinates of four places, as they lie.
+/// Returns the last four coordinates of four places, in their order in memory.
 #[inline(always)]
 fn last_lanes(third: &Place, fourth: &Place) -> u32x4
     ensures { result ≡ third.now.z ∷ fourth.now.x ∷ fourth.now.y ∷ fourth.now.z ∷ [] }
@@ -183,7 +183,7 @@ fn last_lanes(third: &Place, fourth: &Place) -> u32x4
     u32x4::from_array([third.z, fourth.x, fourth.y, fourth.z])
 }
 
-/// The bits in which two vectors differ.
+/// Returns the bits in which two vectors differ.
 #[inline(always)]
 fn differences(a: u32x4, b: u32x4) -> u32x4
     ensures { has_none result ≡ are_same_lanes a b }
@@ -191,7 +191,7 @@ fn differences(a: u32x4, b: u32x4) -> u32x4
     a ^ b
 }
 
-/// The bits that are set in one of two vectors, or in both.
+/// Returns the bits that are set in one of two vectors, or in both.
 #[inline(always)]
 fn either(a: u32x4, b: u32x4) -> u32x4
     ensures { has_none result ≡ (has_none a && has_none b) }
@@ -199,7 +199,7 @@ fn either(a: u32x4, b: u32x4) -> u32x4
     a | b
 }
 
-/// Whether no bit is set.
+/// Returns whether no bit is set.
 #[inline]
 fn has_none(v: u32x4) -> bool
     ensures { result ≡ has_none v }
@@ -208,7 +208,7 @@ fn has_none(v: u32x4) -> bool
     (first | second | third | fourth) == 0
 }
 
-/// Whether the places from one on are the same.
+/// Returns whether the places of two lists are the same from `from` on.
 #[inline]
 fn is_same_from(a: &[Place], b: &[Place], from: usize) -> bool
     requires count { length a.now ≡ length b.now }

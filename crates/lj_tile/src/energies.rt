@@ -1,4 +1,4 @@
-//! The sums of the energies of the pairs of a list, which are all of one class.
+//! Sums of the energies of a list of pairs of one class.
 ghost use Rattle.std.specs.Prelude.{◌≡◌, ◌≤◌, ◌<◌, ◌+◌, ◌*◌, ◌/◌, ◌^◌, ◌+ℤ◌, length, take, drop, slice_index_or, unsigned_abs};
 ghost use Rattle.lj_tile.specs.declared.near_pairs.TheConstants.{FULL};
 ghost use Rattle.lj_tile.specs.Pairs.{ArePairs};
@@ -11,7 +11,7 @@ use crate::pair_sums::{apart, first_of, second_of};
 use lj_ring::{Class, Place, dist2};
 use lj_table::Table;
 
-/// The sum of the energies of most pairs of a list, which are dropped from it: fewer than eight are left.
+/// Returns the sum of the energies of a list's pairs in whole eights, and drops these pairs: fewer than eight are left.
 pub(crate) fn energy_of_most(
     pairs: &mut NearPairs,
     first: &[Place],
@@ -33,7 +33,7 @@ pub(crate) fn energy_of_most(
     energy
 }
 
-/// The sum of the energies of all pairs of a list.
+/// Returns the sum of the energies of all pairs of a list.
 pub(crate) fn energy_of_all(
     pairs: &NearPairs,
     first: &[Place],
@@ -54,7 +54,7 @@ pub(crate) fn energy_of_all(
     sum
 }
 
-/// The sum of the energies of the pairs of a list in whole eights.
+/// Returns the sum of the energies of a list's pairs in whole eights.
 #[inline(always)]
 fn energy_of_eights(
     pairs: &NearPairs,
@@ -74,7 +74,7 @@ fn energy_of_eights(
     sum
 }
 
-/// The sum of the energies of eight pairs of a list, from `at` on, each weighted by itself.
+/// Returns the sum of the energies of eight pairs of a list, from `at` on, each weighted by itself.
 #[inline(always)]
 fn energy_of_eight(
     pairs: &NearPairs,

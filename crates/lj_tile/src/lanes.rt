@@ -1,4 +1,4 @@
-//! The pushes and the energies of eight pairs at a time, in lanes.
+//! Pushes and energies of eight pairs at a time, in lanes.
 ghost use Rattle.std.specs.Prelude.{◌≡◌, ◌≤◌, ◌<◌, ◌+◌, ◌-◌, ◌*◌, ◌/◌, ◌%◌, ◌^◌, ℕ, min, nat_lt, unsigned_abs, slice_index, slice_index_or, pos};
 ghost use Rattle.std.specs.Int.{cast_signed, w32};
 ghost use Rattle.lj_ring.specs.declared.coordinates.Place.{Place};
@@ -11,7 +11,7 @@ use lj_ring::{Class, Scale, Weight};
 use lj_table::{LAST_APART, LAST_POSITIVE, Table};
 use std::simd::prelude::*;
 
-/// Half the ring: differences from it on are images below 0.
+/// Half the ring: a difference of this or more is an image below 0.
 const HALF: u32 = 1 << 31;
 
 /// Eight places, images or pushes: their coordinates axis by axis, modulo 2^32.
@@ -22,7 +22,7 @@ pub(crate) struct Eight {
     pub(crate) z: u32x8,
 }
 
-/// The pushes of eight pairs, of which `images` has the differences of places on the ring.
+/// Returns the pushes of eight pairs; `images` has the differences of their places on the ring.
 #[inline(always)]
 pub(crate) fn pushes(images: &Eight, scale: &Scale, table: &Table) -> Eight
     ensures { (k : ℕ) (p q : Place) → k < 8 → AreApartBy images.now k p q → IsPush result k (push scale.now p q) }
@@ -39,8 +39,8 @@ pub(crate) fn pushes(images: &Eight, scale: &Scale, table: &Table) -> Eight
     }
 }
 
-/// The energies of eight pairs by the weight of their class, each toward zero, of which `images` has the differences of
-/// places on the ring.
+/// Returns the energies of eight pairs times the weight of their class, each rounded toward zero; `images` has the
+/// differences of their places on the ring.
 #[inline(always)]
 pub(crate) fn energies(images: &Eight, class: &Class, table: &Table) -> [i64; 8]
     ensures value { (k : ℕ) (p q : Place) → k < 8 → AreApartBy images.now k p q
@@ -53,7 +53,7 @@ pub(crate) fn energies(images: &Eight, class: &Class, table: &Table) -> [i64; 8]
     with_signs(weighted(table.energy_sizes(bins), class.weight), bins)
 }
 
-/// Sizes of energies by a weight in 256ths, rounded down.
+/// Multiplies sizes of energies by a weight in 256ths, and rounds down.
 #[inline(always)]
 fn weighted(sizes: u64x8, weight: Weight) -> u64x8
     requires { (k : ℕ) → k < 8 → slice_index sizes k < 2 ^ 37 }
@@ -63,7 +63,7 @@ fn weighted(sizes: u64x8, weight: Weight) -> u64x8
     in_wholes(strengthened(sizes, weight.parts()))
 }
 
-/// The energies of these sizes, which are negative in the bins behind [`LAST_POSITIVE`].
+/// Returns the energies of these sizes, negative in the bins behind [`LAST_POSITIVE`].
 #[inline(always)]
 fn with_signs(sizes: u64x8, bins: u32x8) -> [i64; 8]
     requires { (k : ℕ) → k < 8 → slice_index sizes k < 2 ^ 45 }
@@ -78,7 +78,7 @@ fn with_signs(sizes: u64x8, bins: u32x8) -> [i64; 8]
     energies
 }
 
-/// The number of this size, negative or not.
+/// Returns the number of this size, negative or not.
 #[inline(always)]
 fn with_sign(size: u64, negative: bool) -> i64
     requires { size < 2 ^ 45 }
@@ -88,7 +88,7 @@ fn with_sign(size: u64, negative: bool) -> i64
     if negative { -size } else { size }
 }
 
-/// The lengths of images.
+/// Returns the lengths of images.
 #[inline(always)]
 fn lengths(images: u32x8) -> u32x8
     ensures { (k : ℕ) → k < 8
@@ -97,7 +97,7 @@ fn lengths(images: u32x8) -> u32x8
     lesser(images, opposites(images))
 }
 
-/// Numbers below 2^37 times the step factor, by the products of their halves.
+/// Multiplies numbers below 2^37 by the step factor, through the products of their halves.
 #[inline(always)]
 fn strengthened(sizes: u64x8, strength: u32) -> u64x8
     requires small { (k : ℕ) → k < 8 → slice_index sizes k < 2 ^ 37 }
@@ -112,7 +112,7 @@ fn strengthened(sizes: u64x8, strength: u32) -> u64x8
     )
 }
 
-/// `factor * length / 2^56`, modulo 2^32.
+/// Returns `factor * length / 2^56`, modulo 2^32.
 #[inline(always)]
 fn along(factors: u64x8, lengths: u32x8) -> u32x8
     requires { (k : ℕ) → k < 8 → slice_index factors k < 2 ^ 61 }
@@ -127,7 +127,8 @@ fn along(factors: u64x8, lengths: u32x8) -> u32x8
     narrowed(low(lowered(product)))
 }
 
-/// The pushes of these sizes: along the images, and against them where the atoms are drawn together.
+/// Returns the pushes of these sizes: along the images where they are repulsive, and against them where they are
+/// attractive.
 #[inline(always)]
 fn signed(sizes: u32x8, images: u32x8, bins: u32x8) -> u32x8
     ensures { (k : ℕ) → k < 8 → slice_index result k
@@ -174,7 +175,7 @@ fn products(a: u64x8, b: u64x8) -> u64x8
     a * b
 }
 
-/// The lower halves.
+/// Returns the lower 32 bits of each lane.
 #[inline(always)]
 fn low(v: u64x8) -> u64x8
     ensures { (k : ℕ) → k < 8 → slice_index result k ≡ slice_index v k % 2 ^ 32 }
@@ -182,7 +183,7 @@ fn low(v: u64x8) -> u64x8
     v & u64x8::splat(0xffff_ffff)
 }
 
-/// The upper halves.
+/// Returns the upper 32 bits of each lane.
 #[inline(always)]
 fn high(v: u64x8) -> u64x8
     ensures { (k : ℕ) → k < 8 → slice_index result k ≡ slice_index v k / 2 ^ 32 }
@@ -190,7 +191,7 @@ fn high(v: u64x8) -> u64x8
     v >> u64x8::splat(32)
 }
 
-/// The lower halves as upper ones.
+/// Moves the lower 32 bits of each lane up.
 #[inline(always)]
 fn raised(v: u64x8) -> u64x8
     ensures { (k : ℕ) → k < 8 → slice_index result k ≡ slice_index v k * 2 ^ 32 % 2 ^ 64 }
@@ -205,7 +206,7 @@ fn lowered(v: u64x8) -> u64x8
     v >> u64x8::splat(24)
 }
 
-/// Numbers of 256ths as whole numbers, rounded down.
+/// Divides by 256, rounded down.
 #[inline(always)]
 fn in_wholes(v: u64x8) -> u64x8
     ensures { (k : ℕ) → k < 8 → slice_index result k ≡ slice_index v k / 2 ^ 8 }

@@ -1,4 +1,4 @@
-//! Pushes and energies of pairs of atoms, and the tasks that a step is cut into.
+//! Pushes and energies of pairs of atoms, and the tasks into which a step is divided.
 #![tactic(auto)]
 
 mod blocks;

@@ -4,7 +4,7 @@ ghost use Rattle.lj_tile.specs.Blank.{blank_task};
 
 use lj_base::{Label, Name};
 
-/// What a task sums: pushes or energies.
+/// The kind of sum that a task computes: of pushes or of energies.
 #[derive(Clone, Copy, PartialEq, Eq, Debug)]
 pub enum Kind {
     Force,
@@ -22,7 +22,7 @@ pub struct TaskName {
 }
 
 impl TaskName {
-    /// The name of an energy task of block 0 with itself.
+    /// Returns the name of an energy task of block 0 with itself.
     pub(crate) fn blank() -> TaskName
         ensures { result ≡ blank_task.name }
     {
@@ -38,7 +38,7 @@ impl TaskName {
         }
     }
 
-    /// The same name once more.
+    /// Returns an equal name.
     pub fn copy(&self) -> TaskName
         ensures { result ≡ self.now }
     {
@@ -51,7 +51,7 @@ impl TaskName {
         }
     }
 
-    /// Whether the other name is equal.
+    /// Returns whether the other name is equal.
     pub fn is(&self, other: &TaskName) -> bool
         ensures { IsTrue result ↔ (self.now ≡ other.now) }
     {

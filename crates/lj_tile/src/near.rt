@@ -1,4 +1,4 @@
-//! A quick test of which places of a block may be near one, all of them at once.
+//! A quick test of which places of a block may interact with a given place, in lanes.
 ghost use Rattle.std.specs.Prelude.{◌≡◌, ◌≤◌, ◌<◌, ◌+◌, ◌-◌, ◌*◌, ◌/◌, ◌%◌, ◌^◌, ℕ, Bool, List, length, slice_index};
 ghost use Rattle.std.specs.Prelude.{unsigned_abs, slice_index_or, min, max, pos, false};
 ghost use Rattle.std.specs.Int.{bit_at};
@@ -11,14 +11,14 @@ use crate::blocks::BLOCK;
 use lj_ring::{Mix, Place};
 use std::simd::prelude::*;
 
-/// The binary logarithm of the coarsest grain, of which the box has 2^16 to its edge.
+/// The binary logarithm of the coarsest grain in ring units: 2^16 of these grains make the edge.
 const COARSEST: u32 = 16;
 
-/// Bounds are narrow that on some axis reach less far than this to both sides, in coarsest grains: a quarter of the box.
+/// The half width below which bounds on some axis are narrow, in coarsest grains: a quarter of the box.
 const NARROW: u16 = 1 << 14;
 
-/// The coordinates of a block's places, and what is out of reach of them. The cutoff spans 1,024 grains at the least,
-/// and fewer than 2,048 where the grain is not the coarsest.
+/// The coordinates of a block's places, and the distance from which on no pair interacts. The cutoff is at least 1,024
+/// grains, and below 2,048 unless the grain is the coarsest.
 #[derive(Drop)]
 pub(crate) struct Columns {
     /// The places in grains.
@@ -27,13 +27,13 @@ pub(crate) struct Columns {
     whole: Lanes,
     /// The binary logarithm of the grain, at most 16.
     grain: u32,
-    /// A squared distance, in units of 2^16 square grains, from three less than which on no pair interacts.
+    /// A squared distance, in units of 2^16 square grains: no pair interacts from three units below it on.
     reach: u16,
     ghost reach_fits: { reach < 2 ^ 15 },
 }
 
-/// Coordinates of places, axis by axis, in grains round a ring of 2^16 of them. Those behind the last place are the
-/// first one's.
+/// Coordinates of places, axis by axis, in grains round a ring of 2^16 of them. The lanes behind the last place repeat
+/// the first one.
 #[derive(Clone, Copy, Drop)]
 struct Lanes {
     x: [u16; BLOCK],
@@ -41,15 +41,14 @@ struct Lanes {
     z: [u16; BLOCK],
 }
 
-/// A span of coordinates in coarsest grains: those that are no farther from its middle than its half width, round the
-/// ring.
+/// A span of coordinates in coarsest grains: those at most `half` from `middle`, round the ring.
 #[derive(Clone, Copy)]
 struct Span {
     middle: u16,
     half: u16,
 }
 
-/// Spans that places lie in, axis by axis.
+/// The spans that contain some places, one on each axis.
 #[derive(Clone, Copy)]
 struct Bounds {
     x: Span,
@@ -80,9 +79,9 @@ impl Columns {
         }
     }
 
-    /// A mask of the places: where a bit is 0, that place and `here` do not interact. Grains of a ring shorter than the
-    /// box do not tell a place from one that stands whole turns away, so what they leave is looked at in coarsest
-    /// grains too.
+    /// Returns a mask of the places: where a bit is 0, that place and `here` do not interact. A ring of fine grains is
+    /// shorter than the box and confuses places that are whole turns of it apart, so the places left are tested in
+    /// coarsest grains too.
     #[inline(always)]
     pub(crate) fn near(&self, here: &Place) -> u64
         requires { self.now.grain ≤ 16 }
@@ -97,8 +96,8 @@ impl Columns {
         near & self.whole.within(here, span_of(self.grain))
     }
 
-    /// A mask of the places of another block: where a bit is 0, that place and none of these interact. Where these
-    /// places are not narrow it is not looked for, and each bit is 1.
+    /// Returns a mask of the places of another block: where a bit is 0, that place and none of these interact. Unless
+    /// these places are narrow it makes no test, and sets each bit.
     #[inline(always)]
     pub(crate) fn rows_near(&self, rows: &[Place]) -> u64
         requires { length rows.now ≤ BLOCK }
@@ -137,8 +136,8 @@ impl Lanes {
         Lanes { x, y, z }
     }
 
-    /// A mask of the places: where a bit is 0, the squared distance of that place and `here` is not below `reach` less
-    /// 3, in units of 2^16 square grains.
+    /// Returns a mask of the places: where a bit is 0, that place and `here` are at a squared distance of `reach - 3`
+    /// or more, in units of 2^16 square grains.
     #[inline(always)]
     fn near(&self, here: &Place, grain: u32, reach: u16) -> u64
         requires grain { grain ≤ 16 }
@@ -154,7 +153,7 @@ impl Lanes {
         )
     }
 
-    /// The same of the sixteen places from `at` on.
+    /// Does the same for the sixteen places from `at` on.
     #[inline(always)]
     fn near_part(&self, at: usize, here: &Place, grain: u32, reach: u16) -> u64
         requires within { at + 16 ≤ BLOCK }
@@ -169,8 +168,8 @@ impl Lanes {
         below(x, y, z, reach)
     }
 
-    /// A mask of the places, which are in coarsest grains: where a bit is 0, that place and `here` are farther apart
-    /// than `span` grains.
+    /// Returns a mask of the places, which are in coarsest grains: where a bit is 0, that place and `here` are at least
+    /// `span` grains apart.
     #[inline]
     fn within(&self, here: &Place, span: u16) -> u64
         requires { span < 2 ^ 15 }
@@ -185,7 +184,7 @@ impl Lanes {
         )
     }
 
-    /// The same of the sixteen places from `at` on.
+    /// Does the same for the sixteen places from `at` on.
     #[inline(always)]
     fn within_part(&self, at: usize, here: &Place, span: u16) -> u64
         requires within { at + 16 ≤ BLOCK }
@@ -199,7 +198,7 @@ impl Lanes {
         less_than(x, 2 * span + 1) & less_than(y, 2 * span + 1) & less_than(z, 2 * span + 1)
     }
 
-    /// The bounds of the places, which are in coarsest grains.
+    /// Returns the bounds of the places, which are in coarsest grains.
     #[inline(always)]
     fn bounds(&self) -> Bounds
         ensures { (k : ℕ) (there : Place) → k < BLOCK → IsLane 16 self.now k there → IsInside result there }
@@ -211,8 +210,8 @@ impl Lanes {
         }
     }
 
-    /// A mask of the places, which are in coarsest grains: where a bit is 0, the squared distance of that place and each
-    /// place within the bounds is not below `reach` less 3, in units of 2^16 square grains.
+    /// Returns a mask of the places, which are in coarsest grains: where a bit is 0, that place and each place within
+    /// the bounds are at a squared distance of `reach - 3` or more, in units of 2^16 square grains.
     #[inline(always)]
     fn near_bounds(&self, bounds: &Bounds, reach: u16) -> u64
         requires { reach < 2 ^ 15 }
@@ -227,7 +226,7 @@ impl Lanes {
         )
     }
 
-    /// The same of the sixteen places from `at` on.
+    /// Does the same for the sixteen places from `at` on.
     #[inline(always)]
     fn near_bounds_part(&self, at: usize, bounds: &Bounds, reach: u16) -> u64
         requires within { at + 16 ≤ BLOCK }
@@ -242,7 +241,7 @@ impl Lanes {
     }
 }
 
-/// The first place, where there is one.
+/// Returns the first place, if there is one.
 #[inline(always)]
 fn first_of(places: &[Place]) -> Place
     ensures { 0 < length places.now → result ≡ place_at places.now 0 }
@@ -253,7 +252,7 @@ fn first_of(places: &[Place]) -> Place
     }
 }
 
-/// The binary logarithm of the grain that suits this squared reach.
+/// Returns the binary logarithm of the grain for this squared reach.
 fn grain_of(reach: u64) -> u32
     ensures most { result ≤ 16 }
     ensures few { result < 16 → reach < 2 ^ 22 * (2 ^ result * 2 ^ result) }
@@ -265,8 +264,8 @@ fn grain_of(reach: u64) -> u32
     grain
 }
 
-/// The squared distance `reach`, rounded up, in units of 2^16 square grains, and three units more, which is what
-/// coordinates in grains may add to a sum of squares.
+/// Returns the squared distance `reach`, rounded up, in units of 2^16 square grains, plus three units: rounding to
+/// grains adds less than that to a sum of squares.
 fn coarse_reach(reach: u64, grain: u32) -> u16
     requires grain { grain ≤ 16 }
     requires fits { reach ≤ 2 ^ 30 * (2 ^ grain * 2 ^ grain) }
@@ -277,7 +276,7 @@ fn coarse_reach(reach: u64, grain: u32) -> u16
     (reach.div_ceil((side * side) << 16) + 3) as u16
 }
 
-/// A span of coarsest grains that is longer than 2,048 grains.
+/// Returns a length in coarsest grains of at least 2,048 grains.
 fn span_of(grain: u32) -> u16
     requires { grain ≤ 16 }
     ensures longer { 2 ^ 11 * 2 ^ grain ≤ result * 2 ^ 16 }
@@ -286,7 +285,7 @@ fn span_of(grain: u32) -> u16
     (units_of(grain) >> 5) as u16 + 1
 }
 
-/// The ring units of a grain.
+/// Returns the ring units of a grain.
 #[inline]
 fn units_of(grain: u32) -> u64
     requires { grain ≤ 16 }
@@ -297,7 +296,7 @@ fn units_of(grain: u32) -> u64
     1 << grain
 }
 
-/// A coordinate in whole grains, round a ring of 2^16 of them.
+/// Returns a coordinate in whole grains, round a ring of 2^16 of them.
 #[inline(always)]
 fn in_grains(coordinate: u32, grain: u32) -> u16
     requires { grain ≤ 16 }
@@ -307,8 +306,8 @@ fn in_grains(coordinate: u32, grain: u32) -> u16
     ((coordinate >> grain) % (1 << 16)) as u16
 }
 
-/// The squares of the images of coordinates, of which `there` has the grains, in whole units of 2^16 square grains.
-/// They may be too great by what was cut off, less than one unit.
+/// Returns the squares of the images between `here` and the coordinates `there`, given in grains, in whole units of
+/// 2^16 square grains. Rounding makes them too great by less than one unit.
 #[inline(always)]
 fn coarse_squares(there: u16x16, here: u32, grain: u32) -> u16x16
     requires { grain ≤ 16 }
@@ -320,8 +319,8 @@ fn coarse_squares(there: u16x16, here: u32, grain: u32) -> u16x16
     square_units(differences(there, splat(in_grains(here, grain))))
 }
 
-/// The squares of how far coordinates, of which `here` has the coarsest grains, lie outside of the span, in whole units
-/// of 2^16 square grains. They may be too great by what was cut off, less than one unit.
+/// Returns the squares of the distances of coordinates `here`, given in coarsest grains, from the span, in whole units
+/// of 2^16 square grains. Rounding makes them too great by less than one unit.
 #[inline(always)]
 fn outside_squares(here: u16x16, span: Span) -> u16x16
     ensures least { (k a b : ℕ) → k < 16 → a < 2 ^ 32 → b < 2 ^ 32 → slice_index here k ≡ grains 16 a
@@ -335,7 +334,7 @@ fn outside_squares(here: u16x16, span: Span) -> u16x16
     square_units(less(length, splat(span.half)))
 }
 
-/// The span of coordinates in grains, round the ring: from the least image from the first one's to the greatest.
+/// Returns the span of coordinates in grains, round the ring: from the least to the greatest image from the first one.
 #[inline(always)]
 fn span_over(grains: &[u16; BLOCK]) -> Span
     ensures { (k : ℕ) → k < BLOCK → grains_apart (slice_index grains.now k) result.middle ≤ result.half }
@@ -354,8 +353,8 @@ fn span_over(grains: &[u16; BLOCK]) -> Span
     }
 }
 
-/// The differences of coordinates, in coarsest grains, with `span` more. They are at most twice `span` only where the
-/// image is no longer than `span` grains.
+/// Returns the differences of coordinates, in coarsest grains, plus `span`. If one is above `2 * span`, the image is at
+/// least `span` grains long.
 #[inline(always)]
 fn shifted(there: u16x16, here: u32, span: u16) -> u16x16
     requires { span < 2 ^ 15 }
@@ -380,8 +379,8 @@ fn differences(a: u16x16, b: u16x16) -> u16x16
     a - b
 }
 
-/// The squares of differences in grains, the shorter way round, in whole units of 2^16 square grains. LLVM makes one
-/// product of 16-bit lanes of these steps.
+/// Returns the squares of differences in grains, the shorter way round, in whole units of 2^16 square grains. LLVM
+/// turns these steps into one product of 16-bit lanes.
 #[inline(always)]
 fn square_units(v: u16x16) -> u16x16
     ensures { (k : ℕ) → k < 16 → let size = min (slice_index v k) (2 ^ 16 - slice_index v k) in
@@ -390,7 +389,7 @@ fn square_units(v: u16x16) -> u16x16
     narrowed(shift_by_16(squares(signed(v))))
 }
 
-/// The lanes as numbers with a sign, modulo 2^32.
+/// Returns the lanes as signed numbers, modulo 2^32.
 #[inline(always)]
 fn signed(v: u16x16) -> u32x16
     ensures { (k : ℕ) → k < 16 →
@@ -442,8 +441,8 @@ fn narrowed(v: u32x16) -> u16x16
     v.cast::<u16>()
 }
 
-/// Bit k tells whether the sum of lanes k is below `reach`: whether lane k of `z` is less than what the others leave of
-/// it. Numbers with a sign are compared in one step on any processor.
+/// Sets bit k if the sum of lanes k is below `reach`: if lane k of `z` is less than `reach` minus the others. Signed
+/// numbers are compared in one step on any processor.
 #[inline(always)]
 fn below(x: u16x16, y: u16x16, z: u16x16, reach: u16) -> u64
     requires reach { reach < 2 ^ 15 }
@@ -456,7 +455,7 @@ fn below(x: u16x16, y: u16x16, z: u16x16, reach: u16) -> u64
         .to_bitmask()
 }
 
-/// What two numbers leave of `reach`, and 0 where they are more.
+/// Subtracts two numbers from `reach`, to 0 at the least.
 #[inline(always)]
 fn left(reach: u16, x: u16x16, y: u16x16) -> u16x16
     ensures { (k : ℕ) → k < 16 → slice_index result k ≡ reach - slice_index x k - slice_index y k }
@@ -479,7 +478,7 @@ fn with_sign(v: u16x16) -> i16x16
     v.cast::<i16>()
 }
 
-/// Bit k tells whether lane k is below `bound`.
+/// Sets bit k if lane k is below `bound`.
 #[inline(always)]
 fn less_than(v: u16x16, bound: u16) -> u64
     ensures { (k : ℕ) → k < 16 → bit_at result k ≡ 0 → bound ≤ slice_index v k }
@@ -487,7 +486,7 @@ fn less_than(v: u16x16, bound: u16) -> u64
     v.simd_lt(u16x16::splat(bound)).to_bitmask()
 }
 
-/// The sixteen numbers from `at` on.
+/// Returns the sixteen numbers from `at` on.
 #[inline(always)]
 fn sixteen(numbers: &[u16; BLOCK], at: usize) -> u16x16
     requires { at + 16 ≤ BLOCK }
@@ -496,7 +495,7 @@ fn sixteen(numbers: &[u16; BLOCK], at: usize) -> u16x16
     u16x16::from_slice(&numbers[at..])
 }
 
-/// One mask of those of four times sixteen places.
+/// Joins the masks of four times sixteen places to one.
 #[inline(always)]
 fn joined(first: u64, second: u64, third: u64, fourth: u64) -> u64
     ensures first { (k : ℕ) → k < 16 → bit_at result k ≡ 0 → bit_at first k ≡ 0 }
@@ -536,7 +535,7 @@ fn greatest(v: u16x16) -> u16
     u16::MAX - least(differences(splat(u16::MAX), v))
 }
 
-/// Of the lanes of both halves, the lesser ones.
+/// Returns the lesser of lanes k and k + 8.
 #[inline(always)]
 fn lesser_of_16(v: u16x16) -> u16x8
     ensures { (k : ℕ) → k < 16 → slice_index result (k % 8) ≤ slice_index v k }

@@ -1,4 +1,4 @@
-//! Lists of the near pairs of a task, a few rows long.
+//! A list of the near pairs of a task, a few rows long.
 ghost use Rattle.std.specs.Prelude.{◌≡◌, ◌≤◌, ◌<◌, ◌+◌, ◌++◌, ◌*◌, ◌-◌, ◌^◌, ◌%◌, [], length, take, drop, slice_index_or, slice_set};
 ghost use Rattle.std.specs.Prelude.{bit_and};
 ghost use Rattle.std.specs.Int.{trailing_zeros, w64};
@@ -8,13 +8,13 @@ use crate::blocks::BLOCK;
 use std::marker::Model;
 use std::simd::prelude::*;
 
-/// From this many pairs on a list is to be worked off before the next row.
+/// The length from which on a list is summed before the next row is appended.
 pub(crate) const FULL: usize = 64;
 
-/// The most pairs of a list that is not full, those of one row, and what is written past the last.
+/// The capacity of a list: the pairs of a list that is not full, those of one row, and eight behind the last.
 const ROOM: usize = FULL + BLOCK + 8;
 
-/// Pairs of places, one of each block: `BLOCK` times the first and the second. What stands behind the last says nothing.
+/// Pairs of places, one of each block: `BLOCK` times the first plus the second. What follows the last is unspecified.
 #[derive(Drop)]
 pub(crate) struct NearPairs {
     count: usize,
@@ -36,7 +36,7 @@ impl Model for NearPairs {
 }
 
 impl NearPairs {
-    /// No pairs.
+    /// Makes an empty list.
     #[inline(always)]
     pub(crate) fn new() -> NearPairs
         ensures { result ≡ [] }
@@ -47,7 +47,7 @@ impl NearPairs {
         }
     }
 
-    /// How many pairs there are.
+    /// Returns how many pairs there are.
     #[inline(always)]
     pub(crate) fn len(&self) -> usize
         ensures value { result ≡ length self.now }
@@ -56,7 +56,7 @@ impl NearPairs {
         self.count
     }
 
-    /// The pair of that number.
+    /// Returns pair `i`.
     #[inline(always)]
     pub(crate) fn at(&self, i: usize) -> u16
         requires within { i < length self.now }
@@ -66,8 +66,8 @@ impl NearPairs {
         self.pairs[i]
     }
 
-    /// Appends the pairs of place `t` of the first block with a set of places of the second. Two at a time are written,
-    /// so one may be written past the last.
+    /// Appends the pairs of place `t` of the first block with a set of places of the second. It writes two at a time,
+    /// and so maybe one behind the last.
     #[inline(always)]
     pub(crate) fn append(&mut self, t: usize, set: u64)
         requires room { length self.old < FULL }
@@ -88,7 +88,7 @@ impl NearPairs {
         self.count = end;
     }
 
-    /// Drops the pairs before that number, which leaves fewer than eight.
+    /// Drops the pairs before `from`, which leaves fewer than eight.
     #[inline(always)]
     pub(crate) fn keep_from(&mut self, from: usize)
         requires within { from ≤ length self.old }
@@ -102,7 +102,7 @@ impl NearPairs {
     }
 }
 
-/// Eight pairs from that number on.
+/// Returns eight pairs from `from` on.
 #[inline(always)]
 fn eight_from(pairs: &[u16; ROOM], from: usize) -> u16x8
     requires { from + 8 ≤ ROOM }
@@ -111,7 +111,7 @@ fn eight_from(pairs: &[u16; ROOM], from: usize) -> u16x8
     u16x8::from_slice(&pairs[from..])
 }
 
-/// Writes the pair of the least member of `rest`, and gives the others.
+/// Writes the pair of the least member of `rest`, and returns the other members.
 #[inline(always)]
 fn put(pairs: &mut [u16; ROOM], at: usize, row: u16, rest: u64) -> u64
     requires room { at < ROOM }

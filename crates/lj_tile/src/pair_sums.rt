@@ -1,4 +1,4 @@
-//! The sums of the pushes of the pairs of a list, which are all of one class.
+//! Sums of the pushes of a list of pairs of one class.
 ghost use Rattle.std.specs.Prelude.{◌≡◌, ◌≤◌, ◌<◌, ◌+◌, ℕ, [], length, take, drop, slice_index, slice_index_or, slice_set};
 ghost use Rattle.lj_ring.specs.Ring.{IsOnRing};
 ghost use Rattle.lj_ring.specs.Scale.{IsScale};
@@ -19,7 +19,8 @@ use lj_ring::{Place, Scale};
 use lj_table::Table;
 use std::simd::prelude::*;
 
-/// Adds the pushes of most pairs of a list to the sums of their places, and drops these pairs: fewer than eight are left.
+/// Adds the pushes of a list's pairs in whole eights to the sums of their places, and drops these pairs: fewer than
+/// eight are left.
 pub(crate) fn work_off(
     pairs: &mut NearPairs,
     first: &[Place],
@@ -69,7 +70,7 @@ pub(crate) fn add_all(
     }
 }
 
-/// Adds the pushes of pairs of a list, eight at a time, and tells of how many: fewer than eight are left.
+/// Adds the pushes of a list's pairs, eight at a time, and returns how many pairs it added: fewer than eight are left.
 #[inline(always)]
 fn add_eights(
     pairs: &NearPairs,
@@ -116,7 +117,7 @@ fn add_eight(
 {
     let eight = pushes(&apart(pairs, at, first, second), scale, table);
     let (x, y, z) = (eight.x.to_array(), eight.y.to_array(), eight.z.to_array());
-    // Of a scale that is read it is known that no pair that interacts lies half the box apart: opposite pushes are exact.
+    // Reading the step factor shows that no pair that interacts lies half the box apart: opposite pushes are exact.
     let _strength = scale.strength();
     for k in 0..8 {
         let push = Push {
@@ -142,7 +143,7 @@ fn add(pair: u16, push: Push, sums: &mut ForceSums)
     sums.second[s] = sums.second[s].minus(push);
 }
 
-/// The place of a pair in the first block.
+/// Returns the place of a pair in the first block.
 #[inline(always)]
 pub(crate) fn first_of(pair: u16) -> usize
     ensures { result ≡ pairs_of.first_of pair }
@@ -150,7 +151,7 @@ pub(crate) fn first_of(pair: u16) -> usize
     usize::from(pair) / BLOCK
 }
 
-/// The place of a pair in the second block.
+/// Returns the place of a pair in the second block.
 #[inline(always)]
 pub(crate) fn second_of(pair: u16) -> usize
     ensures { result ≡ pairs_of.second_of pair }
@@ -158,7 +159,7 @@ pub(crate) fn second_of(pair: u16) -> usize
     usize::from(pair) % BLOCK
 }
 
-/// How far the places of eight pairs of a list, from `at` on, are apart on the ring.
+/// Returns the differences on the ring of the places of eight pairs of a list, from `at` on.
 #[inline(always)]
 pub(crate) fn apart(pairs: &NearPairs, at: usize, first: &[Place], second: &[Place]) -> Eight
     requires within { at + 8 ≤ length pairs.now }
@@ -177,7 +178,7 @@ pub(crate) fn apart(pairs: &NearPairs, at: usize, first: &[Place], second: &[Pla
     }
 }
 
-/// The first places of eight pairs.
+/// Returns the first places of eight pairs.
 #[inline(always)]
 fn first_places(pairs: &NearPairs, at: usize, places: &[Place]) -> [Place; 8]
     requires within { at + 8 ≤ length pairs.now }
@@ -199,7 +200,7 @@ fn first_places(pairs: &NearPairs, at: usize, places: &[Place]) -> [Place; 8]
     ]
 }
 
-/// The second places of eight pairs.
+/// Returns the second places of eight pairs.
 #[inline(always)]
 fn second_places(pairs: &NearPairs, at: usize, places: &[Place]) -> [Place; 8]
     requires within { at + 8 ≤ length pairs.now }

@@ -15,10 +15,10 @@ pub struct Push {
 }
 
 impl Push {
-    /// No push at all.
+    /// The push that is 0.
     pub const NONE: Push = Push { x: 0, y: 0, z: 0 };
 
-    /// The sum of two pushes.
+    /// Returns the sum of two pushes.
     #[inline]
     pub fn plus(self, other: Push) -> Push
         ensures { result ≡ pushes.sum_of_pushes self other }
@@ -30,7 +30,7 @@ impl Push {
         }
     }
 
-    /// This push and the opposite of the other.
+    /// Returns this push minus the other.
     #[inline]
     pub fn minus(self, other: Push) -> Push
         ensures { result ≡ pushes.sum_of_pushes self (pushes.opposite_push other) }
@@ -43,8 +43,13 @@ impl Push {
     }
 }
 
-/// The push of the atom at `there` on the atom at `here`, which is the opposite of the push of the atom at `here` on the
-/// atom at `there`. Most pairs are out of reach: they end at the table's 0.
+/// Returns the push of the atom at `there` on the atom at `here`, which is the opposite of the push the other way, in
+/// ring units modulo 2^32. It is 0 out of reach, where most pairs are.
+///
+/// ```rust
+/// // 1.5 apart along x in a box of 256, with sigma 1 and step factor 131072
+/// assert_eq!(pair_push(&table, &scale, &Place { x: 0, y: 0, z: 0 }, &Place { x: 25_165_824, y: 0, z: 0 }).x, 589);
+/// ```
 ///
 /// Promise: the result is the push of the definition, and the push the other way is its opposite.
 #[inline]
@@ -65,7 +70,7 @@ pub fn pair_push(table: &Table, scale: &Scale, here: &Place, there: &Place) -> P
     }
 }
 
-/// A table entry times the step factor.
+/// Multiplies a table entry by the step factor.
 #[inline]
 fn strengthened(entry: i64, strength: u32) -> i64
     requires small_entry { unsigned_abs entry < 2 ^ 37 }
@@ -76,7 +81,7 @@ fn strengthened(entry: i64, strength: u32) -> i64
     entry * i64::from(strength)
 }
 
-/// `factor * image / 2^56`, toward zero, on the ring.
+/// Returns `factor * image / 2^56`, toward zero, on the ring.
 #[inline]
 fn push_along(factor: i64, image: i32) -> u32
     requires { unsigned_abs factor < 2 ^ 61 }

@@ -13,7 +13,7 @@ use crate::tasks::Task;
 use lj_table::Table;
 use std::marker::Model;
 
-/// Room for the sums of a task, of pushes or of an energy. The room of the other kind is unspecified.
+/// The sums of a task, of pushes or of an energy. The field of the other kind is unspecified.
 #[derive(Debug, Drop)]
 pub struct Sums {
     pushes: ForceSums,
@@ -21,7 +21,7 @@ pub struct Sums {
 }
 
 impl Sums {
-    /// Room for the sums of any task.
+    /// Makes sums that are to be overwritten.
     pub fn blank() -> Sums
         ensures { result.energy ≡ pos 0 }
     {
@@ -40,7 +40,7 @@ impl Sums {
     }
 }
 
-/// The result of a task: the task itself with its sums. Only `compute` and `compute_in` make one of a task that is given.
+/// The result of a task: the task with its sums. Only `compute` and `compute_in` make the result of a given task.
 #[derive(Debug, Drop)]
 pub struct Done {
     task: Task,
@@ -60,14 +60,14 @@ impl Model for Done {
 }
 
 impl Done {
-    /// The task that this is the result of.
+    /// Returns the task of this result.
     pub fn task(&self) -> &Task
         ensures { result.now ≡ self.now }
     {
         &self.task
     }
 
-    /// The result by reference.
+    /// Returns the result by reference.
     #[inline]
     pub fn by_ref(&self) -> DoneRef<'_>
         ensures { result ≡ self.now }
@@ -78,7 +78,7 @@ impl Done {
         }
     }
 
-    /// The sum of the pushes on place `t` of the first block, along each axis.
+    /// Returns the sum of the pushes on place `t` of the first block, along each axis, in ring units modulo 2^32.
     pub fn sum_at(&self, t: usize) -> [u32; 3]
         requires force { self.now.name.kind ≡ Force }
         requires within { t < length self.now.a.places }
@@ -88,8 +88,8 @@ impl Done {
         [sum.x, sum.y, sum.z]
     }
 
-    /// The sum of the pushes on place `s` of the second block, along each axis, in ring units modulo 2^32. Of a task of
-    /// one block twice `sum_at` has it all.
+    /// Returns the sum of the pushes on place `s` of the second block, along each axis, in ring units modulo 2^32. In a
+    /// task of one block twice `sum_at` has the whole sum.
     pub fn second_at(&self, s: usize) -> [u32; 3]
         requires force { self.now.name.kind ≡ Force }
         requires apart { self.now.name.bi < self.now.name.bj }
@@ -100,7 +100,7 @@ impl Done {
         [other.x, other.y, other.z]
     }
 
-    /// The sum of the energies of the task's pairs, in units of 2^-24 ε.
+    /// Returns the sum of the energies of the task's pairs, in units of 2^-24 ε.
     pub fn energy_sum(&self) -> i64
         requires { self.now.name.kind ≡ Energy }
         ensures { result ≡ task_energy self.now }
@@ -108,7 +108,7 @@ impl Done {
         self.sums.energy
     }
 
-    /// The result of a task of one atom: room for others.
+    /// Makes the result of a task of one atom, to be overwritten.
     pub fn blank() -> Done
         ensures { result ≡ blank_task }
     {
@@ -118,7 +118,7 @@ impl Done {
         }
     }
 
-    /// An equal result.
+    /// Returns an equal result.
     pub fn copy(&self) -> Done
         ensures { result ≡ self.now }
     {
@@ -134,8 +134,8 @@ impl Done {
     }
 }
 
-/// The result of a task by reference: a task and its sums, wherever each of them lies. `DoneRef::new` takes no sums that
-/// are not those of the task.
+/// The result of a task by reference: a task and its sums, which may lie apart. `DoneRef::new` requires that the sums
+/// are those of the task.
 #[derive(Debug, Drop)]
 pub struct DoneRef<'a> {
     task: &'a Task,
@@ -155,7 +155,7 @@ impl<'a> Model for DoneRef<'a> {
 }
 
 impl<'a> DoneRef<'a> {
-    /// The result whose task and sums lie there.
+    /// Makes the result of a task and its sums.
     #[inline]
     pub fn new(task: &'a Task, sums: &'a Sums) -> DoneRef<'a>
         requires { AreSums task.now sums.now }
@@ -164,7 +164,7 @@ impl<'a> DoneRef<'a> {
         DoneRef { task, sums }
     }
 
-    /// The task that this is the result of.
+    /// Returns the task of this result.
     #[inline]
     pub fn task(&self) -> &'a Task
         ensures { result.now ≡ self.now }
@@ -172,7 +172,7 @@ impl<'a> DoneRef<'a> {
         self.task
     }
 
-    /// The sums of the pushes on the places of the first block, in order.
+    /// Returns the sums of the pushes on the places of the first block, in order.
     #[inline]
     pub fn sums(&self) -> &'a [Push]
         requires { self.now.name.kind ≡ Force }
@@ -181,8 +181,8 @@ impl<'a> DoneRef<'a> {
         self.sums.pushes.firsts(self.task.first().places().len())
     }
 
-    /// The sums of the pushes on the places of the second block, in order. Of a task of one block twice `sums` has
-    /// it all.
+    /// Returns the sums of the pushes on the places of the second block, in order. In a task of one block twice `sums`
+    /// has the whole sums.
     #[inline]
     pub fn second_sums(&self) -> &'a [Push]
         requires force { self.now.name.kind ≡ Force }
@@ -192,7 +192,7 @@ impl<'a> DoneRef<'a> {
         self.sums.pushes.seconds(self.task.second().places().len())
     }
 
-    /// The sum of the energies of the task's pairs, in units of 2^-24 ε.
+    /// Returns the sum of the energies of the task's pairs, in units of 2^-24 ε.
     #[inline]
     pub fn energy_sum(&self) -> i64
         requires { self.now.name.kind ≡ Energy }
@@ -201,7 +201,7 @@ impl<'a> DoneRef<'a> {
         self.sums.energy
     }
 
-    /// A copy of the task and of its sums.
+    /// Copies the task and its sums.
     pub fn copy_to(&self, task: &mut Task, sums: &mut Sums)
         ensures task { task.new ≡ self.now }
         ensures sums { AreSums self.now sums.new }
@@ -210,7 +210,7 @@ impl<'a> DoneRef<'a> {
         sums.copy_from(self.sums);
     }
 
-    /// An equal result.
+    /// Returns an equal result.
     pub fn to_done(&self) -> Done
         ensures { result ≡ self.now }
     {
@@ -220,7 +220,7 @@ impl<'a> DoneRef<'a> {
     }
 }
 
-/// Computes a task. The result is of that very task.
+/// Computes a task.
 ///
 /// Promise: the result is of that very task.
 pub fn compute(task: Task, table: &Table) -> Done
@@ -231,7 +231,7 @@ pub fn compute(task: Task, table: &Table) -> Done
     Done { task, sums }
 }
 
-/// Computes a task in the room of an older result. The result is of that very task.
+/// Computes a task, and overwrites an older result.
 ///
 /// Promise: the result is of that very task.
 pub fn compute_in(task: &Task, table: &Table, room: &mut Done)
@@ -241,7 +241,7 @@ pub fn compute_in(task: &Task, table: &Table, room: &mut Done)
     room.task.copy_from(task);
 }
 
-/// Computes the sums of a task in the room of older ones.
+/// Computes the sums of a task, and overwrites older ones.
 ///
 /// Promise: the sums are those of that very task.
 pub fn compute_sums(task: &Task, table: &Table, sums: &mut Sums)

@@ -1,4 +1,4 @@
-//! The sums of a task: of pushes and of energies.
+//! The sums of a task, of pushes and of energies.
 ghost use Rattle.std.specs.Prelude.{◌≡◌, ◌≤◌, ◌<◌, ◌+◌, ◌*◌, ◌^◌, ◌&&◌, ◌++◌, ◌+ℤ◌, ℕ, length, slice_index_or};
 ghost use Rattle.std.specs.Prelude.{unsigned_abs, nat_lt, take, replicate};
 ghost use Rattle.std.specs.Int.{bit_at};
@@ -34,7 +34,7 @@ pub(crate) struct ForceSums {
 }
 
 impl ForceSums {
-    /// No push on any place.
+    /// Makes sums without a push on any place.
     pub(crate) fn none() -> ForceSums
         ensures first { result.first ≡ replicate BLOCK no_push }
         ensures second { result.second ≡ replicate BLOCK no_push }
@@ -45,7 +45,7 @@ impl ForceSums {
         }
     }
 
-    /// The sum of the pushes on place `t` of the first block.
+    /// Returns the sum of the pushes on place `t` of the first block.
     pub(crate) fn first_at(&self, t: usize) -> Push
         requires { t < BLOCK }
         ensures { result ≡ slice_index_or self.now.first t no_push }
@@ -53,7 +53,7 @@ impl ForceSums {
         self.first[t]
     }
 
-    /// The sum of the pushes on place `s` of the second block.
+    /// Returns the sum of the pushes on place `s` of the second block.
     pub(crate) fn second_at(&self, s: usize) -> Push
         requires { s < BLOCK }
         ensures { result ≡ slice_index_or self.now.second s no_push }
@@ -61,7 +61,7 @@ impl ForceSums {
         self.second[s]
     }
 
-    /// The sums for the first places of the first block, so many of them.
+    /// Returns the sums for the first `count` places of the first block.
     #[inline]
     pub(crate) fn firsts(&self, count: usize) -> &[Push]
         requires { count ≤ BLOCK }
@@ -71,7 +71,7 @@ impl ForceSums {
         &self.first[..count]
     }
 
-    /// The sums for the first places of the second block, so many of them.
+    /// Returns the sums for the first `count` places of the second block.
     #[inline]
     pub(crate) fn seconds(&self, count: usize) -> &[Push]
         requires { count ≤ BLOCK }
@@ -82,7 +82,8 @@ impl ForceSums {
     }
 }
 
-/// Sums the pushes on the places of both blocks, in the room of older sums. Where the two are one, its sums are the first.
+/// Sums the pushes on the places of both blocks, in place of older sums. If the two are one block, the first sums have
+/// it all.
 pub(crate) fn sum_forces(task: &Task, table: &Table, sums: &mut ForceSums)
     ensures first { (t : ℕ) → t < length task.now.a.places
         → slice_index_or sums.new.first t no_push ≡ task_force task.now t }
@@ -95,8 +96,8 @@ pub(crate) fn sum_forces(task: &Task, table: &Table, sums: &mut ForceSums)
     }
 }
 
-/// Makes the first sums those of one block: each atom is pushed by the later ones, as of the first block, and by the
-/// earlier ones, as of the second.
+/// Makes the first sums those of a block with itself: it adds the pushes of the earlier atoms, summed as of a second
+/// block, to those of the later ones.
 fn join(sums: &mut ForceSums)
     ensures first { (t : ℕ) → t < BLOCK → slice_index_or sums.new.first t no_push
         ≡ sum_of_pushes (slice_index_or sums.old.first t no_push) (slice_index_or sums.old.second t no_push) }
@@ -107,8 +108,8 @@ fn join(sums: &mut ForceSums)
     }
 }
 
-/// Sums over the pairs of atoms i < j, i in the first block and j in the second: each pair is looked at once. The pairs of
-/// each class are kept in a list until there are many of them.
+/// Sums over the pairs of atoms i < j, i in the first block and j in the second: it computes each pair once. It gathers
+/// the pairs of each class in a list until there are many of them.
 fn sum_pairs(task: &Task, table: &Table, sums: &mut ForceSums)
     ensures first { (t : ℕ) → t < length task.now.a.places →
         slice_index_or sums.new.first t no_push ≡ sum_on_first task.now t (length task.now.b.places) }
@@ -156,7 +157,7 @@ fn sum_pairs(task: &Task, table: &Table, sums: &mut ForceSums)
     read_sums(&sums.second);
 }
 
-/// Reads each place, and does nothing with it: of what is read it is known that it lies on the ring.
+/// Reads each place, and does nothing with it: a coordinate that is read is known to be below 2^32.
 fn read_each(places: &[Place])
     ensures { (k : ℕ) → k < length places.now → IsOnRing (place_at places.now k) }
 {
@@ -170,7 +171,7 @@ fn read(_place: Place)
     ensures { IsOnRing _place }
 {}
 
-/// Reads each sum, and does nothing with it: of what is read it is known that it lies on the ring.
+/// Reads each sum, and does nothing with it: a part that is read is known to be below 2^32.
 fn read_sums(sums: &[Push; BLOCK])
     ensures { (k : ℕ) → k < BLOCK → IsPushOnRing (slice_index_or sums.now k no_push) }
 {
@@ -184,8 +185,8 @@ fn read_sum(_sum: Push)
     ensures { IsPushOnRing _sum }
 {}
 
-/// The places of the first block, bit by bit, that may interact with one of the second. It looks for those that don't
-/// only where the blocks are two.
+/// Returns the places of the first block, bit by bit, that may interact with one of the second. For a block with itself
+/// it makes no test.
 #[inline]
 fn near_rows(task: &Task, columns: &Columns) -> u64
     requires columns { HasColumns (can_interact task.now.mix) columns.now task.now.b.places }
@@ -203,8 +204,8 @@ fn near_rows(task: &Task, columns: &Columns) -> u64
     all & columns.rows_near(places)
 }
 
-/// Adds the pushes of rows of a set, whose atoms are of one species. Those of the last pairs are left in two lists, of
-/// pairs with atoms of the first species and with atoms of the second.
+/// Adds the pushes of rows of a set, whose atoms are of one species. The last pairs stay in two lists: those with atoms
+/// of the first species and those with atoms of the second.
 fn add_rows(
     rows: u64,
     own: Species,
@@ -241,8 +242,8 @@ fn add_rows(
     }
 }
 
-/// Adds the pushes of place `t` of the first block with later atoms of the second, but for those of the last pairs. It looks
-/// closely only at those places of the second block that may interact with it.
+/// Adds the pushes of place `t` of the first block with later atoms of the second, except for the last pairs. It
+/// computes only the places of the second block that may interact with it.
 #[inline(always)]
 fn add_row(
     t: usize,
@@ -294,7 +295,7 @@ fn add_row(
     );
 }
 
-/// Adds pairs of place `t` to a list, if there are any.
+/// Appends pairs of place `t` to a list, if there are any.
 #[inline(always)]
 fn add_some_pairs(
     t: usize,
@@ -321,8 +322,8 @@ fn add_some_pairs(
     }
 }
 
-/// Adds the pairs of place `t` of the first block with a set of places of the second to a list, and where this becomes full
-/// the pushes of its pairs to the sums.
+/// Appends the pairs of place `t` of the first block with a set of places of the second to a list. If this becomes
+/// full, it adds the pushes of its pairs to the sums.
 #[inline(always)]
 fn add_pairs(
     t: usize,
@@ -351,7 +352,7 @@ fn add_pairs(
     }
 }
 
-/// The lowest bits, so many of them.
+/// Returns the lowest `count` bits.
 #[inline]
 fn lowest_bits(count: usize) -> u64
     requires { count ≤ BLOCK }
@@ -363,7 +364,7 @@ fn lowest_bits(count: usize) -> u64
     (1 << count) - 1
 }
 
-/// The places of the second block with a later atom than place `t` of the first, bit by bit.
+/// Returns the places of the second block with a later atom than place `t` of the first, bit by bit.
 #[inline]
 fn later(t: usize, task: &Task) -> u64
     requires { t < length task.now.a.places }
@@ -376,7 +377,8 @@ fn later(t: usize, task: &Task) -> u64
     all & !lowest_bits(t + 1)
 }
 
-/// The sum of the energies of the task's pairs. The pairs of each class are kept in a list until there are many of them.
+/// Returns the sum of the energies of the task's pairs. It gathers the pairs of each class in a list until there are
+/// many of them.
 pub(crate) fn energy_sum(task: &Task, table: &Table) -> i64
     ensures { result ≡ task_energy task.now }
 {
@@ -416,8 +418,8 @@ pub(crate) fn energy_sum(task: &Task, table: &Table) -> i64
     sum + energy_of_all(&others, first, second, others_class, table)
 }
 
-/// The sum of the energies of rows of a set, whose atoms are of one species. Those of the last pairs are left in two
-/// lists, of pairs with atoms of the first species and with atoms of the second.
+/// Returns the sum of the energies of rows of a set, whose atoms are of one species. The last pairs stay in two lists:
+/// those with atoms of the first species and those with atoms of the second.
 fn energy_of_rows(
     rows: u64,
     own: Species,
@@ -458,8 +460,8 @@ fn energy_of_rows(
     sum
 }
 
-/// The sum of the energies of place `t` of the first block with later atoms of the second, but for those of the last
-/// pairs. It looks closely only at those places of the second block that may interact with it.
+/// Returns the sum of the energies of place `t` of the first block with later atoms of the second, except for the last
+/// pairs. It computes only the places of the second block that may interact with it.
 #[inline(always)]
 fn energy_of_row(
     t: usize,
@@ -498,8 +500,8 @@ fn energy_of_row(
     of_first + energy_of_pairs(t, near & seconds, task, with_second, table, of_seconds)
 }
 
-/// Adds the pairs of place `t` of the first block with a set of places of the second to a list, and gives the energies of
-/// its pairs where it becomes full.
+/// Appends the pairs of place `t` of the first block with a set of places of the second to a list. If this becomes
+/// full, it returns the energies of its pairs, else 0.
 #[inline(always)]
 fn energy_of_pairs(
     t: usize,

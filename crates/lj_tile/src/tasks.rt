@@ -9,8 +9,8 @@ use crate::names::TaskName;
 use lj_ring::{Mix, Place, Scale};
 use std::marker::Model;
 
-/// A task: one tile of a step, with all that it takes to compute it. A force task gives the sums of the atoms of both
-/// its blocks; place t of block n is atom 64 n + t.
+/// A task: one tile of a step, with all data to compute it. A force task gives the sums of the atoms of both its
+/// blocks; place t of block n is atom 64 n + t.
 #[derive(PartialEq, Eq, Debug, Drop)]
 pub struct Task {
     name: TaskName,
@@ -32,7 +32,7 @@ impl Model for Task {
 }
 
 impl Task {
-    /// The task of this name over two blocks, the same block twice where the name has one index twice.
+    /// Makes the task of this name over two blocks, which are the same if the name has one index twice.
     pub fn new(name: TaskName, mix: Mix, a: Block, b: Block) -> Task
         requires some_first { 1 ≤ length a.places }
         requires some_second { 1 ≤ length b.places }
@@ -50,7 +50,7 @@ impl Task {
         }
     }
 
-    /// The energy task of one atom in the greatest box: room for others.
+    /// Makes the energy task of one atom in the greatest box, to be overwritten.
     pub fn blank() -> Task
         ensures { result ≡ blank_task }
     {
@@ -64,7 +64,7 @@ impl Task {
         )
     }
 
-    /// The name of the task.
+    /// Returns the name of the task.
     pub fn name(&self) -> &TaskName
         ensures value { result.now ≡ self.now.name }
         ensures sound { IsTask self.now }
@@ -92,7 +92,7 @@ impl Task {
         &self.second
     }
 
-    /// An equal task.
+    /// Returns an equal task.
     pub fn copy(&self) -> Task
         ensures { result ≡ self.now }
     {
@@ -114,8 +114,8 @@ impl Task {
         self.second.copy_from(&other.second);
     }
 
-    /// Makes this the task of this name over two blocks, of places and of bits that tell which are of the second species:
-    /// the same block twice where the name has one index twice.
+    /// Makes this the task of this name over two blocks, each of places and the bits of those of the second species.
+    /// The blocks are the same if the name has one index twice.
     pub fn remake(&mut self, name: TaskName, mix: &Mix, a: (&[Place], u64), b: (&[Place], u64))
         requires some_first { 1 ≤ length a.0.now }
         requires some_second { 1 ≤ length b.0.now }
@@ -138,7 +138,7 @@ impl Task {
         self.second.remake(b.0, b.1);
     }
 
-    /// Whether the other task is equal: its name, its mixture and its two blocks.
+    /// Returns whether the other task is equal: its name, its mixture and its two blocks.
     pub fn is(&self, other: &Task) -> bool
         ensures { IsTrue result ↔ (self.now ≡ other.now) }
     {
@@ -148,8 +148,8 @@ impl Task {
             && self.second.is(&other.second)
     }
 
-    /// Whether this is the task of this name and mixture over these two blocks, of places and of bits that tell which
-    /// are of the second species. It copies no places.
+    /// Returns whether this is the task of this name and mixture over two blocks, each of places and the bits of those
+    /// of the second species. It copies no places.
     #[inline]
     pub fn is_of(&self, name: &TaskName, mix: &Mix, a: (&[Place], u64), b: (&[Place], u64)) -> bool
         ensures { IsTrue result ↔ (self.now ≡ record {
