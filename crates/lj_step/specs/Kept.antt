@@ -1,4 +1,4 @@
--- What a simulation in the code stands for, and what is true of it.
+-- The value of a simulation in the code, and its invariant.
 use Rattle.std.specs.Prelude.{ℕ, ◌≤◌, ◌≡◌, Bool, false, slice_index_or, ℤ, pos, negsuc, ◌-ℤ◌, unsigned_abs, List, length, Option, Some, None}
 use Rattle.std.specs.List.{range_with_len, filter}
 use Rattle.lj_ring.specs.declared.coordinates.Place.{Place}

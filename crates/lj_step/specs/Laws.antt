@@ -1,4 +1,4 @@
--- What the laws of the motion are stated of.
+-- The drift of a simulation, and steps and energies by the sums of tiles.
 use Rattle.std.specs.Prelude.{ℕ, ◌%◌, ◌^◌, ◌<◌, ◌≡◌, ℤ, pos, ◌+ℤ◌, List, [], ◌∷◌, length, map, sum_by}
 use Rattle.std.specs.List.{range_with_len}
 use Rattle.lj_ring.specs.declared.coordinates.Place.{Place}

@@ -1,4 +1,4 @@
--- How large a simulation may be, and how far it may go.
+-- Limits of atoms, blocks and step numbers.
 use Rattle.std.specs.Prelude.{◌≡◌, ◌*◌, ◌^◌, refl}
 use Rattle.lj_tile.specs.declared.blocks.TheConstants.{BLOCK}
 use Rattle.lj_step.specs.declared.frames.TheConstants.{MAX_ATOMS}

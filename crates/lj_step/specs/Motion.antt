@@ -1,4 +1,4 @@
--- The motion of a simulation: the reversible step by whole numbers, and what is measured of it.
+-- The motion of a simulation: the reversible Störmer-Verlet step in whole numbers, and its measures.
 use Rattle.std.specs.Prelude.{ℕ, zero, suc, ◌+◌, ◌-◌, ◌*◌, ◌%◌, ◌^◌, ◌==◌, ℤ, pos, ◌+ℤ◌, ◌-ℤ◌, neg_ℤ, List, length, map}
 use Rattle.std.specs.Prelude.{slice_set, if◌then◌else◌}
 use Rattle.std.specs.List.{range_with_len}
@@ -20,12 +20,12 @@ pub record Simulation : Type 0 where
 abbrev pub opening : List Place → List Place → Simulation
 opening prev cur = record { prev = prev; cur = cur; step = pos 0; dir = pos 1 }
 
--- what atom j adds to the push on atom i: its push, and nothing where it is atom i itself
+-- the push on atom i by atom j, and none if they are the same atom
 abbrev pub push_of : Composition → List Place → ℕ → ℕ → Push
 push_of u frame i j =
     if j == i then no_push else push (class_between u i j).scale (place_at frame i) (place_at frame j)
 
--- the sum on the ring of the pushes on atom i of all other atoms
+-- the ring sum of the pushes on atom i by all other atoms
 unfoldable pub force : Composition → List Place → ℕ → Push
 force u frame i = record {
   x = ring_sum (length frame) (λ j. (push_of u frame i j).x);
@@ -63,7 +63,7 @@ abbrev pub steps : Composition → ℕ → Simulation → Simulation
 steps u zero sim = sim
 steps u (suc n) sim = steps u n (next_simulation u sim)
 
--- the motion turned back: the frames change places
+-- the motion reversed: the frames change places
 abbrev pub reversal : Simulation → Simulation
 reversal sim = record { prev = sim.cur; cur = sim.prev; step = sim.step -ℤ sim.dir; dir = neg_ℤ sim.dir }
 
@@ -73,7 +73,7 @@ pub record Displacement : Type 0 where
   pub y : ℤ
   pub z : ℤ
 
--- atom i gets a displacement more of velocity: its place one step before is moved back by it
+-- a tug adds a displacement per step to atom i: its previous place is moved back by it
 abbrev pub with_tug : ℕ → Displacement → Simulation → Simulation
 with_tug i d sim =
     let p = place_at sim.prev i in
@@ -91,7 +91,7 @@ momentum sim =
       z = int_sum_below n (λ i. image (place_at sim.cur i).z (place_at sim.prev i).z);
     }
 
--- the kinetic number: the sum of the squares of those images over all atoms and axes
+-- the kinetic number: the sum of the squares of the same images over all atoms and axes
 abbrev pub kinetic : Simulation → ℕ
 kinetic sim = sum_below (length sim.cur) (λ i. distance (place_at sim.cur i) (place_at sim.prev i))
 

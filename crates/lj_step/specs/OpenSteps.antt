@@ -39,12 +39,12 @@ block frame b = slice_range frame (64 * b) (min (64 * b + 64) (length frame))
 abbrev pub sites_of : Composition → List Place → ℕ → Block
 sites_of u frame b = record { places = block frame b; seconds = seconds_in u.seconds b }
 
--- a number is that of two blocks in order, the last of them one of so many atoms
+-- a tile number is that of two blocks in order, both among the blocks of `count` atoms
 abbrev pub is_in_order : ℕ → ℕ → Bool
 is_in_order count k = nat_lt (second_block k) (blocks count) && nat_le (first_block k) (second_block k)
 
--- no pair of atoms of two blocks can interact: the gaps between their arcs are out of reach, or it is one block twice,
--- and that is of one atom
+-- no pair of atoms of two blocks can interact: the gap between their arcs is out of reach, or both are the same block
+-- of one atom
 unfoldable pub is_out_of_reach : Composition → List Place → ℕ → Bool
 is_out_of_reach u frame k =
     let a = block frame (first_block k) in
@@ -85,7 +85,7 @@ task_of live label kind k = record {
   b = sites_of live.composition live.sim.cur (second_block k);
 }
 
--- the tile whose task this is by its blocks
+-- the number of the tile of a task, by its blocks
 abbrev pub tile_number_of : Task → ℕ
 tile_number_of work = tile_number work.name.bi work.name.bj
 
@@ -115,7 +115,7 @@ is_tile_awaited_in u frame i (Some p) = option_map_or (is_number_awaited p) (sli
 abbrev pub is_tile_awaited : Sim → ℕ → Bool
 is_tile_awaited live i = is_tile_awaited_in live.composition live.sim.cur i live.part
 
--- the task is that of a tile that the open step awaits: none is where no step is open
+-- the task is that of a tile that the open step awaits; no task is if no step is open
 abbrev pub IsAwaitedTaskIn : Sim → Label → Task → Option OpenStep → Type 0
 IsAwaitedTaskIn live label work None = ⊥
 IsAwaitedTaskIn live label work (Some p) =
@@ -124,7 +124,7 @@ IsAwaitedTaskIn live label work (Some p) =
 abbrev pub IsAwaitedTask : Sim → Label → Task → Type 0
 IsAwaitedTask live label work = IsAwaitedTaskIn live label work live.part
 
--- the open step with one tile more that is in
+-- the open step after one more tile is in
 abbrev pub with_tile : ℕ → Option OpenStep → Option OpenStep
 with_tile k None = None
 with_tile k (Some p) = Some (record { kind = p.kind; awaited = slice_set p.awaited k false })

@@ -1,4 +1,4 @@
--- What a snapshot of a simulation stands for, and what is true of it.
+-- The value of a snapshot of a simulation, and its invariant.
 use Rattle.std.specs.Prelude.{◌≤◌, ◌≡◌, ◌-ℤ◌, unsigned_abs, length}
 use Rattle.lj_step.specs.declared.simulations.TheConstants.{MAX_STEP}
 use Rattle.lj_step.specs.Motion.{Simulation}

@@ -1,4 +1,4 @@
--- The sums of an open step: those of the tiles that are in.
+-- The partial sums of an open step, over the tiles that are in.
 use Rattle.std.specs.Prelude.{ℕ, ◌+◌, ◌*◌, ◌^◌, ◌<◌, ◌≤◌, ◌≡◌, ◌/◌, ◌⊎◌, Bool, true, false, ℤ, pos, unsigned_abs, List}
 use Rattle.std.specs.Prelude.{length, slice_index_or, vec_capacity, count_by, min, max, Option, Some, None, if◌then◌else◌}
 use Rattle.lj_ring.specs.declared.coordinates.Place.{Place}
@@ -17,15 +17,15 @@ use Rattle.lj_step.specs.OpenSteps.{blocks, tile_number, is_tile, cover}
 abbrev pub pair_number : ℕ → ℕ → ℕ
 pair_number i j = tile_number (min (i / 64) (j / 64)) (max (i / 64) (j / 64))
 
--- its flag
+-- the flag of the tile of a pair of atoms
 abbrev pub is_pair_awaited : List Bool → ℕ → ℕ → Bool
 is_pair_awaited awaited i j = slice_index_or awaited (pair_number i j) false
 
--- what atom j adds to the push on atom i so far: nothing where the tile of the pair is still awaited
+-- the push on atom i by atom j so far: none while the tile of the pair is awaited
 abbrev pub push_so_far : Composition → List Place → List Bool → ℕ → ℕ → Push
 push_so_far u frame awaited i j = if is_pair_awaited awaited i j then no_push else push_of u frame i j
 
--- the sum on the ring of the pushes on atom i, of the tiles that are in
+-- the ring sum of the pushes on atom i by the tiles that are in
 unfoldable pub force_so_far : Composition → List Place → List Bool → ℕ → Push
 force_so_far u frame awaited i = record {
   x = ring_sum (length frame) (λ j. (push_so_far u frame awaited i j).x);
@@ -33,7 +33,7 @@ force_so_far u frame awaited i = record {
   z = ring_sum (length frame) (λ j. (push_so_far u frame awaited i j).z);
 }
 
--- what the pair i < j adds to the potential so far
+-- the energy of the pair i < j so far: 0 while its tile is awaited
 abbrev pub energy_so_far_of : Composition → List Place → List Bool → ℕ → ℕ → ℤ
 energy_so_far_of u frame awaited i j =
     if is_pair_awaited awaited i j then pos 0 else energy (class_between u i j) (place_at frame i) (place_at frame j)
@@ -43,7 +43,7 @@ unfoldable pub energy_so_far : Composition → List Place → List Bool → ℤ
 energy_so_far u frame awaited =
     int_sum_below (length frame) (λ j. int_sum_below j (λ i. energy_so_far_of u frame awaited i j))
 
--- the room that a partial step needs for so many atoms
+-- a partial step has memory for `count` atoms
 pub record HasRoom (count : ℕ) (p : Partial) : Type 0 where
   pub pushes : length p.pushes.items ≡ count
   pub awaited : length p.awaited.items ≡ 64 * blocks count
@@ -64,15 +64,15 @@ abbrev pub IsPartial : Composition → List Place → Partial → Option Kind �
 IsPartial u frame p None = Unit {0}
 IsPartial u frame p (Some kind) = IsOpen u frame p kind
 
--- the atom stands in no place of a block, which has so many
+-- the atom is not one of the first `places` of block b
 abbrev pub IsOutside : ℕ → ℕ → ℕ → Type 0
 IsOutside b places i = (i < tile_number b 0) ⊎ (tile_number b places ≤ i)
 
--- the sum for a place of a list of them
+-- the sum for place t in a list of sums
 abbrev pub sum_of : List Push → ℕ → Push
 sum_of sums t = slice_index_or sums t no_push
 
--- the sums for some places, counted from an atom on, are added to those of their atoms, and the others are as they were
+-- sums t with from ≤ t < until are added to those of atoms start + t, and the others are unchanged
 pub record HasPartAdded (start from until : ℕ) (sums : ℕ → Push) (old new : List Push) : Type 0 where
   pub count : length new ≡ length old
   pub part : (t : ℕ) → from ≤ t → t < until → slice_index_or new (start + t) no_push
@@ -80,15 +80,15 @@ pub record HasPartAdded (start from until : ℕ) (sums : ℕ → Push) (old new 
   pub others : (i : ℕ) → (i < start + from) ⊎ (start + until ≤ i)
       → slice_index_or new i no_push ≡ slice_index_or old i no_push
 
--- sums are added to those of the atoms of a block, one for each of its places, and the others are as they were
+-- sums are added to those of the atoms of a block, one for each of its places, and the others are unchanged
 pub record HasBlockAdded (b places : ℕ) (sums : ℕ → Push) (old new : List Push) : Type 0 where
   pub count : length new ≡ length old
   pub block : (t : ℕ) → t < places → slice_index_or new (tile_number b t) no_push
       ≡ sum_of_pushes (slice_index_or old (tile_number b t) no_push) (sums t)
   pub others : (i : ℕ) → IsOutside b places i → slice_index_or new i no_push ≡ slice_index_or old i no_push
 
--- the sums of a force task are added to those of its two blocks' atoms, once where they are one block, and the others
--- are as they were
+-- the sums of a force task are added to those of its two blocks' atoms, once if they are the same block, and the others
+-- are unchanged
 pub record HasAdded (work : Task) (old new : List Push) : Type 0 where
   pub count : length new ≡ length old
   pub first : work.name.kind ≡ Force → (t : ℕ) → t < length work.a.places

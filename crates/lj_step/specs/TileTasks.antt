@@ -1,4 +1,4 @@
--- What the tasks of a step are to the tiles of its cover.
+-- The tasks of a step have the values of the tiles of its cover.
 use Rattle.std.specs.Prelude.{ℕ, ◌<◌, ◌≡◌, false, List, length, slice_index_or, Option, Some, None}
 use Rattle.lj_ring.specs.declared.coordinates.Place.{Place}
 use Rattle.lj_tile.specs.Species.{Composition}
@@ -11,8 +11,8 @@ use Rattle.lj_step.specs.Sim.{Sim, OpenStep}
 use Rattle.lj_step.specs.OpenSteps.{cover_tiles, tiles_of}
 use Rattle.lj_step.specs.Sums.{IsOutside}
 
--- a task has the value of a force tile on a frame: at each place of its two blocks the sum that its result keeps is
--- the tile's push on that atom, and the tile pushes no other atom
+-- a task has the value of a force tile on a frame: its sum at each place of its two blocks is the tile's push on that
+-- atom, and the tile pushes no other atom
 pub record HasForces (u : Composition) (frame : List Place) (tile : Tile) (work : Task) : Type 0 where
   pub kind : work.name.kind ≡ Force
   pub first : (t : ℕ) → t < length work.a.places
@@ -22,7 +22,7 @@ pub record HasForces (u : Composition) (frame : List Place) (tile : Tile) (work 
   pub others : (i : ℕ) → i < length frame → IsOutside work.name.bi (length work.a.places) i
       → IsOutside work.name.bj (length work.b.places) i → tile_force u frame tile i ≡ no_push
 
--- a task has the value of an energy tile on a frame: the sum that its result keeps is the tile's energy
+-- a task has the value of an energy tile on a frame: its sum is the tile's energy
 pub record HasEnergy (u : Composition) (frame : List Place) (tile : Tile) (work : Task) : Type 0 where
   pub kind : work.name.kind ≡ Energy
   pub energy : task_energy work ≡ tile_energy u frame tile

@@ -1,5 +1,5 @@
--- Two atoms 1.5 sigma apart in a box of 256 sigma, as theorems by computation: the frames of the first two steps, the
--- measures after the second, and the way back.
+-- Worked examples: two atoms 1.5 sigma apart in a box of 256 sigma, the frames of the first two steps, the measures
+-- after the second, and the way back.
 use Rattle.std.specs.Prelude.{◌≡◌, ◌∷◌, [], ℕ, pos, negsuc, List, refl}
 use Rattle.lj_ring.specs.declared.coordinates.Place.{Place}
 use Rattle.lj_tile.specs.Species.{Composition}
@@ -13,7 +13,7 @@ use Rattle.lj_step.specs.Motion.{potential}
 abbrev pub on_x : ℕ → Place
 on_x x = record { x = x; y = 0; z = 0 }
 
--- atoms that are all alike: an edge of 256, sigma 1, and a step factor of 2^17 in units of 2^-32
+-- atoms of one species: an edge of 256, sigma 1, and a step factor of 2^17 in units of 2^-32
 abbrev pub dimer_atoms : Composition
 dimer_atoms = record { mix = pure_mix (record { edge = 256000000000; sigma = 16777216; strength = 131072 }); seconds = 0 }
 
@@ -48,7 +48,7 @@ pub momentum_after_two : momentum (after 2) ≡ record { x = pos 0; y = pos 0; z
 unfolding after push force push_entry
 momentum_after_two = refl
 
--- reversed after two steps, the simulation stands at step 1 again, and two steps more go past the opening
+-- reversed after two steps, the simulation is at step 1 again, and two more steps go past the start
 pub back_at_one : (reversal (after 2)).cur ≡ on_x 589 ∷ on_x 25165235 ∷ []
 unfolding after push force push_entry
 back_at_one = refl

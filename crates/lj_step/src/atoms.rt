@@ -1,11 +1,11 @@
-//! What the atoms of a simulation are: their mixture, and which of them are of the second species.
+//! The composition of a simulation: its mixture, and the bits of the atoms of the second species.
 ghost use Rattle.std.specs.Prelude.{◌≡◌};
 ghost use Rattle.lj_step.specs.Sets.{number_of_bits, seconds_in};
 
 use lj_ring::Mix;
 use std::marker::Model;
 
-/// The mixture of some atoms, and for each block of 64 of them the bits that tell which are of the second species.
+/// The mixture of some atoms, and for each block of 64 the bits of those of the second species.
 #[derive(Drop)]
 pub(crate) struct Atoms {
     mix: Mix,
@@ -34,7 +34,7 @@ impl Atoms {
         &self.mix
     }
 
-    /// Which atoms of a block are of the second species, bit by bit.
+    /// Returns which atoms of a block are of the second species, bit by bit.
     pub fn seconds(&self, block: usize) -> u64
         ensures { result ≡ seconds_in self.now.seconds block }
     {

@@ -1,4 +1,4 @@
-//! The blocks of a frame, and which pairs of them a step has tiles of.
+//! The blocks of a frame, and the pairs of blocks that have a tile.
 ghost use Rattle.std.specs.Prelude.{◌≡◌, ◌≤◌, ◌<◌, ◌*◌, length, map};
 ghost use Rattle.std.specs.List.{range_with_len};
 ghost use Rattle.lj_step.specs.declared.frames.TheConstants.{MAX_ATOMS};
@@ -9,7 +9,7 @@ use crate::atoms::Atoms;
 use lj_ring::{Arcs, Place};
 use lj_tile::BLOCK;
 
-/// How many blocks so many atoms have.
+/// Returns how many blocks `count` atoms have.
 pub(crate) fn blocks(count: usize) -> usize
     requires { count ≤ MAX_ATOMS }
     ensures value { result ≡ steps.blocks count }
@@ -18,7 +18,7 @@ pub(crate) fn blocks(count: usize) -> usize
     count.div_ceil(BLOCK)
 }
 
-/// The places of a block of a frame.
+/// Returns the places of a block of a frame.
 pub(crate) fn block(frame: &[Place], index: usize) -> &[Place]
     requires within { index < steps.blocks (length frame.now) }
     requires most { length frame.now ≤ MAX_ATOMS }
@@ -29,7 +29,7 @@ pub(crate) fn block(frame: &[Place], index: usize) -> &[Place]
     &frame[start..end]
 }
 
-/// Whether a step over a frame has a tile of this number, by the arcs of its blocks.
+/// Returns whether a step over a frame has a tile of this number, by the arcs of its blocks.
 pub(crate) fn is_tile(number: usize, arcs: &[Arcs], atoms: &Atoms, frame: &[Place]) -> bool
     requires within { number < 64 * steps.blocks (length frame.now) }
     requires most { length frame.now ≤ MAX_ATOMS }
@@ -43,7 +43,7 @@ pub(crate) fn is_tile(number: usize, arcs: &[Arcs], atoms: &Atoms, frame: &[Plac
         && !is_out_of_reach(first, second, arcs, atoms, frame)
 }
 
-/// Whether no pair of atoms of two blocks can interact, by the arcs of the blocks.
+/// Returns whether no pair of atoms of two blocks can interact, by the arcs of the blocks.
 fn is_out_of_reach(
     first: usize,
     second: usize,

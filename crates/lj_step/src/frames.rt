@@ -29,7 +29,7 @@ impl Model for Frame {
 }
 
 impl Frame {
-    /// The frame of these places. It takes no memory.
+    /// Makes a frame of these places. It takes no memory.
     pub fn new(places: Vec<Place>) -> Frame
         ensures { result ≡ places.items }
     {
@@ -44,7 +44,7 @@ impl Frame {
         self.places
     }
 
-    /// How many atoms it has.
+    /// Returns the number of atoms.
     pub fn count(&self) -> usize
         ensures { result ≡ length self.now }
     {
@@ -52,7 +52,7 @@ impl Frame {
     }
 }
 
-/// Reads each place, and does nothing with it: of what is read it is known that it lies on the ring.
+/// Reads each place, and does nothing with it: a coordinate that is read is known to be below 2^32.
 fn read_each(places: &[Place])
     ensures { AreOnRing places.now }
 {
@@ -81,7 +81,7 @@ pub(crate) fn overwrite(to: &mut Vec<Place>, from: &[Place])
     to.as_mut_slice().copy_from_slice(from);
 }
 
-/// The next place of an atom by the places before and now, and the push on it.
+/// Returns the next place of an atom by the Störmer-Verlet step, from its places before and now and the push on it.
 pub(crate) fn next_place(prev: Place, cur: Place, push: Push) -> Place
     ensures { result ≡ motion.next_place prev cur push }
 {
@@ -92,7 +92,7 @@ pub(crate) fn next_place(prev: Place, cur: Place, push: Push) -> Place
     }
 }
 
-/// `2 cur - prev + push` on the ring.
+/// Returns `2 cur - prev + push` on the ring.
 #[inline]
 fn next_coordinate(prev: u32, cur: u32, push: u32) -> u32
     ensures { result ≡ motion.next_coordinate prev cur push }

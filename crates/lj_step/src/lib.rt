@@ -1,4 +1,4 @@
-//! The simulation: two frames of places, stepped reversibly, each step cut into tasks.
+//! The simulation: two frames of places, stepped reversibly, each step divided into tasks.
 #![tactic(auto)]
 
 mod atoms;

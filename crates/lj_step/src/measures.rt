@@ -1,4 +1,4 @@
-//! What is measured of two frames: momentum and kinetic number.
+//! The momentum and the kinetic number of two frames.
 ghost use Rattle.std.specs.Prelude.{◌≡◌, ◌≤◌, ◌<◌, ◌+◌, ◌*◌, ◌^◌, ◌+ℤ◌, unsigned_abs, length};
 ghost use Rattle.lj_ring.specs.Ring.{image, distance, sum_below, int_sum_below};
 ghost use Rattle.lj_step.specs.declared.frames.TheConstants.{MAX_ATOMS};
@@ -6,7 +6,7 @@ ghost use Rattle.lj_step.specs.Motion.{place_at};
 
 use lj_ring::{Place, dist2, image};
 
-/// The momentum along each axis, in ring units for each step, at most 2^43 in size.
+/// The momentum along each axis, in ring units per step, at most 2^43 in size.
 #[derive(Clone, Copy, PartialEq, Eq, Debug)]
 pub(crate) struct Momentum {
     pub x: i64,
@@ -14,7 +14,7 @@ pub(crate) struct Momentum {
     pub z: i64,
 }
 
-/// The sums of the images of `cur - prev` over all atoms.
+/// Returns the sums of the images of `cur - prev` over all atoms.
 pub(crate) fn momentum_of(prev: &[Place], cur: &[Place]) -> Momentum
     requires same { length prev.now ≡ length cur.now }
     requires most { length cur.now ≤ MAX_ATOMS }
@@ -36,7 +36,7 @@ pub(crate) fn momentum_of(prev: &[Place], cur: &[Place]) -> Momentum
     sum
 }
 
-/// A sum with one image more.
+/// Returns a sum plus one image.
 #[inline]
 fn plus_image(sum: i64, to: u32, from: u32) -> i64
     requires { unsigned_abs sum ≤ 2 ^ 44 }
@@ -46,7 +46,7 @@ fn plus_image(sum: i64, to: u32, from: u32) -> i64
     sum + i64::from(image(to, from))
 }
 
-/// The sum of the squares of those images over all atoms and axes.
+/// Returns the sum of the squares of the images of `cur - prev` over all atoms and axes.
 pub(crate) fn kinetic_of(prev: &[Place], cur: &[Place]) -> u128
     requires same { length prev.now ≡ length cur.now }
     requires most { length cur.now ≤ MAX_ATOMS }

@@ -1,4 +1,4 @@
-//! The sums of a step that is open, of the tiles that are in.
+//! The partial sums of an open step, over the tiles whose results are in.
 ghost use Rattle.std.specs.Prelude.{◌≡◌, ◌≤◌, ◌<◌, ◌+◌, ◌-◌, ◌*◌, ◌^◌, ℕ, pos, ◌+ℤ◌, unsigned_abs, length, map};
 ghost use Rattle.std.specs.Prelude.{count_by, slice_index_or, slice_set, vec_capacity, IfOk, Some, None, false, true};
 ghost use Rattle.std.specs.List.{range_with_len};
@@ -17,27 +17,27 @@ use lj_ring::{Arcs, Place};
 use lj_tile::{BLOCK, DoneRef, Kind, Push};
 use std::alloc::{AllocError, Global};
 
-/// The tiles and sums of the open step, and the room for them.
+/// The tiles and sums of the open step, in memory that is enough for any step.
 #[derive(Drop)]
 pub(crate) struct Partial {
-    /// What the open step sums; none is open where there is none.
+    /// The kind of the open step; `None` if no step is open.
     pub kind: Option<Kind>,
     /// The arcs of each block of the frame.
     pub arcs: Vec<Arcs>,
     /// The numbers of the cover's tiles, in order.
     pub tiles: Vec<u16>,
-    /// Of each tile, by its number, whether it is still awaited.
+    /// For each tile number, whether the tile is still awaited.
     pub awaited: Vec<bool>,
-    /// How many tiles are awaited.
+    /// The number of awaited tiles.
     pub left: usize,
-    /// Of each atom, the sum of the pushes of the tiles that are in.
+    /// For each atom, the sum of the pushes of the tiles that are in.
     pub pushes: Vec<Push>,
     /// The sum of the energies of the tiles that are in.
     pub energy: i128,
 }
 
 impl Partial {
-    /// Room for steps of so many atoms, with no step open.
+    /// Makes sums with no step open, and reserves memory for steps of `count` atoms.
     pub fn new(alloc: Global, count: usize) -> Result<Partial, AllocError>
         requires { count ≤ MAX_ATOMS }
         ensures room { IfOk result (λ p. HasRoom count p) }
@@ -56,7 +56,7 @@ impl Partial {
         })
     }
 
-    /// Opens a step over a frame that awaits all its tiles.
+    /// Opens a step over a frame, which awaits all its tiles.
     pub fn open(&mut self, kind: Kind, atoms: &Atoms, frame: &[Place])
         requires room { HasRoom (length frame.now) self.old }
         requires most { length frame.now ≤ MAX_ATOMS }
@@ -79,7 +79,7 @@ impl Partial {
         self.kind = Some(kind);
     }
 
-    /// Adds the sums of a tile that is awaited, and awaits it no more.
+    /// Adds the sums of an awaited tile, which is then in.
     pub fn add(&mut self, done: &DoneRef<'_>)
         requires awaited { steps.tile_number_of done.now < length self.old.awaited.items }
         requires left { 1 ≤ self.old.left }
@@ -111,7 +111,7 @@ impl Partial {
     }
 }
 
-/// Lists the arcs of the blocks of a frame in the room made for them.
+/// Writes the arcs of the blocks of a frame to the list reserved for them.
 fn list_arcs(arcs: &mut Vec<Arcs>, frame: &[Place])
     requires room { steps.blocks (length frame.now) ≤ vec_capacity arcs.old }
     requires most { length frame.now ≤ MAX_ATOMS }
@@ -125,7 +125,7 @@ fn list_arcs(arcs: &mut Vec<Arcs>, frame: &[Place])
     }
 }
 
-/// Awaits each tile of the cover, and no other number.
+/// Sets the flag of each tile of the cover, and clears the others.
 fn await_tiles(awaited: &mut Vec<bool>, arcs: &[Arcs], atoms: &Atoms, frame: &[Place])
     requires room { length awaited.old.items ≡ 64 * steps.blocks (length frame.now) }
     requires most { length frame.now ≤ MAX_ATOMS }
@@ -139,7 +139,7 @@ fn await_tiles(awaited: &mut Vec<bool>, arcs: &[Arcs], atoms: &Atoms, frame: &[P
     }
 }
 
-/// Lists the numbers of the tiles that are awaited in the room made for them.
+/// Writes the numbers of the awaited tiles to the list reserved for them.
 fn list_tiles(tiles: &mut Vec<u16>, awaited: &[bool])
     requires room { length awaited.now ≤ vec_capacity tiles.old }
     requires most { length awaited.now ≤ 64 * 64 }
@@ -160,7 +160,7 @@ fn clear(pushes: &mut Vec<Push>)
     pushes.as_mut_slice().fill(Push::NONE);
 }
 
-/// Adds the sums of a force task to those of its two blocks' atoms, once where they are one block.
+/// Adds the sums of a force task to those of its two blocks' atoms, once if they are the same block.
 fn add_pushes(pushes: &mut [Push], done: &DoneRef<'_>)
     requires kind { done.now.name.kind ≡ Force }
     requires first { steps.tile_number done.now.name.bi (length done.now.a.places) ≤ length pushes.old }
@@ -185,7 +185,7 @@ fn add_block(pushes: &mut [Push], index: usize, sums: &[Push])
     add_rest(pushes, start, sums, 4 * fours);
 }
 
-/// Adds the first sums to those from a place on, so many times four.
+/// Adds the first `4 * fours` sums to those from `start` on.
 fn add_fours(pushes: &mut [Push], start: usize, sums: &[Push], fours: usize)
     requires enough { 4 * fours ≤ length sums.now }
     requires count { start + length sums.now ≤ length pushes.old }
@@ -214,7 +214,7 @@ fn add_four(pushes: &mut [Push], start: usize, sums: &[Push], from: usize)
     pushes[at + 3] = fourth;
 }
 
-/// Adds the sums from one on.
+/// Adds the sums from `from` on.
 fn add_rest(pushes: &mut [Push], start: usize, sums: &[Push], from: usize)
     requires within { from ≤ length sums.now }
     requires count { start + length sums.now ≤ length pushes.old }

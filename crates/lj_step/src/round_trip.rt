@@ -1,4 +1,4 @@
-//! A way there and back: so many steps, as many back, and the simulation is as it was.
+//! The round trip: steps forward and as many back leave a simulation as it was.
 ghost use Rattle.std.specs.Prelude.{◌≡◌, ◌≤◌, ◌<◌, ◌+◌, ◌*◌, ◌^◌, ◌+ℤ◌, unsigned_abs};
 ghost use Rattle.lj_step.specs.declared.simulations.TheConstants.{MAX_STEP};
 ghost use Rattle.lj_step.specs.Motion as motion;
@@ -10,11 +10,11 @@ use lj_base::Label;
 use lj_table::Table;
 use lj_tile::{Kind, compute};
 
-/// Goes so many steps on, reverses, goes as many back and reverses again. Nothing has changed then, but that a step
-/// that was open is closed.
+/// Makes `steps` steps, reverses, makes as many steps back and reverses again. Nothing has changed then, except that an
+/// open step is closed.
 ///
-/// Promise: steps on, a reversal, as many steps back and a reversal change nothing, every task computed and taken in,
-/// but that an open step is closed.
+/// Promise: steps, a reversal, as many steps back and a reversal change nothing, every task computed and accepted,
+/// except that an open step is closed.
 pub fn there_and_back(sim: &mut Sim, steps: u32, label: &Label, table: &Table)
     requires { unsigned_abs sim.old.sim.step + 2 * steps < MAX_STEP }
     ensures { sim.new ≡ with_step_closed sim.old sim.old.sim }
@@ -26,7 +26,13 @@ pub fn there_and_back(sim: &mut Sim, steps: u32, label: &Label, table: &Table)
     sim.reverse();
 }
 
-/// Goes so many steps on, each task computed here.
+/// Makes `steps` steps, and computes each task itself.
+///
+/// ```rust
+/// // two atoms at rest, 1.5 apart in a box of 256, with sigma 1 and step factor 131072
+/// go(&mut sim, 2, &label, &table);
+/// assert_eq!(sim.place(0).x, 1774);
+/// ```
 pub fn go(sim: &mut Sim, steps: u32, label: &Label, table: &Table)
     requires { unsigned_abs sim.old.sim.step + steps ≤ MAX_STEP }
     ensures composition { sim.new.composition ≡ sim.old.composition }
@@ -41,7 +47,7 @@ pub fn go(sim: &mut Sim, steps: u32, label: &Label, table: &Table)
     }
 }
 
-/// Goes a step on, its tasks computed one after the other.
+/// Makes one step, and computes its tasks one after the other.
 fn step(sim: &mut Sim, label: &Label, table: &Table)
     requires { unsigned_abs (sim.old.sim.step +ℤ sim.old.sim.dir) ≤ MAX_STEP }
     ensures { sim.new ≡ with_step_closed sim.old (motion.next_simulation sim.old.composition sim.old.sim) }

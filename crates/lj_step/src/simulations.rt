@@ -1,4 +1,4 @@
-//! Simulations: the two frames, the step that is open, and what is measured.
+//! Simulations: the two frames, the open step, and the measures.
 ghost use Rattle.std.specs.Prelude.{◌≡◌, ◌≤◌, ◌<◌, ◌+◌, ◌^◌, ◌↔◌, pos, ◌+ℤ◌, ◌-ℤ◌, length, unsigned_abs, IfOk, IfErr};
 ghost use Rattle.std.specs.Prelude.{IfSome, IsOk, IsTrue, OnOk, OnErr, Some, None, true, false, ℕ, ◌*◌, slice_index_or, []};
 ghost use Rattle.std.specs.Prelude.{◌∷◌};
@@ -30,7 +30,7 @@ use std::mem;
 /// The greatest size of a step number.
 pub const MAX_STEP: u64 = 1_000_000_000_000;
 
-/// The way that step numbers go.
+/// The direction of the step numbers.
 #[derive(Clone, Copy, PartialEq, Eq, Debug)]
 pub(crate) enum Direction {
     Forward,
@@ -69,7 +69,7 @@ pub struct Displacement {
     pub z: i32,
 }
 
-/// A result is of no tile that the open step awaits.
+/// The fault that the open step does not await a result.
 #[derive(Clone, Copy, PartialEq, Eq, Debug)]
 pub struct NotAwaited;
 
@@ -79,9 +79,9 @@ pub struct Stray {
     pub done: Done,
 }
 
-/// A simulation: two frames one step apart, its step number and direction, what its atoms are, and the step that is
-/// open. A step is opened, its tasks are computed by anyone in any order, the results accepted, and when it is whole it
-/// is turned.
+/// A simulation: two frames one step apart, its step number and direction, the composition of its atoms, and the open
+/// step. The caller opens a step, has its tasks computed in any order, accepts their results, and turns the step when
+/// it is whole.
 #[derive(Drop)]
 pub struct Sim {
     atoms: Atoms,
@@ -105,11 +105,11 @@ impl Model for Sim {
 }
 
 impl Sim {
-    /// A simulation that stands at step 0 and goes forward. Its room for steps is made here; of the other calls
-    /// `snapshot` alone takes memory.
+    /// Makes a simulation at step 0 that goes forward. It reserves the memory for steps; of the other calls only
+    /// `snapshot` takes memory.
     ///
-    /// For each block of 64 atoms bit `t` of `seconds` tells whether its atom `t` is of the second species of the
-    /// mixture; those of blocks past the last of `seconds` are of the first.
+    /// Bit `t` of `seconds[b]` is 1 if atom `t` of block `b` of 64 atoms is of the second species of the mixture. Atoms
+    /// of blocks past the last of `seconds` are of the first.
     pub fn new(
         alloc: Global,
         frames: Frames,
@@ -136,7 +136,7 @@ impl Sim {
         })
     }
 
-    /// Turns the motion back: the frames change places. An open step is closed.
+    /// Reverses the motion: exchanges the frames. An open step is closed.
     pub fn reverse(&mut self)
         ensures value { self.new ≡ steps.with_step_closed self.old (motion.reversal self.old.sim) }
         ensures count { length self.new.sim.cur ≡ length self.old.sim.cur }
@@ -147,8 +147,7 @@ impl Sim {
         self.partial.kind = None;
     }
 
-    /// Gives atom `i` a displacement `d` more for each step, by moving its place one step before. An open step is
-    /// closed.
+    /// Adds `d` to the displacement of atom `i` per step, by moving its previous place back. An open step is closed.
     pub fn tug(&mut self, i: usize, d: Displacement)
         requires { i < length self.old.sim.cur }
         ensures { self.new ≡ steps.with_step_closed self.old
@@ -158,7 +157,8 @@ impl Sim {
         self.partial.kind = None;
     }
 
-    /// The momentum: the sums over all atoms of the images of `cur - prev` along x, y and z, each below 2^44 in size.
+    /// Returns the momentum: the sums over all atoms of the images of `cur - prev` along x, y and z, each below 2^44 in
+    /// size.
     pub fn momentum(&self) -> [i64; 3]
         ensures { let m = motion.momentum self.now.sim in result ≡ m.x ∷ m.y ∷ m.z ∷ [] }
     {
@@ -166,14 +166,14 @@ impl Sim {
         [sum.x, sum.y, sum.z]
     }
 
-    /// The kinetic number: the sum of the squares of those images, in square ring units.
+    /// Returns the kinetic number: the sum of the squares of the same images, in square ring units.
     pub fn kinetic(&self) -> u128
         ensures { result ≡ motion.kinetic self.now.sim }
     {
         measures::kinetic_of(self.prev.as_slice(), self.cur.as_slice())
     }
 
-    /// A copy of both frames, the step number and the direction.
+    /// Returns a copy of both frames, the step number and the direction.
     pub fn snapshot(&self) -> Result<Snapshot, AllocError>
         ensures { IfOk result (λ s. s ≡ self.now.sim) }
     {
@@ -186,7 +186,7 @@ impl Sim {
         })
     }
 
-    /// Takes both frames, the step number and the direction from a snapshot, which stays. An open step is closed.
+    /// Restores both frames, the step number and the direction from a snapshot, which stays. An open step is closed.
     pub fn restore(&mut self, snapshot: &Snapshot)
         requires { length snapshot.now.cur ≡ length self.old.sim.cur }
         ensures { self.new ≡ steps.with_step_closed self.old snapshot.now }
@@ -199,8 +199,8 @@ impl Sim {
     }
 
     /// Opens a step of a kind, which awaits the results of all its tiles: one for each two blocks of 64 atoms that may
-    /// lie within reach of each other, and for each block of two atoms and more. A step without tiles is whole at once.
-    /// A step that was open is dropped.
+    /// be within reach of each other, and one for each block of two or more atoms. A step without tiles is whole at
+    /// once. A step that was open is dropped.
     pub fn open_step(&mut self, kind: Kind)
         ensures { self.new
             ≡ record self.old { part = Some (steps.opened_step kind self.old.composition self.old.sim.cur) } }
@@ -208,14 +208,14 @@ impl Sim {
         self.partial.open(kind, &self.atoms, self.cur.as_slice());
     }
 
-    /// Closes the step that is open, and drops what it has summed. The motion stays.
+    /// Closes the open step, and drops its sums. The frames stay.
     pub fn close_step(&mut self)
         ensures { self.new ≡ steps.with_step_closed self.old self.old.sim }
     {
         self.partial.kind = None;
     }
 
-    /// How many tiles the open step has; 0 where no step is open.
+    /// Returns how many tiles the open step has; 0 if no step is open.
     pub fn tiles(&self) -> usize
         ensures value { result ≡ steps.tiles_of self.now }
         ensures cover { IsCovered self.now }
@@ -226,7 +226,7 @@ impl Sim {
         }
     }
 
-    /// The task of the i-th tile of the open step's cover; None past the last one, and where no step is open.
+    /// Returns the task of the i-th tile of the open step's cover; None past the last one, and if no step is open.
     pub fn task(&self, i: usize, label: &Label) -> Option<Task>
         ensures value { result ≡ steps.task_at self.now label.now i }
         ensures tile { IfSome result (HasTileValue self.now i) }
@@ -239,8 +239,8 @@ impl Sim {
         }
     }
 
-    /// Makes `room` the task of the i-th tile of the open step's cover. False past the last one, and where no step is open;
-    /// the room is as before then.
+    /// Writes the task of the i-th tile of the open step's cover to `room`. Returns false past the last one, and if no
+    /// step is open; `room` is unchanged then.
     pub fn task_in(&self, i: usize, label: &Label, room: &mut Task) -> bool
         ensures some { result ≡ true → steps.task_at self.now label.now i ≡ Some room.new }
         ensures none { result ≡ false → steps.task_at self.now label.now i ≡ None }
@@ -257,7 +257,7 @@ impl Sim {
         true
     }
 
-    /// Whether the open step still awaits the i-th tile of its cover.
+    /// Returns whether the open step still awaits the i-th tile of its cover.
     pub fn is_tile_awaited(&self, i: usize) -> bool
         ensures { result ≡ steps.is_tile_awaited self.now i }
     {
@@ -270,8 +270,11 @@ impl Sim {
         self.partial.awaited[usize::from(*number)]
     }
 
-    /// Takes in the result of a tile that the open step awaits. It is refused exactly where no step is open, its task
-    /// is none of the open step's, or that tile is already in; it is then handed back, and nothing has changed.
+    /// Accepts the result of a tile that the open step awaits.
+    ///
+    /// # Errors
+    /// `Stray`, with the result, if no step is open, its task is not one of the open step's, or that tile is already
+    /// in. Nothing has changed then.
     ///
     /// Promise: a result is taken exactly where the open step awaits its task; else it is handed back, and nothing has
     /// changed.
@@ -292,7 +295,7 @@ impl Sim {
         }
     }
 
-    /// Takes in a result as `accept` does, and copies nothing of it.
+    /// Accepts a result by reference, as `accept` does, and copies nothing of it.
     pub fn take_in(&mut self, label: &Label, done: &DoneRef<'_>) -> Result<(), NotAwaited>
         ensures accepted { IsOk result ↔ steps.IsAwaitedTask self.old label.now done.now }
         ensures kind { steps.kind_of self.new.part ≡ steps.kind_of self.old.part }
@@ -310,14 +313,14 @@ impl Sim {
         Ok(())
     }
 
-    /// Whether a step is open and all its tiles are in.
+    /// Returns whether a step is open and all its tiles are in.
     pub fn is_whole(&self) -> bool
         ensures { result ≡ steps.is_whole self.now.part }
     {
         self.partial.kind.is_some() && self.partial.left == 0
     }
 
-    /// Turns a whole force step: the motion goes one step on. No step is open afterwards.
+    /// Advances the motion by a whole force step. No step is open afterwards.
     ///
     /// Promise: a whole step makes the simulation the next one of the definition, whose pushes are those of all pairs.
     pub fn turn(&mut self)
@@ -337,9 +340,9 @@ impl Sim {
         self.partial.kind = None;
     }
 
-    /// The potential, of a whole energy step: the sum of the energies of all pairs, in units of 2^-24 ε.
+    /// Returns the potential once an energy step is whole: the sum of the energies of all pairs, in units of 2^-24 ε.
     ///
-    /// Promise: of a whole energy step the result is the sum of the energies of all pairs.
+    /// Promise: for a whole energy step the result is the sum of the energies of all pairs.
     pub fn potential(&self) -> i128
         requires kind { steps.kind_of self.now.part ≡ Some Energy }
         requires whole { steps.is_whole self.now.part ≡ true }
@@ -348,7 +351,7 @@ impl Sim {
         self.partial.energy
     }
 
-    /// Whether this is the task of a tile that the open step awaits.
+    /// Returns whether this is the task of a tile that the open step awaits.
     fn is_awaited(&self, label: &Label, task: &Task) -> bool
         ensures { IsTrue result ↔ steps.IsAwaitedTask self.now label.now task.now }
     {
@@ -363,7 +366,7 @@ impl Sim {
         }
     }
 
-    /// Whether this is the task of a tile of the present step. It copies no places.
+    /// Returns whether this is the task of a tile of the present step. It copies no places.
     fn is_task_of(&self, task: &Task, label: &Label, kind: Kind, number: usize) -> bool
         requires tile { steps.is_tile self.now.composition self.now.sim.cur number ≡ true }
         requires within { number < 64 * steps.blocks (length self.now.sim.cur) }
@@ -376,7 +379,7 @@ impl Sim {
         task.is_of(&name, self.atoms.mix(), a, b)
     }
 
-    /// Makes `room` the task of a tile of the present step.
+    /// Writes the task of a tile of the present step to `room`.
     fn write_task(&self, label: &Label, kind: Kind, number: usize, room: &mut Task)
         requires tile { steps.is_tile self.now.composition self.now.sim.cur number ≡ true }
         requires within { number < 64 * steps.blocks (length self.now.sim.cur) }
@@ -392,7 +395,7 @@ impl Sim {
         );
     }
 
-    /// The name of that task.
+    /// Returns the name of the task of a tile of the present step.
     fn name_of(&self, label: &Label, kind: Kind, number: usize) -> TaskName
         requires { number < 64 * steps.blocks (length self.now.sim.cur) }
         ensures { result ≡ (steps.task_of self.now label.now kind number).name }
@@ -406,7 +409,7 @@ impl Sim {
         }
     }
 
-    /// The places of a block.
+    /// Returns the places of a block.
     fn block(&self, index: usize) -> &[Place]
         requires { index < steps.blocks (length self.now.sim.cur) }
         ensures { result.now ≡ steps.block self.now.sim.cur index }
@@ -414,7 +417,7 @@ impl Sim {
         cover::block(self.cur.as_slice(), index)
     }
 
-    /// The present place of atom `i`.
+    /// Returns the present place of atom `i`.
     pub fn place(&self, i: usize) -> Place
         requires { i < length self.now.sim.cur }
         ensures { result ≡ motion.place_at self.now.sim.cur i }
@@ -422,14 +425,14 @@ impl Sim {
         self.cur[i]
     }
 
-    /// The edge of the box.
+    /// Returns the edge of the box.
     pub fn edge(&self) -> Edge
         ensures { result ≡ edge_of self.now.composition.mix }
     {
         self.atoms.mix().edge()
     }
 
-    /// The mixture. No pair that interacts lies half the box apart.
+    /// Returns the mixture. No pair that interacts lies half the box apart.
     pub fn mix(&self) -> Mix
         ensures value { result ≡ self.now.composition.mix }
         ensures near { IsMixture self.now.composition.mix }
@@ -439,7 +442,7 @@ impl Sim {
         *mix
     }
 
-    /// The step number, at most `MAX_STEP` in size.
+    /// Returns the step number, at most `MAX_STEP` in size.
     pub fn step(&self) -> i64
         ensures value { result ≡ self.now.sim.step }
         ensures most { unsigned_abs result ≤ MAX_STEP }
@@ -447,7 +450,7 @@ impl Sim {
         self.step
     }
 
-    /// What a step adds to the step number: 1 or -1.
+    /// Returns the direction, which a step adds to the step number: 1 or -1.
     pub fn dir(&self) -> i64
         ensures value { result ≡ self.now.sim.dir }
         ensures size { unsigned_abs result ≡ 1 }
@@ -455,7 +458,7 @@ impl Sim {
         self.dir.sign()
     }
 
-    /// How many atoms there are, 1 to `MAX_ATOMS`.
+    /// Returns the number of atoms, 1 to `MAX_ATOMS`.
     pub fn count(&self) -> usize
         ensures value { result ≡ length self.now.sim.cur }
         ensures some { 1 ≤ result }
@@ -466,7 +469,7 @@ impl Sim {
     }
 }
 
-/// Puts the frame after `cur` in the place of `prev`, the frame before it, by the pushes on all atoms.
+/// Overwrites `prev`, the frame before `cur`, with the frame after it, by the pushes on all atoms.
 fn advance(prev: &mut Vec<Place>, cur: &[Place], pushes: &[Push])
     requires same { length prev.old.items ≡ length cur.now }
     requires pushes { length pushes.now ≡ length cur.now }
@@ -480,7 +483,7 @@ fn advance(prev: &mut Vec<Place>, cur: &[Place], pushes: &[Push])
     }
 }
 
-/// A place moved back by a displacement, on the ring.
+/// Returns a place moved back by a displacement, on the ring.
 fn moved_back(place: Place, by: Displacement) -> Place
     ensures x { result.x ≡ ring_residue (pos place.x -ℤ by.x) }
     ensures y { result.y ≡ ring_residue (pos place.y -ℤ by.y) }

@@ -27,14 +27,14 @@ impl Model for Snapshot {
 }
 
 impl Snapshot {
-    /// The step number.
+    /// Returns the step number.
     pub fn step(&self) -> i64
         ensures { result ≡ self.now.step }
     {
         self.step
     }
 
-    /// How many atoms it has.
+    /// Returns the number of atoms.
     pub fn count(&self) -> usize
         ensures { result ≡ length self.now.cur }
     {
