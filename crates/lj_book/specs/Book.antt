@@ -1,4 +1,4 @@
--- What a book holds, and what each call does to it.
+-- The contents of a book, and how each call changes it.
 use Rattle.std.specs.Prelude.{◌≡◌, ◌≢◌, ℕ, ◌+◌, ◌-◌, ◌^◌, ◌≤◌, ◌<◌, Bool, true, false, List, Option, Some, None, is_some, count_by, cond, nat_eq, slice_index_or, length}
 use Rattle.slab.specs.Slab.{Slab, get, slab_len}
 use Rattle.lj_tile.specs.Task.{Task}
@@ -9,8 +9,8 @@ use Rattle.lj_book.specs.Marks.{mark_at}
 pub use Rattle.lj_book.specs.declared.entries.Entry.{Entry}
 pub use Rattle.lj_book.specs.declared.entries.Entry.TheVariants.{Open, Out, Done}
 
--- the entry or nothing under each key from 0 on, and how many tasks were ever posted, results given, results fetched,
--- and entries withdrawn. P is what stands open, and K what is kept of it while it is out.
+-- the entry or None under each key from 0 on, and how many tasks were ever posted, results given, results fetched, and
+-- entries withdrawn. P is the type of open entries, and K that of what is stored while one is out.
 pub record BookOf (P K : Type 0) : Type 0 where
   pub slots : List (Option (Entry P K))
   pub posted : ℕ
@@ -18,55 +18,55 @@ pub record BookOf (P K : Type 0) : Type 0 where
   pub fetched : ℕ
   pub withdrawn : ℕ
 
--- a book that keeps each task also while it is out
+-- a book that stores the task itself while it is out
 abbrev pub Book : Type 0
 Book = BookOf Task Task
 
--- whose a task is
+-- the user of a task
 abbrev pub user_of : Task → ℕ
 user_of work = work.name.label.user
 
 module _ {P K : Type 0} where
-  -- what stands under a key
+  -- the entry under a key
   abbrev pub entry_at : BookOf P K → ℕ → Option (Entry P K)
   entry_at held key = slice_index_or held.slots key None
 
-  -- how many entries stand
+  -- the number of entries
   abbrev pub entry_count : BookOf P K → ℕ
   entry_count held = count_by is_some held.slots
 
-  -- one entry more has room, and one post more is counted
+  -- there is room for one more entry, and one more post can be counted
   abbrev pub HasRoom : BookOf P K → Type 0
   HasRoom held = (entry_count held < MAX_ENTRIES) × (held.posted < 2 ^ 64 - 1)
 
-  -- the mark of what stands under a key
+  -- the mark of the entry under a key
   abbrev pub mark_of : Option (Entry P K) → Mark
   mark_of None = Vacant
   mark_of (Some (Open opened)) = ToTake
   mark_of (Some (Out kept)) = Taken
   mark_of (Some (Done work)) = ToFetch work.name.label.user
 
-  -- what is kept there of what is out
+  -- what is stored for an entry that is out
   abbrev pub kept_at : Option (Entry P K) → Option K
   kept_at None = None
   kept_at (Some (Open opened)) = None
   kept_at (Some (Out kept)) = Some kept
   kept_at (Some (Done work)) = None
 
-  -- under the key stands a task that is open
+  -- the entry under the key is open
   abbrev pub IsOpenAt : BookOf P K → ℕ → Type 0
   IsOpenAt held key = mark_of (entry_at held key) ≡ ToTake
 
-  -- under the key stands a result of this user
+  -- the entry under the key is a result of this user
   abbrev pub IsDoneAt : ℕ → BookOf P K → ℕ → Type 0
   IsDoneAt user held key = mark_of (entry_at held key) ≡ ToFetch user
 
-  -- this stands under the key, and under every other key what stood there
+  -- this is the entry under the key, and every other key has its old one
   pub record Puts (old new : BookOf P K) (key : ℕ) (slot : Option (Entry P K)) : Type 0 where
     pub changed : entry_at new key ≡ slot
     pub others : (k : ℕ) → k ≢ key → entry_at new k ≡ entry_at old k
 
-  -- the task stands open under a key that was vacant, and is counted
+  -- the task is open under a key that was vacant, and is counted
   pub record Posts (old new : BookOf P K) (opened : P) (key : ℕ) : Type 0 where
     pub was : entry_at old key ≡ None
     pub puts : Puts old new key (Some (Open opened))
@@ -75,26 +75,26 @@ module _ {P K : Type 0} where
     pub fetched : new.fetched ≡ old.fetched
     pub withdrawn : new.withdrawn ≡ old.withdrawn
 
-  -- no count of what was done has changed
+  -- no count has changed
   pub record SameCounts (old new : BookOf P K) : Type 0 where
     pub posted : new.posted ≡ old.posted
     pub given : new.given ≡ old.given
     pub fetched : new.fetched ≡ old.fetched
     pub withdrawn : new.withdrawn ≡ old.withdrawn
 
-  -- what stood open under the key is out, and this is kept of it
+  -- the entry that was open under the key is out, and this is stored for it
   pub record LetsOut (old new : BookOf P K) (key : ℕ) (opened : P) (kept : K) : Type 0 where
     pub was : entry_at old key ≡ Some (Open opened)
     pub puts : Puts old new key (Some (Out kept))
     pub counts : SameCounts old new
 
-  -- what was out under the key stands open again
+  -- the entry that was out under the key is open again
   pub record Reopens (old new : BookOf P K) (key : ℕ) (kept : K) (opened : P) : Type 0 where
     pub was : entry_at old key ≡ Some (Out kept)
     pub puts : Puts old new key (Some (Open opened))
     pub counts : SameCounts old new
 
-  -- the result of what was out under the key stands there, and is counted
+  -- the entry that was out under the key has its result, which is counted
   pub record Finishes (old new : BookOf P K) (key : ℕ) (kept : K) (work : Task) : Type 0 where
     pub was : entry_at old key ≡ Some (Out kept)
     pub puts : Puts old new key (Some (Done work))
@@ -103,7 +103,7 @@ module _ {P K : Type 0} where
     pub fetched : new.fetched ≡ old.fetched
     pub withdrawn : new.withdrawn ≡ old.withdrawn
 
-  -- the result that stood under the key has left the book, and is counted
+  -- the result under the key has left the book, and is counted
   pub record Fetches (old new : BookOf P K) (work : Task) (key : ℕ) : Type 0 where
     pub was : entry_at old key ≡ Some (Done work)
     pub puts : Puts old new key None
@@ -112,14 +112,14 @@ module _ {P K : Type 0} where
     pub fetched : new.fetched ≡ old.fetched + 1
     pub withdrawn : new.withdrawn ≡ old.withdrawn
 
-  -- there stands a task without its result
+  -- the entry is a task without its result
   abbrev pub is_waiting : Option (Entry P K) → Bool
   is_waiting None = false
   is_waiting (Some (Open opened)) = true
   is_waiting (Some (Out kept)) = true
   is_waiting (Some (Done work)) = false
 
-  -- how many tasks stand without their results
+  -- how many tasks have no result yet
   abbrev pub waiting_count : List (Option (Entry P K)) → ℕ
   waiting_count slots = count_by is_waiting slots
 
@@ -127,7 +127,7 @@ module _ {P K : Type 0} where
   abbrev pub weight : Option (Entry P K) → ℕ
   weight slot = cond (is_waiting slot) 1 0
 
-  -- what is true of the parts of each book
+  -- the invariant of a book
   pub record IsBook (slab : Slab (Entry P K)) (marks : List Mark) (posted given fetched withdrawn : ℕ) : Type 0 where
     pub balance : posted ≡ fetched + withdrawn + slab_len slab
     pub given_or_waiting : given + waiting_count slab.slots ≤ posted
@@ -137,11 +137,11 @@ module _ {P K : Type 0} where
     pub marked : (k : ℕ) → mark_at marks k ≡ mark_of (get slab k)
 
   module _ (mine : Option (Entry P K) → Bool) where
-    -- what is left of a slot without what is to be withdrawn
+    -- the entry, unless it is to be withdrawn
     abbrev pub slot_left : Option (Entry P K) → Option (Entry P K)
     slot_left slot = cond (mine slot) None slot
 
-    -- what stood under the key has left the book if it was to, and is counted
+    -- the entry under the key has left the book if it was to be withdrawn, and is counted
     pub record RemovesAt (key : ℕ) (old new : BookOf P K) : Type 0 where
       pub puts : Puts old new key (slot_left (entry_at old key))
       pub counted : new.withdrawn + entry_count new ≡ old.withdrawn + entry_count old
@@ -149,7 +149,7 @@ module _ {P K : Type 0} where
       pub given : new.given ≡ old.given
       pub fetched : new.fetched ≡ old.fetched
 
-    -- every entry that was to has left the book, and these are counted
+    -- every entry that was to be withdrawn has left the book, and these are counted
     pub record Removes (old new : BookOf P K) : Type 0 where
       pub slots : (k : ℕ) → entry_at new k ≡ slot_left (entry_at old k)
       pub counted : new.withdrawn + entry_count new ≡ old.withdrawn + entry_count old
@@ -157,7 +157,7 @@ module _ {P K : Type 0} where
       pub given : new.given ≡ old.given
       pub fetched : new.fetched ≡ old.fetched
 
-    -- so far every entry that was to has left the book whose key is below this one
+    -- every entry below this key that was to be withdrawn has left the book so far
     pub record RemovesBelow (old new : BookOf P K) (key : ℕ) : Type 0 where
       pub below : (k : ℕ) → k < key → entry_at new k ≡ slot_left (entry_at old k)
       pub others : (k : ℕ) → key ≤ k → entry_at new k ≡ entry_at old k
@@ -166,30 +166,30 @@ module _ {P K : Type 0} where
       pub given : new.given ≡ old.given
       pub fetched : new.fetched ≡ old.fetched
 
-  -- whose an entry is, by whose what stands open is, and what is kept
+  -- the user of an entry, by the user of an open one, and of what is stored
   abbrev pub whose_by : (P → ℕ) → (K → ℕ) → Entry P K → ℕ
   whose_by of_open of_kept (Open opened) = of_open opened
   whose_by of_open of_kept (Out kept) = of_kept kept
   whose_by of_open of_kept (Done work) = user_of work
 
-  -- something of this user stands there
+  -- the entry is one of this user
   abbrev pub is_of_by : (P → ℕ) → (K → ℕ) → ℕ → Option (Entry P K) → Bool
   is_of_by of_open of_kept user None = false
   is_of_by of_open of_kept user (Some entry) = nat_eq (whose_by of_open of_kept entry) user
 
--- the task that stood open under the key is out
+-- the task that was open under the key is out
 abbrev pub Takes : Book → Book → ℕ → Task → Type 0
 Takes old new key work = LetsOut old new key work work
 
--- the task that was out under the key stands open again
+-- the task that was out under the key is open again
 abbrev pub HandsBack : Book → Book → ℕ → Task → Type 0
 HandsBack old new key work = Reopens old new key work work
 
--- the result of the task that was out under the key stands there, and is counted
+-- the task that was out under the key has its result, which is counted
 abbrev pub Gives : Book → Book → ℕ → Task → Type 0
 Gives old new key work = Finishes old new key work work
 
--- something of this user stands there
+-- the entry is one of this user
 abbrev pub is_of : ℕ → Option (Entry Task Task) → Bool
 is_of user = is_of_by user_of user_of user
 

@@ -1,4 +1,4 @@
--- A book whose tasks go out in their boxes.
+-- A book that hands out tasks in their boxes.
 use Rattle.std.specs.Prelude.{◌≡◌, ℕ, ◌+◌, ◌≤◌, ◌<◌, Bool, true, false, List, [], Option, Some, None, count_by, Vec, vec_len}
 use Rattle.std.specs.Global.{Global}
 use Rattle.std.specs.Vec.{vec_capacity}
@@ -6,48 +6,49 @@ use Rattle.lj_tile.specs.Task.{Task}
 use Rattle.lj_book.specs.declared.entries.TheConstants.{MAX_ENTRIES}
 use Rattle.lj_book.specs.Book.{BookOf, Entry, Open, Out, Done, entry_at, entry_count, user_of, is_of_by, Posts, LetsOut, Reopens, Finishes, Fetches, Removes}
 
--- whether a box lies in an entry, by whether one lies in what stands open, and in what is kept
+-- the entry holds a box, by whether an open one does, and what is stored while it is out
 abbrev pub has_box_by : {P K : Type 0} → (P → Bool) → (K → Bool) → Option (Entry P K) → Bool
 has_box_by in_open in_kept None = false
 has_box_by in_open in_kept (Some (Open opened)) = in_open opened
 has_box_by in_open in_kept (Some (Out kept)) = in_kept kept
 has_box_by in_open in_kept (Some (Done work)) = true
 
--- in how many entries a box lies
+-- how many entries hold a box
 abbrev pub box_count_by : {P K : Type 0} → (P → Bool) → (K → Bool) → List (Option (Entry P K)) → ℕ
 box_count_by in_open in_kept slots = count_by (has_box_by in_open in_kept) slots
 
--- By value a box lies in each entry, and there is one more for what is being changed. All have a place among the spare ones.
+-- By value each entry holds a box, and of MAX_ENTRIES + 1 boxes one more is always spare, to change an entry. All fit
+-- in the list of spare boxes.
 pub record HasBoxes (held : BookOf Task Task) (spare : Vec Task Global) : Type 0 where
   pub boxes : vec_len spare + entry_count held ≡ MAX_ENTRIES + 1
   pub one : 0 < vec_len spare
   pub places : MAX_ENTRIES + 1 ≤ vec_capacity spare
 
--- a task, by the number of its post
+-- a task with the number of its post
 pub record Numbered : Type 0 where
   pub number : ℕ
   pub work : Task
 
--- what is kept of a task whose box is out
+-- what is stored for a task whose box is out
 pub record Slip : Type 0 where
   pub number : ℕ
   pub user : ℕ
 
--- a task that is out in its box: under which key, and by which number of its post
+-- a task that is out in its box, with its key and the number of its post
 pub record Lent : Type 0 where
   pub key : ℕ
   pub number : ℕ
   pub work : Task
 
--- the lent task as it stands open
+-- the lent task as an open one
 abbrev pub numbered_of : Lent → Numbered
 numbered_of lent = record { number = lent.number; work = lent.work }
 
--- what is kept of a task while its box is out
+-- what is stored for a task while its box is out
 abbrev pub slip_for : Numbered → Slip
 slip_for opened = record { number = opened.number; user = user_of opened.work }
 
--- what is kept of the lent task
+-- what is stored for the lent task
 abbrev pub slip_of : Lent → Slip
 slip_of lent = slip_for (numbered_of lent)
 
@@ -57,45 +58,45 @@ pub record BoxBook : Type 0 where
   pub spare : ℕ
   pub made : ℕ
 
--- no box lies in what is kept
+-- the entry holds a box, which none does while it is out
 abbrev pub has_box : Option (Entry Numbered Slip) → Bool
 has_box = has_box_by (λ opened. true) (λ kept. false)
 
--- in how many entries a box lies, which is in those of no task that is out
+-- how many entries hold a box: all but those that are out
 abbrev pub box_count : List (Option (Entry Numbered Slip)) → ℕ
 box_count = box_count_by (λ opened. true) (λ kept. false)
 
--- For how many boxes the book accounts: those that are spare, and one for each entry, which lies there or is out with its
--- task. The others are lent.
+-- how many boxes the book accounts for: the spare ones, and one for each entry, in it or out with its task; the others
+-- are lent
 abbrev pub boxes : BoxBook → ℕ
 boxes book = book.spare + entry_count book.held
 
--- how many boxes lie in the book, spare or in entries
+-- how many boxes are in the book, spare or in entries
 abbrev pub boxes_inside : BoxBook → ℕ
 boxes_inside book = book.spare + box_count book.held.slots
 
--- the task that this box was lent with is out under its key, by the number of its post
+-- the lent task is out under its key, with the number of its post
 abbrev pub IsOut : BoxBook → Lent → Type 0
 IsOut book lent = entry_at book.held lent.key ≡ Some (Out (slip_of lent))
 
--- a number of what stands there is below this one
+-- the number of the entry, if it has one, is below this one
 abbrev pub IsBelow : ℕ → Option (Entry Numbered Slip) → Type 0
 IsBelow posted None = Unit {0}
 IsBelow posted (Some (Open opened)) = opened.number < posted
 IsBelow posted (Some (Out kept)) = kept.number < posted
 IsBelow posted (Some (Done work)) = Unit {0}
 
--- each number in the book is below the count of posts, so that a post has a number of its own
+-- each number in the book is below the count of posts, so that each post has its own number
 abbrev pub AreOlder : BookOf Numbered Slip → Type 0
 AreOlder held = (k : ℕ) → IsBelow held.posted (entry_at held k)
 
--- Of the boxes that were made, as many are lent as are neither spare nor an entry's. All have a place among the spare ones.
+-- The spare boxes and the entries are at most the boxes that were made. All boxes fit in the list of spare ones.
 pub record IsBoxBook (held : BookOf Numbered Slip) (spare : Vec Task Global) (made : ℕ) : Type 0 where
   pub few : vec_len spare + entry_count held ≤ made
   pub places : made ≤ vec_capacity spare
   pub older : AreOlder held
 
--- something of this user stands there
+-- the entry is one of this user
 abbrev pub is_slot_of : ℕ → Option (Entry Numbered Slip) → Bool
 is_slot_of = is_of_by (λ opened. user_of opened.work) (λ kept. kept.user)
 
@@ -107,7 +108,7 @@ empty_box_book made = record {
   made = made;
 }
 
--- the task stands open in its box, by the number of this post, under a key that was vacant
+-- the task is open in its box, with the number of this post, under a key that was vacant
 pub record PostsBox (old new : BoxBook) (work : Task) (key : ℕ) : Type 0 where
   pub posts : Posts old.held new.held (record { number = old.held.posted; work = work }) key
   pub spare : new.spare ≡ old.spare
@@ -121,28 +122,28 @@ pub record TakesBox (old new : BoxBook) (lent : Lent) : Type 0 where
   pub made : new.made ≡ old.made
   pub boxes : boxes new ≡ boxes old
 
--- the task that was out stands open again, in its box
+-- the task that was out is open again, in its box
 pub record HandsBackBox (old new : BoxBook) (lent : Lent) : Type 0 where
   pub hands_back : Reopens old.held new.held lent.key (slip_of lent) (numbered_of lent)
   pub spare : new.spare ≡ old.spare
   pub made : new.made ≡ old.made
   pub boxes : boxes new ≡ boxes old
 
--- the result of the task that was out stands there, in its box
+-- the task that was out has its result, in its box
 pub record GivesBox (old new : BoxBook) (lent : Lent) : Type 0 where
   pub gives : Finishes old.held new.held lent.key (slip_of lent) lent.work
   pub spare : new.spare ≡ old.spare
   pub made : new.made ≡ old.made
   pub boxes : boxes new ≡ boxes old
 
--- the result that stood there has left the book, and its box with it
+-- the result has left the book in its box
 pub record FetchesBox (old new : BoxBook) (work : Task) (key : ℕ) : Type 0 where
   pub fetches : Fetches old.held new.held work key
   pub spare : new.spare ≡ old.spare
   pub made : new.made ≡ old.made
   pub boxes : boxes new + 1 ≡ boxes old
 
--- every entry of the user has left the book; the boxes that lay in them are spare, and those of tasks that are out are lent
+-- every entry of the user has left the book; the boxes in them are spare, and those of tasks that are out are lent
 pub record WithdrawsBox (user : ℕ) (old new : BoxBook) : Type 0 where
   pub withdraws : Removes (is_slot_of user) old.held new.held
   pub made : new.made ≡ old.made

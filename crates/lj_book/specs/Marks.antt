@@ -24,18 +24,18 @@ pub record IsLeast (marks : List Mark) (mark : Mark) (from to key : ℕ) : Type 
   pub last : key < to
   pub none_before : HasNone marks mark from key
 
--- a number of its own for each mark
+-- a number that is different for each mark
 abbrev pub kind_of : Mark → ℕ
 kind_of Vacant = 0
 kind_of ToTake = 1
 kind_of Taken = 2
 kind_of (ToFetch user) = 3 + user
 
--- it is noted that this kind of mark may stand in the group
+-- the notes say that this kind of mark may be in the group
 abbrev pub is_noted : List (List Bool) → ℕ → ℕ → Bool
 is_noted groups group kind = slice_index_or (slice_index_or groups group []) kind false
 
--- each mark that stands is noted in its key's group
+-- each mark is noted in its key's group
 abbrev pub Covers : List Mark → List (List Bool) → Type 0
 Covers marks groups = (k : ℕ) → k < length marks → is_noted groups (k / GROUP) (kind_of (mark_at marks k)) ≡ true
 

@@ -4,19 +4,19 @@ use Rattle.lj_tile.specs.Task.{Task}
 use Rattle.lj_book.specs.Book.{Entry, Open, Out, Done, entry_at}
 use Rattle.lj_book.specs.Boxes.{BoxBook, FetchesBox, GivesBox, HandsBackBox, Lent, Numbered, PostsBox, Slip, TakesBox, WithdrawsBox}
 
--- the number of the post of what stands there without its result
+-- the number of the post of an entry without its result
 abbrev pub number_at : Option (Entry Numbered Slip) → Option ℕ
 number_at None = None
 number_at (Some (Open opened)) = Some opened.number
 number_at (Some (Out kept)) = Some kept.number
 number_at (Some (Done work)) = None
 
--- the task that this box was lent with stands no more under its key, and later posts have greater numbers
+-- the lent task is no longer under its key, and later posts have greater numbers
 pub record HasLeft (book : BoxBook) (lent : Lent) : Type 0 where
   pub number : lent.number < book.held.posted
   pub gone : number_at (entry_at book.held lent.key) ≢ Some lent.number
 
--- what a call changes
+-- one call changes the book
 pub data Changes (old new : BoxBook) : Type 0 where
   Posting : (work : Task) (key : ℕ) → PostsBox old new work key → Changes old new
   Taking : (lent : Lent) → TakesBox old new lent → Changes old new
@@ -26,7 +26,7 @@ pub data Changes (old new : BoxBook) : Type 0 where
   Withdrawing : (user : ℕ) → WithdrawsBox user old new → Changes old new
   Stocking : new.held ≡ old.held → Changes old new
 
--- what so many calls change, one after the other
+-- this many calls change the book, one after the other
 abbrev pub Runs : ℕ → BoxBook → BoxBook → Type 0
 Runs zero old new = new ≡ old
 Runs (suc calls) old new = (next : BoxBook) × Changes old next × Runs calls next new

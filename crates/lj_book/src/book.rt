@@ -1,4 +1,4 @@
-//! The book.
+//! The book of tasks.
 ghost use Rattle.std.specs.Prelude.{◌≡◌, true, false, ◌≤◌, ◌<◌, ◌+◌, ◌-◌, ◌^◌, ◌↔◌, ◌⊎◌, ℕ, List, [], Some, IsOk, OnOk, OnErr, IfOk, IfErr, IfSome, IfNone, IsTrue};
 ghost use Rattle.lj_book.specs.Picks.{IsPick};
 ghost use Rattle.lj_book.specs.Book.{entry_at, entry_count, IsOpenAt, IsDoneAt, Posts, Takes, Gives, HandsBack, Fetches, Withdraws};
@@ -15,11 +15,11 @@ use std::marker::Model;
 /// The key of an entry of a book.
 pub type Key = usize;
 
-/// The book of tasks. A task is posted, and stands open; it is taken, and is out; its result is given, and is then to
-/// be fetched by its user. No call but `new` takes memory.
+/// The book of tasks. A task is posted, and is open; a worker takes it, and it is out; the worker gives its result, and
+/// the user fetches that. Only `new` takes memory.
 ///
-/// Tasks and results are large, so they pass by reference, into a box of the book or a room of the caller; `post`,
-/// `take`, `give` and `fetch` copy them.
+/// Tasks and results are large, so they pass by reference, to a box of the book or to `room`; `post`, `take`, `give`
+/// and `fetch` copy them.
 #[derive(Drop)]
 pub struct Book {
     held: BookOf<TaskBox, TaskBox>,
@@ -38,7 +38,7 @@ impl Model for Book {
 }
 
 impl Book {
-    /// A book without entries, with room for `MAX_ENTRIES`.
+    /// Makes a book without entries, and reserves memory for `MAX_ENTRIES`.
     ///
     /// # Errors
     /// Out of memory.
@@ -51,10 +51,10 @@ impl Book {
         Ok(Book { held, spare })
     }
 
-    /// Posts a copy of a task, which then stands open.
+    /// Posts a copy of a task, which is then open.
     ///
     /// # Errors
-    /// `NoRoom` where `MAX_ENTRIES` entries stand or 2^64 - 1 tasks have been posted. Nothing has changed then.
+    /// `NoRoom` if there are `MAX_ENTRIES` entries, or 2^64 - 1 tasks have been posted. Nothing has changed then.
     pub fn post_from(&mut self, task: &Task) -> Result<(), NoRoom>
         ensures room { IsOk result ↔ ((entry_count self.old < MAX_ENTRIES) × (self.old.posted < 2 ^ 64 - 1)) }
         ensures posts { OnOk result ((key : ℕ) × Posts self.old self.new task.now key) }
@@ -69,12 +69,12 @@ impl Book {
         Ok(())
     }
 
-    /// Posts a task, which then stands open.
+    /// Posts a task, which is then open.
     ///
     /// # Errors
-    /// `Full`, with the task, where `MAX_ENTRIES` entries stand or 2^64 - 1 tasks have been posted.
+    /// `Full`, with the task, if there are `MAX_ENTRIES` entries, or 2^64 - 1 tasks have been posted.
     ///
-    /// Promise: exactly where the book has room, a task stands open under a key that was vacant; else it is handed back,
+    /// Promise: exactly where the book has room, a task is open under a key that was vacant; else it is handed back,
     /// and the book is as before.
     pub fn post(&mut self, task: Task) -> Result<(), Full>
         ensures room { IsOk result ↔ ((entry_count self.old < MAX_ENTRIES) × (self.old.posted < 2 ^ 64 - 1)) }
@@ -88,8 +88,8 @@ impl Book {
         }
     }
 
-    /// Takes the open task of the least key from `pick` on, else of the least key, and copies it into a room. It is then
-    /// out, under the key that is handed out. The room stays as it is where no task is open.
+    /// Takes the open task of the least key from `pick` on, else of the least key, copies it to `room`, and returns its
+    /// key. The task is then out. If no task is open, `room` is unchanged.
     pub fn take_into(&mut self, pick: usize, room: &mut Task) -> Option<Key>
         ensures some { IfSome result (λ key. Takes self.old self.new key room.new) }
         ensures picked { IfSome result (λ key. IsPick (IsOpenAt self.old) pick key) }
@@ -121,10 +121,10 @@ impl Book {
         Some((key, room))
     }
 
-    /// Gives a copy of the result of a task that is out under a key. It is then to be fetched by its user.
+    /// Gives a copy of the result of the task that is out under a key. Its user can then fetch it.
     ///
     /// # Errors
-    /// `NotOut` where that very task is not out under that key. Nothing has changed then.
+    /// `NotOut` if that very task is not out under that key. Nothing has changed then.
     pub fn give_from(&mut self, key: Key, done: &Done) -> Result<(), NotOut>
         ensures given { IsOk result ↔ (entry_at self.old key ≡ Some (Entry.Out done.now)) }
         ensures gives { OnOk result (Gives self.old self.new key done.now) }
@@ -139,12 +139,12 @@ impl Book {
         Ok(())
     }
 
-    /// Gives the result of a task that is out under a key. It is then to be fetched by its user.
+    /// Gives the result of the task that is out under a key. Its user can then fetch it.
     ///
     /// # Errors
-    /// The result, where that very task is not out under that key. Nothing has changed then.
+    /// The result, if that very task is not out under that key. Nothing has changed then.
     ///
-    /// Promise: a result is taken in exactly where that very task is out under that key; else it is handed back, and
+    /// Promise: a result is accepted exactly where that very task is out under that key; else it is handed back, and
     /// nothing has changed.
     pub fn give(&mut self, key: Key, done: Done) -> Result<(), Done>
         ensures given { IsOk result ↔ (entry_at self.old key ≡ Some (Entry.Out done)) }
@@ -161,7 +161,7 @@ impl Book {
     /// Hands back a task that is out under a key. It is then open again.
     ///
     /// # Errors
-    /// `NotOut` where that very task is not out under that key. Nothing has changed then.
+    /// `NotOut` if that very task is not out under that key. Nothing has changed then.
     pub fn hand_back(&mut self, key: Key, task: &Task) -> Result<(), NotOut>
         ensures was_out { IsOk result ↔ (entry_at self.old key ≡ Some (Entry.Out task.now)) }
         ensures hands_back { OnOk result (HandsBack self.old self.new key task.now) }
@@ -177,8 +177,8 @@ impl Book {
         Ok(())
     }
 
-    /// Fetches the user's result of the least key from `pick` on, else of the least key, and copies it into a room. Its
-    /// entry leaves the book. False where there is none: the room stays as it is then.
+    /// Fetches the user's result of the least key from `pick` on, else of the least key: copies it to `room`, and
+    /// removes its entry. Returns false if there is none; `room` is unchanged then.
     pub fn fetch_into(&mut self, user: u8, pick: usize, room: &mut Done) -> bool
         ensures some { result ≡ true → (key : ℕ) × Fetches self.old self.new room.new key
             × IsPick (IsDoneAt user self.old) pick key }
@@ -194,7 +194,7 @@ impl Book {
         true
     }
 
-    /// Fetches the user's result of the least key from `pick` on, else of the least key. Its entry leaves the book.
+    /// Fetches the user's result of the least key from `pick` on, else of the least key, and removes its entry.
     ///
     /// Promise: the user's result of the least key from `pick` on, else of the least key, leaves the book; none exactly
     /// where the user has none.
@@ -211,7 +211,7 @@ impl Book {
         Some(room)
     }
 
-    /// Withdraws every entry of the user, also of tasks that are out.
+    /// Removes every entry of the user, also those of tasks that are out.
     ///
     /// Promise: the user's entries leave the book, those that are out too, and no others.
     pub fn withdraw(&mut self, user: u8)
@@ -221,7 +221,7 @@ impl Book {
         held.withdraw(user, spare);
     }
 
-    /// Whether this very task is out under the key.
+    /// Returns whether this very task is out under the key.
     fn is_out(&self, key: Key, task: &Task) -> bool
         ensures { IsTrue result ↔ (entry_at self.now key ≡ Some (Entry.Out task.now)) }
     {
@@ -231,9 +231,9 @@ impl Book {
         }
     }
 
-    /// The counts. What was posted has been fetched or withdrawn, or stands in the book.
+    /// Returns the counts. Each posted task has been fetched or withdrawn, or is still in the book.
     ///
-    /// Promise: what was posted has been fetched or withdrawn, or stands in the book; no more was given than posted.
+    /// Promise: the posted tasks are those fetched, those withdrawn and those in the book; no more were given than posted.
     pub fn counts(&self) -> Counts
         ensures posted { result.posted ≡ self.now.posted }
         ensures given { result.given ≡ self.now.given }

@@ -1,19 +1,19 @@
-//! What the book refuses by.
+//! Faults of the book.
 use lj_tile::Task;
 use thiserror::Error;
 
-/// The book took no task: it is full, or has taken as many as it counts. The task is handed back.
+/// The refusal of a post, with the task: the book is full, or has counted 2^64 - 1 posts.
 #[derive(Debug, Drop)]
 pub struct Full {
     pub task: Task,
 }
 
-/// That task is not out under that key.
+/// The refusal of a result, or of a task handed back: that task is not out under that key.
 #[derive(Clone, Copy, PartialEq, Eq, Debug, Error)]
 #[error("that task is not out under that key")]
 pub struct NotOut;
 
-/// The book took no task: it is full, or has taken as many as it counts.
+/// The refusal of a post: the book is full, or has counted 2^64 - 1 posts.
 #[derive(Clone, Copy, PartialEq, Eq, Debug, Error)]
 #[error("the book takes no task now")]
 pub struct NoRoom;

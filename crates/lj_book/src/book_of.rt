@@ -1,4 +1,4 @@
-//! A book, whatever stands open in it, and whatever is kept of that while it is out.
+//! A book over any type of open entries, and any type of what it stores while an entry is out.
 ghost use Rattle.std.specs.Prelude.{◌≡◌, true, false, ◌≤◌, ◌<◌, ◌+◌, ◌-◌, ◌^◌, ◌↔◌, ℕ, List, [], Some, None, length, vec_len, IfOk, IfSome, IfNone, IsSome, IsTrue};
 ghost use Rattle.std.specs.Option.{option_copied};
 ghost use Rattle.std.specs.Vec.{vec_capacity};
@@ -15,7 +15,7 @@ use slab::Slab;
 use std::alloc::{AllocError, Global};
 use std::marker::Model;
 
-/// Entries, a mark for each key, and counts. No call but `new` takes memory.
+/// Entries, a mark for each key, and counts. Only `new` takes memory.
 #[derive(Drop)]
 pub(crate) struct BookOf<P, K> {
     entries: Slab<Entry<P, K>>,
@@ -43,7 +43,7 @@ impl<P, K> Model for BookOf<P, K> {
 }
 
 impl<P: Drop, K: Drop> BookOf<P, K> {
-    /// A book without entries, with room for `MAX_ENTRIES`.
+    /// Makes a book without entries, and reserves memory for `MAX_ENTRIES`.
     pub(crate) fn new(alloc: Global) -> Result<BookOf<P, K>, AllocError>
         ensures { IfOk result (λ book.
             book ≡ record { slots = []; posted = 0; given = 0; fetched = 0; withdrawn = 0 }) }
@@ -60,28 +60,28 @@ impl<P: Drop, K: Drop> BookOf<P, K> {
         })
     }
 
-    /// Whether an entry more has room, and a post more is counted.
+    /// Returns whether there is room for one more entry, and one more post can be counted.
     pub(crate) fn has_room(&self) -> bool
         ensures { IsTrue result ↔ HasRoom self.now }
     {
         self.entries.len() < MAX_ENTRIES && self.posted < u64::MAX
     }
 
-    /// How many entries stand.
+    /// Returns the number of entries.
     pub(crate) fn len(&self) -> usize
         ensures { result ≡ entry_count self.now }
     {
         self.entries.len()
     }
 
-    /// How many were posted.
+    /// Returns the number of posts.
     pub(crate) fn posted(&self) -> u64
         ensures { result ≡ self.now.posted }
     {
         self.posted
     }
 
-    /// Posts what then stands open.
+    /// Adds an open entry, and counts it as posted.
     pub(crate) fn post(&mut self, opened: P)
         requires { HasRoom self.old }
         ensures { (key : ℕ) × Posts self.old self.new opened key }
@@ -91,7 +91,7 @@ impl<P: Drop, K: Drop> BookOf<P, K> {
         self.posted += 1;
     }
 
-    /// The least key from `pick` on under which something stands open, else the least.
+    /// Returns the least key from `pick` on whose entry is open, else the least.
     pub(crate) fn find_open(&self, pick: usize) -> Option<usize>
         ensures some { IfSome result (λ key. IsPick (IsOpenAt self.now) pick key) }
         ensures none { IfNone result ((k : ℕ) → ¬ IsOpenAt self.now k) }
@@ -99,7 +99,7 @@ impl<P: Drop, K: Drop> BookOf<P, K> {
         self.marks.find(Mark::ToTake, pick)
     }
 
-    /// What stands open under a key.
+    /// Returns the open entry under a key.
     pub(crate) fn open_at(&self, key: usize) -> &P
         requires { IsOpenAt self.now key }
         ensures { entry_at self.now key ≡ Some (Entry.Open result.now) }
@@ -110,7 +110,7 @@ impl<P: Drop, K: Drop> BookOf<P, K> {
         }
     }
 
-    /// What is kept under a key of what is out.
+    /// Returns what is stored under a key while its entry is out.
     pub(crate) fn kept_at(&self, key: usize) -> Option<&K>
         ensures { option_copied result ≡ kept_at (entry_at self.now key) }
     {
@@ -120,7 +120,7 @@ impl<P: Drop, K: Drop> BookOf<P, K> {
         }
     }
 
-    /// Lets what stands open under a key out.
+    /// Lets the open entry under a key out, and stores `kept` in its place.
     pub(crate) fn let_out(&mut self, key: usize, kept: K) -> P
         requires { IsOpenAt self.old key }
         ensures { LetsOut self.old self.new key result kept }
@@ -133,7 +133,7 @@ impl<P: Drop, K: Drop> BookOf<P, K> {
         }
     }
 
-    /// Opens what is out under a key again.
+    /// Opens an entry again that is out, and returns what was stored in its place.
     pub(crate) fn reopen(&mut self, key: usize, opened: P) -> K
         requires { mark_of (entry_at self.old key) ≡ Taken }
         ensures { Reopens self.old self.new key result opened }
@@ -146,7 +146,7 @@ impl<P: Drop, K: Drop> BookOf<P, K> {
         }
     }
 
-    /// Puts a result in the place of what is out under a key.
+    /// Stores the result of an entry that is out, and returns what was stored in its place.
     pub(crate) fn finish(&mut self, key: usize, done: DoneBox) -> K
         requires { mark_of (entry_at self.old key) ≡ Taken }
         ensures { Finishes self.old self.new key result done }
@@ -161,7 +161,7 @@ impl<P: Drop, K: Drop> BookOf<P, K> {
         }
     }
 
-    /// Fetches the user's result of the least key from `pick` on, else of the least key. Its entry leaves the book.
+    /// Fetches the user's result of the least key from `pick` on, else of the least key, and removes its entry.
     pub(crate) fn fetch(&mut self, user: u8, pick: usize) -> Option<DoneBox>
         ensures some { IfSome result (λ done. (key : ℕ) × Fetches self.old self.new done key
             × IsPick (IsDoneAt user self.old) pick key) }
@@ -178,7 +178,7 @@ impl<P: Drop, K: Drop> BookOf<P, K> {
         }
     }
 
-    /// The counts.
+    /// Returns the counts.
     pub(crate) fn counts(&self) -> Counts
         ensures posted { result.posted ≡ self.now.posted }
         ensures given { result.given ≡ self.now.given }
@@ -199,7 +199,7 @@ impl<P: Drop, K: Drop> BookOf<P, K> {
 }
 
 impl<P: Keeps, K: Keeps> BookOf<P, K> {
-    /// Removes every entry of the user, also of what is out. The boxes that lay in them are spare then.
+    /// Removes every entry of the user, also those that are out, and puts the boxes in them among the spare ones.
     pub(crate) fn withdraw(&mut self, user: u8, spare: &mut Vec<TaskBox>)
         requires { vec_len spare.old + entry_count self.old ≤ vec_capacity spare.old }
         ensures removes { Removes (is_of_by P.whose K.whose user) self.old self.new }
@@ -214,7 +214,7 @@ impl<P: Keeps, K: Keeps> BookOf<P, K> {
         }
     }
 
-    /// Removes what stands under the key, if it is of the user.
+    /// Removes the entry under the key if it is the user's.
     fn withdraw_at(&mut self, key: usize, user: u8, spare: &mut Vec<TaskBox>)
         requires { vec_len spare.old + entry_count self.old ≤ vec_capacity spare.old }
         ensures removes { RemovesAt (is_of_by P.whose K.whose user) key self.old self.new }
@@ -232,7 +232,7 @@ impl<P: Keeps, K: Keeps> BookOf<P, K> {
         }
     }
 
-    /// Whether something of the user stands under the key.
+    /// Returns whether the key has an entry of the user.
     fn is_of(&self, key: usize, user: u8) -> bool
         ensures { result ≡ is_of_by P.whose K.whose user (entry_at self.now key) }
     {
@@ -242,7 +242,7 @@ impl<P: Keeps, K: Keeps> BookOf<P, K> {
         }
     }
 
-    /// Removes what stands under the key, and counts it as withdrawn.
+    /// Removes the entry under the key, and counts it as withdrawn.
     fn remove(&mut self, key: usize) -> Entry<P, K>
         requires { IsSome (entry_at self.old key) }
         ensures was { entry_at self.old key ≡ Some result }

@@ -1,4 +1,4 @@
-//! The book whose tasks go out in their boxes.
+//! The book that hands out tasks in their boxes.
 ghost use Rattle.std.specs.Prelude.{◌≡◌, ◌≤◌, ◌<◌, ◌+◌, ◌-◌, ◌↔◌, ℕ, Some, IsOk, IsTrue, OnOk, OnErr, OnSome, IfOk, IfErr, IfSome, IfNone};
 ghost use Rattle.lj_book.specs.Picks.{IsPick};
 ghost use Rattle.lj_book.specs.Book.{entry_at, entry_count, HasRoom, IsOpenAt, IsDoneAt};
@@ -12,12 +12,12 @@ use crate::lent::{Lent, LentDone, Numbered, Slip};
 use std::alloc::{AllocError, Global};
 use std::marker::Model;
 
-/// The book of tasks in boxes. A box comes with its task and stands open; it is taken, and only the number of its post
-/// and whose it is are kept; it comes back with its result, which its user then fetches in the box. Nothing of a box is
-/// copied, and no call but `new` takes memory.
+/// The book of tasks in boxes. A task is posted in its box, and is open; a worker takes the box, and the book stores
+/// only the number of the post and the user; the worker gives the box back with the result, and the user fetches it. No
+/// box is copied, and only `new` takes memory.
 ///
-/// A post has a number of its own, so a box that is out is known by its key and number: one that was withdrawn is refused
-/// also where its key was posted anew.
+/// Each post has its own number, so the book knows a box that is out by its key and number: it refuses one that was
+/// withdrawn, even if its key is in use again.
 #[derive(Drop)]
 pub struct BoxBook {
     held: BookOf<Numbered, Slip>,
@@ -37,7 +37,7 @@ impl Model for BoxBook {
 }
 
 impl BoxBook {
-    /// A book without entries, and so many boxes, all spare.
+    /// Makes a book without entries, with `made` boxes, all spare.
     ///
     /// # Errors
     /// Out of memory.
@@ -60,14 +60,14 @@ impl BoxBook {
         self.spare.pop()
     }
 
-    /// Whether a box is spare.
+    /// Returns whether a box is spare.
     pub fn has_spare(&self) -> bool
         ensures { IsTrue result ↔ (0 < self.now.spare) }
     {
         !self.spare.is_empty()
     }
 
-    /// Puts a box by that was lent. One that comes from elsewhere, since none is lent, is let go.
+    /// Takes back a box that was lent. If none is lent, the box comes from elsewhere and is dropped.
     ///
     /// Promise: no box that was lent is lost.
     pub fn put_by(&mut self, lent: TaskBox)
@@ -79,14 +79,14 @@ impl BoxBook {
         }
     }
 
-    /// Posts the task in a box, which then stands open.
+    /// Posts the task in a box, which is then open.
     ///
     /// # Errors
-    /// The box, where `MAX_ENTRIES` entries stand, 2^64 - 1 tasks have been posted, or no box is lent, so that it comes from
-    /// elsewhere. Nothing has changed then.
+    /// The box, if there are `MAX_ENTRIES` entries, 2^64 - 1 tasks have been posted, or no box is lent, so that this
+    /// one comes from elsewhere. Nothing has changed then.
     ///
-    /// Promise: exactly where the book has room and has lent a box, the task stands open in its box, by a number that no post had; else the
-    /// box is handed back, and the book is as before.
+    /// Promise: exactly where the book has room and has lent a box, the task is open in its box, under a number that no
+    /// post had; else the box is handed back, and the book is as before.
     pub fn post_box(&mut self, task: TaskBox) -> Result<(), TaskBox>
         ensures room { IsOk result ↔ (HasRoom self.old.held × (boxes_of self.old < self.old.made)) }
         ensures posts { OnOk result ((key : ℕ) × PostsBox self.old self.new task key) }
@@ -117,13 +117,13 @@ impl BoxBook {
         Some(Lent { key, number, task })
     }
 
-    /// Gives the result of a task that is out. It is then to be fetched by its user.
+    /// Gives the result of a task that is out. Its user can then fetch it.
     ///
     /// # Errors
-    /// The box, where no task is out under that key by that number. Nothing has changed then.
+    /// The box, if no task is out under that key with that number. Nothing has changed then.
     ///
-    /// Promise: a result is taken in exactly where its box is the one that is out under that key; else the box is handed
-    /// back, and nothing has changed.
+    /// Promise: a result is accepted exactly where its box is the one that is out under that key; else the box is
+    /// handed back, and nothing has changed.
     pub fn give_box(&mut self, lent: LentDone) -> Result<(), DoneBox>
         ensures given { IsOk result ↔ IsOut self.old lent }
         ensures gives { OnOk result (GivesBox self.old self.new lent) }
@@ -142,7 +142,7 @@ impl BoxBook {
     /// Hands back a task that is out. It is then open again, in its box.
     ///
     /// # Errors
-    /// The box, where no task is out under that key by that number. Nothing has changed then.
+    /// The box, if no task is out under that key with that number. Nothing has changed then.
     pub fn hand_back_box(&mut self, lent: Lent) -> Result<(), TaskBox>
         ensures was_out { IsOk result ↔ IsOut self.old lent }
         ensures hands_back { OnOk result (HandsBackBox self.old self.new lent) }
@@ -158,8 +158,7 @@ impl BoxBook {
         Ok(())
     }
 
-    /// Fetches the user's result of the least key from `pick` on, else of the least key, in its box. Its entry leaves the
-    /// book.
+    /// Fetches the user's result of the least key from `pick` on, else of the least key, in its box, and removes its entry.
     ///
     /// Promise: the user's result of the least key from `pick` on, else of the least key, leaves the book in its box; none
     /// exactly where the user has none.
@@ -172,7 +171,7 @@ impl BoxBook {
         self.held.fetch(user, pick)
     }
 
-    /// Withdraws every entry of the user, also of tasks that are out. The boxes that lay in them are spare then.
+    /// Removes every entry of the user, also those of tasks that are out. The boxes in them are spare then.
     ///
     /// Promise: the user's entries leave the book, those that are out too, and no others; no box is lost.
     pub fn withdraw(&mut self, user: u8)
@@ -182,21 +181,21 @@ impl BoxBook {
         held.withdraw(user, spare);
     }
 
-    /// Whether a box that was lent can be posted.
+    /// Returns whether a box that was lent can be posted.
     fn has_room(&self) -> bool
         ensures { IsTrue result ↔ (HasRoom self.now.held × (boxes_of self.now < self.now.made)) }
     {
         self.held.has_room() && self.is_any_lent()
     }
 
-    /// Whether a box is lent that is not out with the task of an entry.
+    /// Returns whether a box is lent that is not out with the task of an entry.
     fn is_any_lent(&self) -> bool
         ensures { IsTrue result ↔ (boxes_of self.now < self.now.made) }
     {
         self.spare.len() + self.held.len() < self.made
     }
 
-    /// Whether a task of this user is out under the key by this number.
+    /// Returns whether a task of this user is out under the key with this number.
     fn is_out(&self, key: usize, number: u64, user: u8) -> bool
         ensures { IsTrue result ↔ (entry_at self.now.held key ≡ Some (Entry.Out (record { number = number; user = user }))) }
     {
@@ -206,23 +205,23 @@ impl BoxBook {
         }
     }
 
-    /// Each number in the book is below the count of posts, so no post has the number of another.
+    /// Shows that each number in the book is below the count of posts, so no two posts have the same number.
     pub fn numbers_are_older(&self)
         ensures { AreOlder self.now.held }
     {
         let _held = &self.held;
     }
 
-    /// Of the boxes that were made, as many are lent as are neither spare nor an entry's.
+    /// Shows that the spare boxes and the entries are together at most the boxes that were made; the other boxes are lent.
     pub fn boxes_are_few(&self)
         ensures { boxes_of self.now ≤ self.now.made }
     {
         let _held = &self.held;
     }
 
-    /// The counts. What was posted has been fetched or withdrawn, or stands in the book.
+    /// Returns the counts. Each posted task has been fetched or withdrawn, or is still in the book.
     ///
-    /// Promise: what was posted has been fetched or withdrawn, or stands in the book; no more was given than posted.
+    /// Promise: the posted tasks are those fetched, those withdrawn and those in the book; no more were given than posted.
     pub fn counts(&self) -> Counts
         ensures posted { result.posted ≡ self.now.held.posted }
         ensures given { result.given ≡ self.now.held.given }

@@ -1,4 +1,4 @@
-//! Boxes: in each there is room for a task and for its sums, so that only the box moves.
+//! Boxes: each holds a task and its sums, so that only the box moves.
 ghost use Rattle.std.specs.Prelude.{◌≡◌, ◌+◌, ◌≤◌, ◌<◌, ℕ, Bool, is_some, vec_len, IfOk};
 ghost use Rattle.std.specs.Vec.{vec_capacity};
 
@@ -7,15 +7,15 @@ use lj_tile::{Done, DoneRef, Sums, Task, compute_sums};
 use std::alloc::{AllocError, Global};
 use std::marker::Model;
 
-/// A task and room for its sums, which a worker writes. The worker only reads the task, and the end that wrote it reads it
-/// again where it lies.
+/// A task and its sums. A worker reads the task and writes the sums; the connection that wrote the task reads it again
+/// in place.
 #[derive(Drop)]
 struct Rooms {
     task: Task,
     sums: Sums,
 }
 
-/// A task in a box, with room for its sums.
+/// A task in a box, with memory for its sums.
 #[derive(Drop)]
 pub struct TaskBox {
     rooms: Box<Rooms>,
@@ -30,7 +30,7 @@ impl Model for TaskBox {
 }
 
 impl TaskBox {
-    /// A box of a task of one atom: room for others.
+    /// Makes a box of a task of one atom, to be overwritten.
     ///
     /// # Errors
     /// Out of memory.
@@ -44,7 +44,7 @@ impl TaskBox {
         })
     }
 
-    /// The task.
+    /// Returns the task.
     pub fn task(&self) -> &Task
         ensures { result.now ≡ self.now }
     {
@@ -68,7 +68,7 @@ impl TaskBox {
         DoneBox { rooms }
     }
 
-    /// A copy of a result, in this box.
+    /// Copies a result to this box.
     pub(crate) fn filled(self, done: &Done) -> DoneBox
         ensures { result ≡ done.now }
     {
@@ -98,7 +98,7 @@ impl Model for DoneBox {
 }
 
 impl DoneBox {
-    /// A box of the result of a task of one atom: room for others.
+    /// Makes a box of the result of a task of one atom, to be overwritten.
     ///
     /// # Errors
     /// Out of memory.
@@ -106,20 +106,20 @@ impl DoneBox {
         Ok(TaskBox::new(alloc)?.filled(&Done::blank()))
     }
 
-    /// The result.
+    /// Returns the result.
     pub fn done(&self) -> DoneRef<'_>
         ensures { result ≡ self.now }
     {
         DoneRef::new(&self.rooms.task, &self.rooms.sums)
     }
 
-    /// The box, for another task.
+    /// Returns the box, for another task.
     pub fn into_task(self) -> TaskBox {
         TaskBox { rooms: self.rooms }
     }
 }
 
-/// So many boxes.
+/// Makes `count` boxes.
 pub(crate) fn boxes(alloc: Global, count: usize) -> Result<Vec<TaskBox>, AllocError>
     ensures count { IfOk result (λ made. vec_len made ≡ count) }
     ensures places { IfOk result (λ made. count ≤ vec_capacity made) }
@@ -131,7 +131,7 @@ pub(crate) fn boxes(alloc: Global, count: usize) -> Result<Vec<TaskBox>, AllocEr
     Ok(made)
 }
 
-/// A spare box.
+/// Takes a spare box.
 pub(crate) fn spare_box(spare: &mut Vec<TaskBox>) -> TaskBox
     requires { 0 < vec_len spare.old }
     ensures len { vec_len spare.new + 1 ≡ vec_len spare.old }

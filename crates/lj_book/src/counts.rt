@@ -1,6 +1,6 @@
-//! What a book counts.
+//! Counts of a book.
 
-/// The counts of a book.
+/// The counts of a book's tasks, results and entries.
 #[derive(Clone, Copy, PartialEq, Eq, Debug)]
 pub struct Counts {
     /// Tasks that were ever posted.
@@ -11,6 +11,6 @@ pub struct Counts {
     pub fetched: u64,
     /// Entries that were ever withdrawn.
     pub withdrawn: u64,
-    /// Entries that stand now.
+    /// Entries that are in the book now.
     pub entries: u64,
 }

@@ -10,18 +10,18 @@ use slab::Slab;
 /// The most entries of a book: tasks that are posted, and neither fetched nor withdrawn.
 pub const MAX_ENTRIES: usize = 1024;
 
-/// What stands open, what is kept of it while it is out, or its result.
+/// An entry: open, out with what is stored meanwhile, or done with its result.
 #[derive(Drop)]
 pub enum Entry<P, K> {
-    /// It is to be taken.
+    /// The task is not taken.
     Open(P),
-    /// It was taken.
+    /// The task is taken, and its result is not given.
     Out(K),
-    /// Its result was given.
+    /// The result is given.
     Done(DoneBox),
 }
 
-/// Puts an entry in the place of the one under a key.
+/// Replaces the entry under a key, and returns the old one.
 pub(crate) fn put_for<P, K>(
     entries: &mut Slab<Entry<P, K>>,
     key: usize,
@@ -38,19 +38,19 @@ pub(crate) fn put_for<P, K>(
     was
 }
 
-/// What a book keeps of a task without its result.
+/// What a book stores for a task without its result.
 pub(crate) trait Keeps: Drop {
-    /// Whose the task is.
+    /// The user of the task.
     ghost whose: { Self → ℕ };
 
-    /// Whether a box lies in it.
+    /// It holds a box.
     ghost boxed: { Self → Bool };
 
-    /// Whose the task is.
+    /// Returns the user of the task.
     fn user(&self) -> u8
         ensures { result ≡ whose self.now };
 
-    /// The box that lies in it.
+    /// Returns the box that it holds.
     fn into_box(self) -> Option<TaskBox>
         ensures { is_some result ≡ boxed self };
 }
@@ -70,7 +70,7 @@ impl Keeps for TaskBox {
 }
 
 impl<P: Keeps, K: Keeps> Entry<P, K> {
-    /// Whose the entry is.
+    /// Returns the user of the entry.
     pub(crate) fn user(&self) -> u8
         ensures { result ≡ whose_by P.whose K.whose self.now }
     {
@@ -81,7 +81,7 @@ impl<P: Keeps, K: Keeps> Entry<P, K> {
         }
     }
 
-    /// The box that lies in the entry.
+    /// Returns the box that the entry holds.
     pub(crate) fn into_box(self) -> Option<TaskBox>
         ensures { is_some result ≡ has_box_by P.boxed K.boxed (Some self) }
     {

@@ -9,8 +9,8 @@ use lj_table::Table;
 use lj_tile::{DoneRef, Task};
 use std::marker::Model;
 
-/// A task that stands open in its box, by the number of its post. Its user stands beside the box, so that who takes the task
-/// need not read the box for it, whose lines another processor has written.
+/// An open task in its box, with the number of its post. The user is stored beside the box, so that a take under a lock does not
+/// read the box, whose cache lines another processor has written.
 #[derive(Drop)]
 pub(crate) struct Numbered {
     pub(crate) number: u64,
@@ -28,7 +28,7 @@ impl Model for Numbered {
 }
 
 impl Numbered {
-    /// A task in its box, by this number of its post.
+    /// Returns a task in its box as posted under this number.
     pub(crate) fn new(number: u64, task: TaskBox) -> Numbered
         ensures { result ≡ record { number = number; work = task } }
     {
@@ -36,7 +36,7 @@ impl Numbered {
         Numbered { number, user, task }
     }
 
-    /// What is kept of the task while its box is out.
+    /// Returns what the book stores for the task while its box is out.
     pub(crate) fn slip(&self) -> Slip
         ensures { result ≡ slip_for self.now }
     {
@@ -61,7 +61,7 @@ impl Keeps for Numbered {
     }
 }
 
-/// What is kept of a task while its box is out: the number of its post, and whose it is.
+/// What the book stores for a task while its box is out: the number of its post, and its user.
 #[derive(Drop)]
 pub(crate) struct Slip {
     pub(crate) number: u64,
@@ -90,8 +90,8 @@ impl Keeps for Slip {
     }
 }
 
-/// A task that is out in its box: under which key, and by which number of its post. Only a book makes one, and nothing
-/// changes its task.
+/// A task that is out in its box, with its key and the number of its post. Only a book makes one, and nothing changes
+/// its task.
 #[derive(Drop)]
 pub struct Lent {
     pub(crate) key: usize,
@@ -108,14 +108,14 @@ impl Model for Lent {
 }
 
 impl Lent {
-    /// Its key.
+    /// Returns its key.
     pub fn key(&self) -> usize
         ensures { result ≡ self.now.key }
     {
         self.key
     }
 
-    /// The task.
+    /// Returns the task.
     pub fn task(&self) -> &Task
         ensures { result.now ≡ self.now.work }
     {
@@ -153,7 +153,7 @@ impl Model for LentDone {
 }
 
 impl LentDone {
-    /// The result.
+    /// Returns the result.
     pub fn done(&self) -> DoneRef<'_>
         ensures { result ≡ self.now.work }
     {

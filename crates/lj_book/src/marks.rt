@@ -6,13 +6,13 @@ ghost use Rattle.lj_book.specs.Marks.{HasMark, IsLeast, HasNone, kind_of, mark_a
 use std::alloc::{AllocError, Global};
 use std::marker::Model;
 
-/// The keys stand in groups of so many.
+/// The number of keys in a group.
 const GROUP: usize = 32;
 
 /// The number of different marks.
 const KINDS: usize = 259;
 
-/// What stands under a key.
+/// The state of a key.
 #[derive(Clone, Copy, PartialEq, Eq, Debug)]
 pub enum Mark {
     Vacant,
@@ -25,7 +25,7 @@ pub enum Mark {
 }
 
 impl Mark {
-    /// A number of its own for each mark.
+    /// Returns a number that is different for each mark.
     fn kind(self) -> usize
         ensures value { result ≡ kind_of self }
         ensures within { result < KINDS }
@@ -39,8 +39,8 @@ impl Mark {
     }
 }
 
-/// The marks of the keys from 0 on. For each group of keys it is noted which kinds of marks may stand there, so that a
-/// search passes over the groups without the mark.
+/// The marks of the keys from 0 on. For each group of keys it notes which kinds of marks may be there, so that a search
+/// skips the groups without the mark.
 #[derive(Drop)]
 pub(crate) struct Marks {
     marks: Vec<Mark>,
@@ -61,7 +61,7 @@ impl Model for Marks {
 }
 
 impl Marks {
-    /// As many keys, all vacant.
+    /// Makes the marks of `keys` keys, all vacant.
     pub(crate) fn new(alloc: Global, keys: usize) -> Result<Marks, AllocError>
         ensures { IfOk result (λ m. m ≡ replicate keys Mark.Vacant) }
     {
@@ -85,7 +85,7 @@ impl Marks {
         );
     }
 
-    /// The least key from `pick` on that has the mark, else the least that has it.
+    /// Returns the least key from `pick` on that has the mark, else the least that has it.
     pub(crate) fn find(&self, mark: Mark, pick: usize) -> Option<usize>
         ensures some { IfSome result (λ key. IsPick (HasMark self.now mark) pick key) }
         ensures none { IfNone result (HasNone self.now mark 0 (length self.now)) }
@@ -96,7 +96,7 @@ impl Marks {
         }
     }
 
-    /// The least key from `from` on that has the mark.
+    /// Returns the least key from `from` on that has the mark.
     fn least_from(&self, mark: Mark, from: usize) -> Option<usize>
         ensures some { IfSome result (IsLeast self.now mark from (length self.now)) }
         ensures none { IfNone result (HasNone self.now mark from (length self.now)) }
@@ -116,7 +116,7 @@ impl Marks {
     }
 }
 
-/// The kinds of marks of a group whose keys are all vacant.
+/// Returns the kinds of marks of a group whose keys are all vacant.
 fn vacant_kinds() -> [bool; KINDS]
     ensures vacant { slice_index_or result (kind_of Mark.Vacant) false ≡ true }
     ensures len { length result ≡ KINDS }
@@ -126,7 +126,7 @@ fn vacant_kinds() -> [bool; KINDS]
     kinds
 }
 
-/// Notes that a kind of mark may stand in a group, or that it does not.
+/// Notes that a kind of mark may be in a group, or that it is not.
 fn note(groups: &mut [[bool; KINDS]], group: usize, kind: usize, stands: bool)
     requires group { group < length groups.old }
     requires kind { kind < KINDS }
@@ -138,7 +138,7 @@ fn note(groups: &mut [[bool; KINDS]], group: usize, kind: usize, stands: bool)
     kinds[kind] = stands;
 }
 
-/// Where no key in the group of `key` has this kind of mark any more, notes it.
+/// Notes that this kind of mark is not in the group of `key`, if no key there has it any more.
 fn tidy(marks: &[Mark], groups: &mut [[bool; KINDS]], key: usize, kind: usize)
     requires within { key < length marks.now }
     requires kind { kind < KINDS }
@@ -151,7 +151,7 @@ fn tidy(marks: &[Mark], groups: &mut [[bool; KINDS]], key: usize, kind: usize)
     }
 }
 
-/// Whether a key in the group of `key` has this kind of mark.
+/// Returns whether a key in the group of `key` has this kind of mark.
 fn stands_beside(marks: &[Mark], key: usize, kind: usize) -> bool
     requires { key < length marks.now }
     ensures { result ≡ false → (k : ℕ) → k < length marks.now → k / GROUP ≡ key / GROUP
@@ -167,7 +167,7 @@ fn stands_beside(marks: &[Mark], key: usize, kind: usize) -> bool
     false
 }
 
-/// The least key of a group that has the mark, of those from `from` on.
+/// Returns the least key of a group that has the mark, of those from `from` on.
 fn least_in(
     marks: &[Mark],
     groups: &[[bool; KINDS]],
@@ -191,7 +191,7 @@ fn least_in(
     least(marks, mark, from.max(first), last)
 }
 
-/// The least key in `from..to` that has the mark.
+/// Returns the least key in `from..to` that has the mark.
 fn least(marks: &[Mark], mark: Mark, from: usize, to: usize) -> Option<usize>
     requires { to ≤ length marks.now }
     ensures some { IfSome result (IsLeast marks.now mark from to) }
