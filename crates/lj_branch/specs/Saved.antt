@@ -6,6 +6,6 @@ use Rattle.lj_step.specs.Motion.{Simulation}
 abbrev pub names : List (List ℕ × Simulation) → List (List ℕ)
 names saved = map (λ entry. entry.0) saved
 
--- the step numbers of what is saved, in order of saving
+-- the step numbers of the saved simulations, in order of saving
 abbrev pub step_numbers : List (List ℕ × Simulation) → List ℤ
 step_numbers saved = map (λ entry. entry.1.step) saved

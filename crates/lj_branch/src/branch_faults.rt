@@ -1,4 +1,4 @@
-//! What saving and restoring can fail by.
+//! Faults of saving and restoring.
 ghost use Rattle.std.specs.Prelude.{◌≡◌};
 ghost use Rattle.lj_branch.specs.declared.branch_faults.SaveFault.TheVariants.{Memory};
 
@@ -6,7 +6,7 @@ use std::alloc::AllocError;
 use std::fmt;
 use thiserror::Error;
 
-/// Why a simulation was not saved.
+/// The reason why a simulation was not saved.
 #[derive(Clone, Copy, PartialEq, Eq, Debug, Error)]
 pub enum SaveFault {
     Exists,
@@ -35,7 +35,7 @@ impl From<AllocError> for SaveFault {
     }
 }
 
-/// No simulation is saved under the name.
+/// The fault that no simulation is saved under the name.
 #[derive(Clone, Copy, PartialEq, Eq, Debug, Error)]
 pub struct NoBranch;
 

@@ -1,4 +1,4 @@
-//! The list of what is saved.
+//! The list of saved simulations.
 ghost use Rattle.std.specs.Prelude.{◌≡◌, ◌↔◌, ◌<◌, ◌++◌, ◌∷◌, [], length, slice_get, Some, IsTrue, IsSome, IfSome};
 ghost use Rattle.std.specs.Prelude.{IsOk, OnOk, OnErr, IsErrOf, option_map};
 ghost use Rattle.std.specs.List.{IsDistinct};
@@ -16,8 +16,7 @@ use lj_step::{Sim, Snapshot};
 use std::alloc::Global;
 use std::marker::Model;
 
-/// Simulations saved under names, in order of saving. What is saved is a copy: the simulation that it was taken of goes
-/// on by itself.
+/// Simulations saved under names, in order of saving. Each is a copy, independent of the simulation that was saved.
 #[derive(Drop)]
 pub struct Branches {
     saved: IndexMap<Name, Snapshot>,
@@ -33,7 +32,7 @@ impl Model for Branches {
 }
 
 impl Branches {
-    /// Nothing saved. It takes no memory, and nor does any other call but `save`.
+    /// Makes an empty list. Only `save` takes memory.
     pub fn new(alloc: Global) -> Branches
         ensures { result ≡ [] }
     {
@@ -42,13 +41,13 @@ impl Branches {
         }
     }
 
-    /// Saves a copy of a simulation under a new name, which goes last.
+    /// Saves a copy of a simulation under a new name, at the end of the list.
     ///
     /// # Errors
-    /// `Exists` where the name is taken, else `Memory` where there is none for the copy. Nothing is saved then.
+    /// `Exists` if the name is taken, else `Memory` if there is none for the copy. Nothing is saved then.
     ///
-    /// Promise: a simulation that is saved stands last under its name, exactly as it was; a save that is refused
-    /// changes nothing.
+    /// Promise: a saved simulation is last in the list, under its name and exactly as it was; a refused save changes
+    /// nothing.
     pub fn save(&mut self, name: Name, sim: &Sim) -> Result<(), SaveFault>
         ensures exists { IsErrOf result Exists ↔ IsSome (value_named name self.old) }
         ensures saved { OnOk result (self.new ≡ with_value name sim.now.sim self.old) }
@@ -65,12 +64,12 @@ impl Branches {
         }
     }
 
-    /// Puts a simulation back to what is saved under a name, which stays saved. An open step is closed.
+    /// Sets a simulation to the one saved under a name, which stays saved, and closes an open step.
     ///
     /// # Errors
-    /// `NoBranch` where nothing is saved under it. The simulation is unchanged then.
+    /// `NoBranch` if nothing is saved under it. The simulation is unchanged then.
     ///
-    /// Promise: exactly where something is saved under the name the simulation becomes it, and else it stays as it was.
+    /// Promise: the simulation becomes the one saved under the name exactly where there is one, and else stays as it was.
     pub fn restore_into(&self, name: &Name, sim: &mut Sim) -> Result<(), NoBranch>
         requires { ForSome (value_named name.now self.now) (λ s. length s.cur ≡ length sim.old.sim.cur) }
         ensures found { IsOk result ↔ IsSome (value_named name.now self.now) }
@@ -83,10 +82,10 @@ impl Branches {
         Ok(())
     }
 
-    /// Takes out a name with what is saved under it. The others keep their order.
+    /// Removes a name and the simulation saved under it. The others keep their order.
     ///
     /// # Errors
-    /// `NoBranch` where nothing is saved under it. Nothing has changed then.
+    /// `NoBranch` if nothing is saved under it. Nothing has changed then.
     pub fn forget(&mut self, name: &Name) -> Result<(), NoBranch>
         ensures found { IsOk result ↔ IsSome (value_named name.now self.old) }
         ensures taken { OnOk result (self.new ≡ without_value name.now self.old) }
@@ -96,14 +95,14 @@ impl Branches {
         Ok(())
     }
 
-    /// How many atoms what is saved under a name has; None where nothing is.
+    /// Returns how many atoms the simulation saved under a name has; None if there is none.
     pub fn count_of(&self, name: &Name) -> Option<usize>
         ensures { result ≡ option_map (λ s. length s.cur) (value_named name.now self.now) }
     {
         Some(self.saved.get(name)?.count())
     }
 
-    /// How many are saved.
+    /// Returns how many simulations are saved.
     pub fn len(&self) -> usize
         ensures value { result ≡ length self.now }
         ensures distinct { IsDistinct bytes_eq (names self.now) }
@@ -111,14 +110,14 @@ impl Branches {
         self.saved.len()
     }
 
-    /// Whether nothing is saved.
+    /// Returns whether nothing is saved.
     pub fn is_empty(&self) -> bool
         ensures { IsTrue result ↔ (self.now ≡ []) }
     {
         self.saved.is_empty()
     }
 
-    /// The i-th name, in order of saving.
+    /// Returns the i-th name, in order of saving.
     pub fn name_at(&self, i: usize) -> &Name
         requires { i < length self.now }
         ensures { slice_get (names self.now) i ≡ Some result.now }
@@ -126,7 +125,7 @@ impl Branches {
         self.saved.get_index(i).unwrap().0
     }
 
-    /// The step number of the i-th that is saved, in order of saving.
+    /// Returns the step number of the i-th saved simulation, in order of saving.
     pub fn step_at(&self, i: usize) -> i64
         requires { i < length self.now }
         ensures { slice_get (step_numbers self.now) i ≡ Some result }

@@ -1,4 +1,4 @@
--- The quota of a user for whom no other is given.
+-- The quota of a user for whom none is given.
 use Rattle.std.specs.Prelude.{◌≡◌, refl}
 use Rattle.lj_quota.specs.declared.TheConstants.Quota.{USUAL}
 

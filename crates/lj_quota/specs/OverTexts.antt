@@ -1,9 +1,9 @@
--- What is printed of what there would be too many of.
+-- The texts of exceeded quotas.
 use Rattle.std.specs.Prelude.{ℕ, List, codes}
 use Rattle.lj_quota.specs.declared.Over.{Over}
 use Rattle.lj_quota.specs.declared.Over.TheVariants.{Sessions, Atoms, Branches}
 
--- what is over the quota
+-- the text of an exceeded quota
 abbrev pub over_text : Over → List ℕ
 over_text Sessions = codes "the quota of sessions is used up"
 over_text Atoms = codes "the quota of atoms has no room for these"

@@ -7,7 +7,7 @@ ghost use Rattle.lj_quota.specs.declared.Over.TheVariants.{Sessions, Atoms, Bran
 use std::fmt;
 use thiserror::Error;
 
-/// The most that a user may have.
+/// The limits on what a user may have.
 #[derive(Clone, Copy, PartialEq, Eq, Debug)]
 pub struct Quota {
     pub sessions: u64,
@@ -18,7 +18,7 @@ pub struct Quota {
 }
 
 impl Quota {
-    /// The quota of a user for whom no other is given.
+    /// The quota of a user for whom none is given.
     pub const USUAL: Quota = Quota {
         sessions: 8,
         atoms: 16_384,
@@ -26,7 +26,7 @@ impl Quota {
     };
 }
 
-/// What a user has.
+/// The sessions, atoms and saved simulations that a user has.
 #[derive(Clone, Copy, PartialEq, Eq, Debug)]
 pub struct Used {
     pub sessions: u64,
@@ -36,7 +36,7 @@ pub struct Used {
     pub branches: u64,
 }
 
-/// What there would be too many of.
+/// The limit that a request would exceed.
 #[derive(Clone, Copy, PartialEq, Eq, Debug, Error)]
 pub enum Over {
     Sessions,
@@ -59,8 +59,7 @@ impl fmt::Display for Over {
     }
 }
 
-/// Whether one session more, of this many atoms, stays within the quota. Where both are over it, the answer is
-/// `Sessions`.
+/// Checks that one more session, of this many atoms, stays within the quota. If both are over it, the error is `Sessions`.
 ///
 /// Promise: yes exactly where the sessions with one more, and the atoms with these, stay within the quota.
 pub fn may_load(quota: &Quota, used: &Used, atoms: u64) -> Result<(), Over>
@@ -74,7 +73,7 @@ pub fn may_load(quota: &Quota, used: &Used, atoms: u64) -> Result<(), Over>
     may(used.atoms, atoms, quota.atoms, Over::Atoms)
 }
 
-/// Whether one session more stays within the quota.
+/// Checks that one more session stays within the quota.
 pub fn may_session(quota: &Quota, used: &Used) -> Result<(), Over>
     ensures may { IsOk result ↔ (used.now.sessions + 1 ≤ quota.now.sessions) }
     ensures over { IsErrOf result Sessions ↔ (quota.now.sessions < used.now.sessions + 1) }
@@ -82,7 +81,7 @@ pub fn may_session(quota: &Quota, used: &Used) -> Result<(), Over>
     may(used.sessions, 1, quota.sessions, Over::Sessions)
 }
 
-/// Whether one saved simulation more stays within the quota.
+/// Checks that one more saved simulation stays within the quota.
 ///
 /// Promise: yes exactly where the saved simulations with one more stay within the quota.
 pub fn may_branch(quota: &Quota, used: &Used) -> Result<(), Over>
@@ -92,7 +91,7 @@ pub fn may_branch(quota: &Quota, used: &Used) -> Result<(), Over>
     may(used.branches, 1, quota.branches, Over::Branches)
 }
 
-// Whether the used and the new together are at most the limit. Their sum may pass the numbers of a word.
+// Checks that `used + new` is at most the limit. The sum may overflow a `u64`.
 fn may(used: u64, new: u64, limit: u64, over: Over) -> Result<(), Over>
     ensures within { IsOk result ↔ (used + new ≤ limit) }
     ensures over { IfErr result (λ error. error ≡ over) }
