@@ -2,11 +2,11 @@
 use Rattle.std.specs.Prelude.{ℕ, Bool, ◌==◌, ◌||◌, nat_lt, List, length, filter}
 use Rattle.std.specs.List.{slice_split}
 
--- space and tab, which alone stand between words
+-- space or tab, the only bytes between words
 abbrev pub is_blank : ℕ → Bool
 is_blank b = b == 32 || b == 9
 
--- a part between blanks that has a byte
+-- a part between blanks that is not empty
 abbrev pub is_word : List ℕ → Bool
 is_word part = nat_lt 0 (length part)
 

@@ -6,7 +6,7 @@ ghost use Rattle.lj_base.specs.Words.{is_blank, words_of};
 
 use std::marker::Model;
 
-/// The words of a line that are not yet taken. A word is a longest run of bytes that are neither space nor tab.
+/// The words of a line that are left to read. A word is a longest run of bytes that are neither space nor tab.
 #[derive(Drop)]
 pub struct Words<'a> {
     rest: &'a [u8],
@@ -22,21 +22,21 @@ impl<'a> Model for Words<'a> {
 }
 
 impl<'a> Words<'a> {
-    /// The words of `line`.
+    /// Returns the words of `line`.
     pub fn new(line: &'a [u8]) -> Self
         ensures { result ≡ words_of line.now }
     {
         Words { rest: line }
     }
 
-    /// The same words once more.
+    /// Returns an equal iterator.
     pub fn copy(&self) -> Words<'a>
         ensures { result ≡ self.now }
     {
         Words { rest: self.rest }
     }
 
-    /// Whether no word is left: `None` where one is.
+    /// Returns `None` if a word is left.
     pub fn end(mut self) -> Option<()>
         ensures { MatchOption result (self.entry ≢ []) (λ _. self.entry ≡ []) }
     {
@@ -63,7 +63,7 @@ impl<'a> Iterator for Words<'a> {
     }
 }
 
-/// A line without the carriage return at its end, if one stands there.
+/// Returns a line without the carriage return at its end, if it has one.
 pub fn without_return(line: &[u8]) -> &[u8]
     ensures { result.now ≡ strip_carriage_return line.now }
 {
@@ -79,7 +79,7 @@ fn is_blank(byte: u8) -> bool
     byte == b' ' || byte == b'\t'
 }
 
-// How many bytes stand before the first blank.
+// Returns how many bytes come before the first blank.
 fn word_len(line: &[u8]) -> usize
     ensures value { result ≡ position_or_len is_blank line.now }
     ensures within { result ≤ length line.now }
@@ -89,7 +89,7 @@ fn word_len(line: &[u8]) -> usize
         .unwrap_or(line.len())
 }
 
-// How many blanks stand in front.
+// Returns how many blanks are in front.
 fn blanks_len(line: &[u8]) -> usize
     ensures value { result ≡ position_or_len (λ byte. not (is_blank byte)) line.now }
     ensures within { result ≤ length line.now }
@@ -99,7 +99,7 @@ fn blanks_len(line: &[u8]) -> usize
         .unwrap_or(line.len())
 }
 
-/// The first word of a line, and what follows it.
+/// Splits a line into its first word and the text after it; `None` if it has no word.
 pub fn split_word(line: &[u8]) -> Option<(&[u8], &[u8])>
     ensures { MatchOption result
         (words_of line.now ≡ [])

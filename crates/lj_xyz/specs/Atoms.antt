@@ -1,4 +1,4 @@
--- What single lines of a frame say: the number of atoms, and one atom.
+-- Single lines of a frame: the number of atoms, and one atom.
 use Rattle.std.specs.Prelude.{ℕ, Bool, ◌&&◌, nat_le, ℤ, List, ◌∷◌, Option, Some, None, Result, Ok, Err, if◌then◌else◌}
 use Rattle.lj_fixed.specs.declared.numbers.NumberFault.{NumberFault}
 use Rattle.lj_fixed.specs.Decimal.{nano_of}
@@ -15,39 +15,39 @@ use Rattle.lj_xyz.specs.Symbols.{SymbolPair, is_symbol, is_of_species}
 abbrev pub is_count : ℕ → Bool
 is_count n = nat_le 1 n && nat_le n MAX_FRAME_ATOMS
 
--- a number, if a frame may have so many atoms
+-- a number, if a frame may have that many atoms
 abbrev pub count_if : Option ℕ → Option ℕ
 count_if None = None
 count_if (Some n) = if is_count n then Some n else None
 
--- the number of atoms that a word says
+-- the number of atoms that a word gives
 abbrev pub count_of : List ℕ → Option ℕ
 count_of word = count_if (number_of word)
 
--- the next step, or the fault of the first one
+-- the second step on the value of the first, or the fault of the first
 infixl 10 ◌>>=◌
 abbrev pub ◌>>=◌ : {A B F : Type 0} → Result A F → (A → Result B F) → Result B F
 (Ok x) >>= f = f x
 (Err e) >>= f = Err e
 
--- a nano, or its fault as a fault of the line
+-- a coordinate in nano, or its fault as a fault of the line
 abbrev pub coordinate_or_kind : Result ℤ NumberFault → Result ℤ XyzKind
 coordinate_or_kind (Ok nano) = Ok nano
 coordinate_or_kind (Err fault) = Err (kind_of fault)
 
--- the coordinate that a word writes, in nano
+-- the coordinate that a word gives, in nano
 abbrev pub coordinate : List ℕ → Result ℤ XyzKind
 coordinate word = coordinate_or_kind (nano_of word)
 
--- a symbol of the species that are asked for, or its fault
+-- a symbol of the given species, or its fault
 abbrev pub species_or_kind : Option SymbolPair → List ℕ → Result (List ℕ) XyzKind
 species_or_kind symbols symbol = if is_of_species symbols symbol then Ok symbol else Err kind.Species
 
--- the symbol that a word is, or its fault
+-- the word as a symbol of the given species, or its fault
 abbrev pub symbol_or_kind : Option SymbolPair → List ℕ → Result (List ℕ) XyzKind
 symbol_or_kind symbols word = if is_symbol word then species_or_kind symbols word else Err kind.Symbol
 
--- the atom that four words say, or the first fault of them
+-- the atom of four words, or their first fault
 unfoldable pub row_of_four : Option SymbolPair → List ℕ → List ℕ → List ℕ → List ℕ → Result Row XyzKind
 row_of_four symbols word x y z = do
   symbol ← symbol_or_kind symbols word
@@ -56,11 +56,11 @@ row_of_four symbols word x y z = do
   z ← coordinate z
   Ok (record { symbol = symbol; x = x; y = y; z = z })
 
--- the atom of a line's words, of which those after the fourth are not used
+-- the atom of a line's words; those after the fourth are not used
 abbrev pub row_of_words : Option SymbolPair → List (List ℕ) → Result Row XyzKind
 row_of_words symbols (word ∷ x ∷ y ∷ z ∷ more) = row_of_four symbols word x y z
 row_of_words symbols _ = Err kind.Short
 
--- the atom that a line says, or what is wrong with the line
+-- the atom of a line, or the fault of the line
 unfoldable pub row_of : Option SymbolPair → List ℕ → Result Row XyzKind
 row_of symbols line = row_of_words symbols (words_of line)

@@ -1,5 +1,5 @@
--- XYZ bodies as lists of whole lines: the frames that a body gives, or its first fault in reading order and the
--- line where it stands. The species that are asked for, if any, are those of the first frame.
+-- XYZ bodies as lists of whole lines: the frames of a body, or its first fault in reading order with its line. The
+-- given species, if any, are those of the first frame.
 use Rattle.std.specs.Prelude.{◌≡◌, ℕ, ◌+◌, ◌<◌, Bool, true, false, ◌==◌, List, [], ◌∷◌, ◌++◌, length, map, Option, Some}
 use Rattle.std.specs.Prelude.{None, Result, Ok, Err, ◌⊎◌}
 use Rattle.std.specs.List.{AllByRecursion}
@@ -22,7 +22,7 @@ pub data Mode : Type 0 where
 abbrev pub IsWordless : List ℕ → Type 0
 IsWordless line = words_of line ≡ []
 
--- a line whose first word says so many atoms, or with None, no number of atoms
+-- the first word of the line is this number of atoms, or with None, no number of atoms
 pub record Counts (line : List ℕ) (atoms : Option ℕ) : Type 0 where
   pub first : List ℕ
   pub others : List (List ℕ)
@@ -34,7 +34,7 @@ abbrev pub admits : Position → ℕ → Bool
 admits First n = true
 admits (Second atoms) n = n == atoms
 
--- the fault where there is no count line
+-- the fault if there is no count line
 abbrev pub missing : Position → XyzKind
 missing First = kind.Count
 missing (Second atoms) = kind.Pair
@@ -48,7 +48,7 @@ pub record IsHead (position : Position) (head : List (List ℕ)) (n : ℕ) : Typ
   pub counts : Counts count (Some n)
   pub admitted : admits position n ≡ true
 
--- each line says the atom of its row
+-- each line is the atom of its row
 abbrev pub AreAtoms : Option SymbolPair → List (List ℕ) → List Row → Type 0
 AreAtoms symbols atoms rows = map (row_of symbols) atoms ≡ map (λ row. Ok row) rows
 
@@ -62,12 +62,12 @@ pub record IsFrame (symbols : Option SymbolPair) (position : Position) (frame : 
   pub is_head : IsHead position head (length rows)
   pub are_atoms : AreAtoms symbols atoms rows
 
--- a fault at the line that follows so many others, where lines count from 1
+-- a fault at the line after this many others, where lines count from 1
 abbrev pub fault_behind : ℕ → XyzKind → XyzFault
 fault_behind lines kind = record { kind = kind; line = lines + 1 }
 
--- The fault of a frame before its atom lines, which these lines are to begin with. They are all lines of the body but
--- for the first ones, whose number is `before`.
+-- The fault, before the atom lines, of a frame at the start of these lines. They are the lines of the body without the
+-- first ones, whose number is `before`.
 pub data OpeningFault (position : Position) (before : ℕ) (lines : List (List ℕ)) (fault : XyzFault) : Type 0 where
   -- there is no count line
   no_count : AllByRecursion IsWordless lines
@@ -90,10 +90,10 @@ pub data OpeningFault (position : Position) (before : ℕ) (lines : List (List �
       → fault ≡ fault_behind (before + length lines) kind.Short
       → OpeningFault position before lines fault
 
--- The first fault, in reading order, of the frame that these lines are to begin with.
+-- The first fault, in reading order, of a frame at the start of these lines.
 pub data FirstFault (symbols : Option SymbolPair) (position : Position) (before : ℕ) (lines : List (List ℕ))
     (fault : XyzFault) : Type 0 where
-  -- it stands before the atom lines
+  -- it is before the atom lines
   in_opening : OpeningFault position before lines fault → FirstFault symbols position before lines fault
   -- an atom line is missing
   no_atom : (head : List (List ℕ)) (n : ℕ) (comment : List ℕ) (atoms : List (List ℕ)) (rows : List Row)
@@ -101,7 +101,7 @@ pub data FirstFault (symbols : Option SymbolPair) (position : Position) (before 
       → IsHead position head n → AreAtoms symbols atoms rows → length atoms < n
       → fault ≡ fault_behind (before + length lines) kind.Short
       → FirstFault symbols position before lines fault
-  -- an atom line says no atom
+  -- an atom line is not an atom
   bad_atom : (head : List (List ℕ)) (n : ℕ) (comment : List ℕ) (atoms : List (List ℕ)) (rows : List Row)
       (bad : List ℕ) (behind : List (List ℕ)) (wrong : XyzKind)
       → lines ≡ head ++ comment ∷ (atoms ++ bad ∷ behind)
@@ -116,7 +116,7 @@ pub record GivesOne (symbols : Option SymbolPair) (lines : List (List ℕ)) (row
   pub whole : lines ≡ frame ++ behind
   pub is_frame : IsFrame symbols First frame rows
 
--- They begin with two frames of as many atoms, the second of any species; what follows it is not read.
+-- The lines of a body begin with two frames with equal numbers of atoms, the second of any species; what follows is not read.
 pub record GivesTwo (symbols : Option SymbolPair) (lines : List (List ℕ)) (first second : List Row) : Type 0 where
   pub frame : List (List ℕ)
   pub next : List (List ℕ)
@@ -125,7 +125,7 @@ pub record GivesTwo (symbols : Option SymbolPair) (lines : List (List ℕ)) (fir
   pub is_frame : IsFrame symbols First frame first
   pub is_next : IsFrame None (Second (length first)) next second
 
--- They begin with a frame, and the next one has this fault.
+-- The lines of a body begin with a frame, and the next frame has this fault.
 pub record FaultOfSecond (symbols : Option SymbolPair) (lines : List (List ℕ)) (fault : XyzFault) : Type 0 where
   pub frame : List (List ℕ)
   pub behind : List (List ℕ)
@@ -134,8 +134,7 @@ pub record FaultOfSecond (symbols : Option SymbolPair) (lines : List (List ℕ))
   pub is_frame : IsFrame symbols First frame rows
   pub of_next : FirstFault None (Second (length rows)) (length frame) behind fault
 
--- The relation between the lines of a body, the species that are asked for, the mode, and the frames or the first
--- fault with its line.
+-- The relation between the lines of a body, the given species, the mode, and the frames or the first fault with its line.
 abbrev pub IsReading : Option SymbolPair → Mode → List (List ℕ) → Result (List (List Row)) XyzFault → Type 0
 IsReading symbols rest lines (Ok frames) = (rows : List Row) × (frames ≡ rows ∷ []) × GivesOne symbols lines rows
 IsReading symbols rest lines (Err fault) = FirstFault symbols First 0 lines fault

@@ -4,7 +4,7 @@ use Rattle.lj_fixed.specs.declared.numbers.NumberFault.TheVariants.{BadNumber, O
 use Rattle.lj_xyz.specs.declared.xyz_fault.XyzKind.{XyzKind}
 use Rattle.lj_xyz.specs.declared.xyz_fault.XyzKind.TheVariants as kind
 
--- the kind of fault that it is in a body
+-- the kind of this fault in a body
 abbrev pub kind_of : NumberFault → XyzKind
 kind_of BadNumber = kind.Number
 kind_of OutOfRange = kind.Range

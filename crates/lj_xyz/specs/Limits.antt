@@ -1,4 +1,4 @@
--- How large a frame of XYZ text and a symbol may be.
+-- Limits of frames of XYZ text and of symbols.
 use Rattle.std.specs.Prelude.{◌≡◌, refl}
 use Rattle.lj_xyz.specs.declared.frame_reader.TheConstants.{MAX_FRAME_ATOMS}
 use Rattle.lj_xyz.specs.declared.symbol.TheConstants.{MAX_SYMBOL_BYTES}

@@ -14,7 +14,7 @@ but_empty_last [] = []
 but_empty_last (part ∷ []) = if is_word part then part ∷ [] else []
 but_empty_last (part ∷ next ∷ parts) = part ∷ but_empty_last (next ∷ parts)
 
--- The lines of a text: the parts between line feeds, each without one carriage return at its end. What follows the
--- last line feed is a line if it has a byte.
+-- The lines of a text: the parts between line feeds, each without one carriage return at its end. The text after the
+-- last line feed is a line if it is not empty.
 unfoldable pub lines_of : List ℕ → List (List ℕ)
 lines_of text = map strip_carriage_return (but_empty_last (slice_split is_line_feed text))

@@ -1,5 +1,4 @@
--- Reading from the first line to the last, with the first fault that is met. It gives what `Frames` says, by a law of
--- this crate.
+-- Reading from the first line to the last, up to the first fault. By a law of this crate it gives the answer of `Frames`.
 use Rattle.std.specs.Prelude.{◌≡◌, ℕ, zero, suc, ◌+◌, List, [], ◌∷◌, length, Option, Some, None, Result, Ok, Err}
 use Rattle.std.specs.Prelude.{if◌then◌else◌}
 use Rattle.lj_xyz.specs.declared.xyz_fault.XyzKind.{XyzKind}
@@ -20,16 +19,16 @@ pub record Left : Type 0 where
   pub taken : ℕ
   pub lines : List (List ℕ)
 
--- a fault at the line of that number
+-- a fault at the line of this number
 abbrev pub fault_at : ℕ → XyzKind → XyzFault
 fault_at line kind = record { kind = kind; line = line }
 
--- the number of atoms of the count line, which is the line of that number, or the fault of the line
+-- the number of atoms of the count line, which has this line number, or the fault of the line
 abbrev pub count_or_fault : Position → ℕ → Option ℕ → Result ℕ XyzFault
 count_or_fault position line None = Err (fault_at line kind.Count)
 count_or_fault position line (Some n) = if admits position n then Ok n else Err (fault_at line kind.Pair)
 
--- the number of atoms that the first line with a word says
+-- the number of atoms in the first line with a word
 unfoldable pub head_in : Position → ℕ → List (List ℕ) → Result (ℕ × Left) XyzFault
 head_in position taken [] = Err (fault_behind taken (missing position))
 head_in position taken (line ∷ lines) =
@@ -45,7 +44,7 @@ unfoldable pub behind_comment : ℕ → List (List ℕ) → Result Left XyzFault
 behind_comment taken [] = Err (fault_behind taken kind.Short)
 behind_comment taken (comment ∷ lines) = Ok (record { taken = taken + 1; lines = lines })
 
--- the atom of the line of that number
+-- the atom of the line of this number
 abbrev pub row_at : ℕ → Result Row XyzKind → Result Row XyzFault
 row_at line (Ok row) = Ok row
 row_at line (Err wrong) = Err (fault_at line wrong)
@@ -56,7 +55,7 @@ next_row symbols taken [] = Err (fault_behind taken kind.Short)
 next_row symbols taken (line ∷ lines) =
     row_at (taken + 1) (row_of symbols line) >>= λ row. Ok (row, record { taken = taken + 1; lines = lines })
 
--- so many atoms, from these lines
+-- the next n atoms, and the lines after them
 unfoldable pub rows_in : Option SymbolPair → ℕ → Left → Result (List Row × Left) XyzFault
 rows_in symbols zero left = Ok ([], left)
 rows_in symbols (suc n) left = do
@@ -77,11 +76,11 @@ frame_in symbols position left = do
   opening ← opening_in position left
   rows_in symbols opening.0 opening.1
 
--- the lines of a body, of which none is read
+-- the lines of a body, with none read
 abbrev pub start : List (List ℕ) → Left
 start lines = record { taken = 0; lines = lines }
 
--- the frames that the mode asks for, the first one of the species that are asked for, or the first fault
+-- the frames of the mode, the first one of the given species, or the first fault
 unfoldable pub reading : Option SymbolPair → Mode → List (List ℕ) → Result (List (List Row)) XyzFault
 reading symbols rest lines = do
   first ← frame_in symbols First (start lines)
@@ -101,7 +100,7 @@ abbrev pub Gives : {X Y : Type 0} → (X → Y) → Result X XyzError → Result
 Gives view (Ok x) read = read ≡ Ok (view x)
 Gives view (Err error) read = Fails error read
 
--- the same of a function that takes no memory
+-- the same for a function that takes no memory
 abbrev pub Tells : {X Y : Type 0} → (X → Y) → Result X XyzFault → Result Y XyzFault → Type 0
 Tells view (Ok x) read = read ≡ Ok (view x)
 Tells view (Err fault) read = read ≡ Err fault

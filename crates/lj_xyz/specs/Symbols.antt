@@ -6,7 +6,7 @@ use Rattle.std.specs.List.{list_all}
 use Rattle.std.specs.Str.{bytes_eq}
 use Rattle.lj_xyz.specs.declared.symbol.TheConstants.{MAX_SYMBOL_BYTES}
 
--- 1 to 16 bytes that print and are no blank, each in 0x21 to 0x7E
+-- 1 to 16 printable bytes other than blanks, each in 0x21 to 0x7E
 abbrev pub is_symbol : List ℕ → Bool
 is_symbol word = nat_lt 0 (length word) && nat_le (length word) MAX_SYMBOL_BYTES && list_all is_ascii_graphic word
 
@@ -31,7 +31,7 @@ is_second pair symbol = bytes_eq symbol pair.second
 abbrev pub is_of_pair : SymbolPair → List ℕ → Bool
 is_of_pair pair symbol = bytes_eq symbol pair.first || is_second pair symbol
 
--- the symbol is of one of the species that are asked for: of either of two, or with None, of any
+-- the symbol is of the given species: of either of two, or with None, of any
 abbrev pub is_of_species : Option SymbolPair → List ℕ → Bool
 is_of_species None symbol = true
 is_of_species (Some pair) symbol = is_of_pair pair symbol

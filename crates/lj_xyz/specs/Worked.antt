@@ -1,4 +1,4 @@
--- Bodies and lines of text, worked out.
+-- Worked examples: bodies and lines of text.
 use Rattle.std.specs.Prelude.{◌≡◌, ℕ, List, [], ◌∷◌, ℤ, pos, negsuc, Option, Some, None, Result, Ok, Err, codes, refl}
 use Rattle.std.specs.Fmt.{digits}
 use Rattle.lj_fixed.specs.Decimal.{nano_of, decimal_of}
@@ -16,18 +16,18 @@ use Rattle.lj_xyz.specs.Frames.{Mode, rest, pair}
 use Rattle.lj_xyz.specs.Reading.{head_in, behind_comment, next_row, rows_in, frame_in, reading}
 use Rattle.lj_xyz.specs.Texts.{count_text, comment_text, atom_text}
 
--- what a body answers, where memory is found, if atoms of some species are asked for
+-- the answer to a body with atoms of the given species, if there is memory
 answer_of : Option SymbolPair → Mode → List ℕ → Result (List (List Row)) XyzFault
 unfolding reading frame_in head_in behind_comment next_row rows_in row_of row_of_four number_of
     lines_of words_of nano_of decimal_of
 answer_of symbols mode body = reading symbols mode (lines_of body)
 
--- the same of any species
+-- the same for any species
 answer : Mode → List ℕ → Result (List (List Row)) XyzFault
 unfolding answer_of
 answer mode body = answer_of None mode body
 
--- the same of sodium and chlorine
+-- the same for sodium and chlorine
 salt : Mode → List ℕ → Result (List (List Row)) XyzFault
 unfolding answer_of
 salt mode body = answer_of (Some (record { first = codes "Na"; second = codes "Cl" })) mode body
@@ -118,7 +118,7 @@ even_pair : answer pair (codes "1\np\nH -0.0000003 0 0\n1\nc\nH -0.000000001 0 0
 unfolding answer atom
 even_pair = refl
 
--- two species: the first frame alone is of them, and a symbol is looked at before its coordinates
+-- two species: only the first frame must be of them, and a symbol is tested before its coordinates
 both_species : salt rest (codes "2\nmix\nNa 0 0 0\nCl 1.5 0 0\n")
     ≡ Ok ((atom (codes "Na") (pos 0) (pos 0) (pos 0) ∷ atom (codes "Cl") (pos 1500000000) (pos 0) (pos 0) ∷ []) ∷ [])
 unfolding salt atom

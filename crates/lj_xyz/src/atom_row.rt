@@ -1,4 +1,4 @@
-//! The atoms that are read.
+//! Atoms as they are read from a file.
 ghost use Rattle.std.specs.Prelude.{◌≡◌, ◌==◌, length};
 
 use crate::symbol::Symbol;
@@ -20,7 +20,7 @@ pub struct Rows {
     rows: Vec<Row>,
 }
 
-/// The first two frames of a file, of as many atoms.
+/// The first two frames of a file, with the same number of atoms.
 #[derive(Debug, Drop)]
 pub struct FramePair {
     pub first: Rows,

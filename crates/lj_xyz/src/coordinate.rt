@@ -12,10 +12,10 @@ pub const MAX_COORDINATE_BYTES: usize = 1 + MAX_MICRO_BYTES;
 
 const MILLION: u64 = 1_000_000;
 
-// From here on a whole part has more than four digits.
+// The least number of millionths whose whole part has more than four digits.
 const LONG_MICROS: u64 = 10_000 * MILLION;
 
-// The two digits of each number below 100, one number after the other.
+// The two digits of each number below 100, in order.
 static PAIRS: [u8; 200] =
     *b"00010203040506070809101112131415161718192021222324252627282930313233343536373839404142434445464748495051525354555657585960616263646566676869707172737475767778798081828384858687888990919293949596979899";
 

@@ -22,7 +22,7 @@ use std::alloc::Global;
 /// The most atoms that a frame may have.
 pub const MAX_FRAME_ATOMS: usize = 4096;
 
-/// Which frame is read: the first, or the second, which has as many atoms as the first.
+/// The frame that is read: the first, or the second, which must have as many atoms as the first.
 #[derive(Clone, Copy)]
 pub enum Position {
     First,
@@ -71,7 +71,7 @@ fn is_of_species(symbol: &Symbol, symbols: Option<&SymbolPair>) -> bool
     }
 }
 
-// The symbol that a word is.
+// Parses a word as a symbol, one of the two if they are given.
 fn symbol_of(word: &[u8], symbols: Option<&SymbolPair>) -> Result<Symbol, XyzKind>
     ensures { result ≡ symbol_or_kind (option_copied symbols.entry) word.now }
 {
@@ -82,7 +82,7 @@ fn symbol_of(word: &[u8], symbols: Option<&SymbolPair>) -> Result<Symbol, XyzKin
     Ok(symbol)
 }
 
-// The atom that a line says.
+// Parses the line of an atom.
 #[tactic(auto, unfolding(crate::specs::Atoms::row_of))]
 fn row_of(line: &[u8], symbols: Option<&SymbolPair>) -> Result<Row, XyzKind>
     ensures { result ≡ row_of (option_copied symbols.entry) line.now }
@@ -111,7 +111,7 @@ fn row_of_four(
     Ok(Row { symbol, x, y, z })
 }
 
-// The number of atoms that the first word of the count line says, the line of that number.
+// Parses the first word of the count line, which is line number `line`, as the number of atoms.
 fn count_or_fault(position: Position, line: u64, word: &[u8]) -> Result<usize, XyzFault>
     ensures { result ≡ count_or_fault position line (count_of word.now) }
 {
@@ -130,7 +130,7 @@ fn count_or_fault(position: Position, line: u64, word: &[u8]) -> Result<usize, X
     Ok(count)
 }
 
-// Passes over the lines without a word, and reads the count line.
+// Skips the lines without a word, and reads the count line.
 fn read_head(lines: &mut Lines, position: Position) -> Result<usize, XyzFault>
     ensures { Tells (λ count. (count, left_of lines.new)) result
         (head_in position lines.old.taken (lines_of lines.old.rest.now)) }
@@ -180,7 +180,7 @@ fn read_row(lines: &mut Lines, symbols: Option<&SymbolPair>) -> Result<Row, XyzF
     }
 }
 
-// The head of a frame and its comment line: the number of its atoms.
+// Reads the count line and the comment line of a frame, and returns the number of its atoms.
 fn read_opening(lines: &mut Lines, position: Position) -> Result<usize, XyzFault>
     ensures { Tells (λ atoms. (atoms, left_of lines.new)) result
         (opening_in position (left_of lines.old)) }
@@ -190,7 +190,7 @@ fn read_opening(lines: &mut Lines, position: Position) -> Result<usize, XyzFault
     Ok(atoms)
 }
 
-// Ends at once where there is no memory for the rows: their lines are not looked at.
+// Reads the atom lines of a frame. If there is no memory for the rows it returns at once, and reads none of the lines.
 fn read_rows(
     alloc: Global,
     lines: &mut Lines,
@@ -230,7 +230,7 @@ fn first_frame(alloc: Global, text: &[u8], symbols: Option<&SymbolPair>) -> Resu
     read_frame(alloc, &mut lines, Position::First, symbols)
 }
 
-// The second frame is read for atoms of any species.
+// Reads the first two frames of a text, the second with atoms of any species.
 fn first_two_frames(
     alloc: Global,
     text: &[u8],
@@ -245,10 +245,12 @@ fn first_two_frames(
     Ok(FramePair { first, second })
 }
 
-/// Reads the first frame of a text. What follows it is not read. Each atom is to have one of the symbols, where two are
-/// given. If there is no memory for the rows, that is answered at once, and no fault among them is.
+/// Reads the first frame of a text, and nothing after it. If two symbols are given, each atom must have one of them.
 ///
-/// Promise: of a text its first frame is answered, or its first fault in reading order, or that memory ran out.
+/// # Errors
+/// The first fault in reading order, or `Memory` if there is none for the rows. Their lines are not read then.
+///
+/// Promise: the result is the first frame of the text, or its first fault in reading order, or that memory ran out.
 pub fn read_rest(alloc: Global, text: &[u8], symbols: Option<&SymbolPair>) -> Result<Rows, XyzError>
     ensures frame { IfOk result (λ rows.
         IsReading (option_copied symbols.entry) rest (lines_of text.now) (Ok (rows ∷ []))) }
@@ -256,19 +258,21 @@ pub fn read_rest(alloc: Global, text: &[u8], symbols: Option<&SymbolPair>) -> Re
         IsReading (option_copied symbols.entry) rest (lines_of text.now) (Err fault) }
     ensures count { IfOk result (λ rows. IsTrue (is_count (length rows))) }
 
-    // The same as an equation, where memory was found.
+    // The same as an equation, if there was memory.
     ensures exact { Gives (λ rows. rows ∷ []) result
         (reading (option_copied symbols.entry) rest (lines_of text.now)) }
 {
     first_frame(alloc, text, symbols)
 }
 
-/// Reads the first two frames of a text, which are to have as many atoms. What follows them is not read. Each atom of
-/// the first frame is to have one of the symbols, where two are given. Those of the second frame are to be symbols, and
-/// are compared neither with these nor with those of the first. If there is no memory for the rows of a frame, that is
-/// answered at once, and no fault among them or behind them is.
+/// Reads the first two frames of a text, which must have the same number of atoms, and nothing after them. If two
+/// symbols are given, each atom of the first frame must have one of them; the second frame can have any symbols.
 ///
-/// Promise: of a text its first two frames are answered, of as many atoms, or its first fault, or that memory ran out.
+/// # Errors
+/// The first fault in reading order, or `Memory` if there is none for the rows of a frame. Their lines are not read then.
+///
+/// Promise: the result is the first two frames of the text, with equal numbers of atoms, or its first fault, or that
+/// memory ran out.
 pub fn read_pair(
     alloc: Global,
     text: &[u8],
@@ -282,7 +286,7 @@ pub fn read_pair(
     ensures count { IfOk result (λ frames. IsTrue (is_count (length frames.first))) }
     ensures same_count { IfOk result (λ frames. length frames.second ≡ length frames.first) }
 
-    // The same as an equation, where memory was found.
+    // The same as an equation, if there was memory.
     ensures exact { Gives (λ frames. frames.first ∷ frames.second ∷ []) result
         (reading (option_copied symbols.entry) pair (lines_of text.now)) }
 {

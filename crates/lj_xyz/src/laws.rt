@@ -6,8 +6,7 @@ ghost use Rattle.lj_xyz.specs.Frames.{Mode, IsReading};
 ghost use Rattle.lj_xyz.specs.Reading.{reading};
 ghost use Rattle.lj_xyz.specs.Symbols.{SymbolPair};
 
-/// Promise: the lines of a body, the species that are asked for and a mode have one answer, and reading from the first
-/// line to the last gives it.
+/// Promise: for each body, species and mode there is one answer, and reading from the first line to the last gives it.
 pub fn one_reading()
     ensures one { (symbols : Option SymbolPair) (mode : Mode) (lines : List (List ℕ))
         (a b : Result (List (List Row)) XyzFault) →

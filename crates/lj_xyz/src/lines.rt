@@ -5,7 +5,7 @@ ghost use Rattle.lj_xyz.specs.Lines.{lines_of};
 use bstr::ByteSlice;
 use lj_base::without_return;
 
-/// The lines of a text that are not yet taken, and how many are.
+/// The lines of a text that are left to read, and how many were read.
 #[derive(Drop)]
 pub struct Lines<'a> {
     pub rest: &'a [u8],
@@ -26,7 +26,7 @@ impl<'a> Lines<'a> {
         }
     }
 
-    /// The next line without its end, if one is left.
+    /// Takes the next line, without its end, if one is left.
     pub fn next_line(&mut self) -> Option<&'a [u8]>
         ensures line { MatchOption result
             ((lines_of self.old.rest.now ≡ [])
@@ -42,7 +42,7 @@ impl<'a> Lines<'a> {
     }
 }
 
-/// The first line of a text without its end, and what follows it.
+/// Splits a text into its first line, without its end, and the text after it.
 fn split_line(text: &[u8]) -> Option<(&[u8], &[u8])>
     ensures line { MatchOption result
         (lines_of text.now ≡ [])

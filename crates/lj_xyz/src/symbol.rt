@@ -29,7 +29,7 @@ impl Model for Symbol {
     ghost invariant = { λ s. IsTrue (is_symbol s.bytes.items) };
 }
 
-// Whether a word is a symbol.
+// Returns whether a word is a symbol.
 fn is_symbol(word: &[u8]) -> bool
     ensures { result ≡ is_symbol word.now }
 {
@@ -43,7 +43,7 @@ fn all_graphic(word: &[u8]) -> bool
 }
 
 impl Symbol {
-    /// The symbol that a word is, if it is one.
+    /// Makes a symbol of a word, if it is one.
     pub fn new(word: &[u8]) -> Option<Symbol>
         ensures { SomeIff result (IsTrue (is_symbol word.now)) word.now }
     {
@@ -62,7 +62,7 @@ impl Symbol {
         self.bytes.as_slice()
     }
 
-    /// The same symbol once more.
+    /// Returns an equal symbol.
     pub(crate) fn copy(&self) -> Symbol
         ensures { result ≡ self.now }
     {

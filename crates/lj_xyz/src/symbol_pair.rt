@@ -23,7 +23,7 @@ impl Model for SymbolPair {
 }
 
 impl SymbolPair {
-    /// Two symbols as a pair, if they differ.
+    /// Makes a pair of two symbols, if they differ.
     pub fn new(first: Symbol, second: Symbol) -> Option<SymbolPair>
         ensures { result ≡ pair_of first second }
     {
@@ -33,7 +33,7 @@ impl SymbolPair {
         Some(SymbolPair { first, second })
     }
 
-    /// The symbol of the first species.
+    /// Returns the symbol of the first species.
     pub fn first(&self) -> &Symbol
         ensures value { result.now ≡ self.now.first }
         ensures pair { IsSymbolPair self.now }
@@ -41,7 +41,7 @@ impl SymbolPair {
         &self.first
     }
 
-    /// The symbol of the second species.
+    /// Returns the symbol of the second species.
     pub fn second(&self) -> &Symbol
         ensures value { result.now ≡ self.now.second }
         ensures pair { IsSymbolPair self.now }
@@ -49,21 +49,21 @@ impl SymbolPair {
         &self.second
     }
 
-    /// Whether a symbol is one of the two.
+    /// Returns whether a symbol is one of the two.
     pub fn has(&self, symbol: &Symbol) -> bool
         ensures { result ≡ is_of_pair self.now symbol.now }
     {
         *symbol == self.first || self.is_second(symbol)
     }
 
-    /// Whether a symbol is the second one.
+    /// Returns whether a symbol is the second one.
     pub fn is_second(&self, symbol: &Symbol) -> bool
         ensures { result ≡ is_second self.now symbol.now }
     {
         *symbol == self.second
     }
 
-    /// The same pair once more.
+    /// Returns an equal pair.
     pub fn copy(&self) -> SymbolPair
         ensures { result ≡ self.now }
     {

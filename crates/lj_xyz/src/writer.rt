@@ -14,7 +14,7 @@ pub const MAX_LINE_BYTES: usize = MAX_SYMBOL_BYTES + 3 * MAX_COORDINATE_BYTES;
 /// A line of a frame, without its line feed.
 pub type FrameLine = ArrayVec<u8, MAX_LINE_BYTES>;
 
-/// The line with the number of atoms.
+/// Returns the line with the number of atoms.
 pub fn count_line(atoms: usize) -> FrameLine
     ensures { result.items ≡ count_text atoms }
 {
@@ -23,7 +23,7 @@ pub fn count_line(atoms: usize) -> FrameLine
     line
 }
 
-/// The comment line: `step` and the number of the step.
+/// Returns the comment line: `step` and the number of the step.
 pub fn comment_line(step: i64) -> FrameLine
     ensures { result.items ≡ comment_text step }
 {
@@ -33,7 +33,12 @@ pub fn comment_line(step: i64) -> FrameLine
     line
 }
 
-/// The line of an atom: its symbol, and its coordinates, which are given in millionths of a file unit.
+/// Returns the line of an atom: its symbol, and its coordinates in millionths of a file unit.
+///
+/// ```rust
+/// let argon = Symbol::new(b"Ar")?;
+/// let line = atom_line(&argon, 105, 0, 0); // Ar 0.000105 0.000000 0.000000
+/// ```
 pub fn atom_line(symbol: &Symbol, x: u64, y: u64, z: u64) -> FrameLine
     ensures { result.items ≡ atom_text symbol.now x y z }
 {
@@ -42,7 +47,7 @@ pub fn atom_line(symbol: &Symbol, x: u64, y: u64, z: u64) -> FrameLine
     line
 }
 
-/// Appends the line of an atom: its symbol, and its coordinates, which are given in millionths of a file unit.
+/// Appends the line of an atom: its symbol, and its coordinates in millionths of a file unit.
 pub fn push_atom_line<const CAP: usize>(
     line: &mut ArrayVec<u8, CAP>,
     symbol: &Symbol,

@@ -1,4 +1,4 @@
-//! What is wrong with a body, and where.
+//! Faults of bodies, with their lines.
 ghost use Rattle.std.specs.Prelude.{◌≡◌};
 ghost use Rattle.lj_fixed.specs.declared.numbers.NumberFault.{NumberFault};
 ghost use Rattle.lj_xyz.specs.declared.xyz_fault.XyzError.TheVariants.{Fault, Memory};
@@ -9,7 +9,7 @@ use std::alloc::{AllocError, AllocFailed};
 use std::fmt;
 use thiserror::Error;
 
-/// What is wrong with a body.
+/// The kind of a fault of a body.
 #[derive(Clone, Copy, Debug, PartialEq, Eq, Error)]
 pub enum XyzKind {
     /// The first frame has no count line, or its first word is no number of atoms from 1 to 4096.
@@ -76,7 +76,7 @@ impl fmt::Display for XyzFault {
     }
 }
 
-/// Why no frame was read.
+/// The reason why no frame was read.
 #[derive(Debug, Drop, Error)]
 pub enum XyzError {
     Fault(XyzFault),
