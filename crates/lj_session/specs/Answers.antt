@@ -1,4 +1,4 @@
--- What a command answers: a reply, and the user after it. A refusal leaves the user as it was.
+-- The answer to a command: a reply, and the user after it. A refusal leaves the user as it was.
 use Rattle.std.specs.Prelude.{◌≡◌, ℕ, Bool, ◌&&◌, not, nat_le, nat_lt, is_some, pos, ◌+ℤ◌, ◌*ℤ◌, unsigned_abs, List, []}
 use Rattle.std.specs.Prelude.{◌∷◌, Option, Some, None, Result, Ok, Err}
 use Rattle.lj_step.specs.Motion.{Simulation, place_at, steps, reversal, with_tug, momentum, kinetic, potential}
@@ -19,33 +19,33 @@ use Rattle.lj_session.specs.Users.{Session, User, with_session, atoms_of, branch
 use Rattle.lj_session.specs.Loads.{refusal_unless, admission, body_or_refusal, session_read}
 use Rattle.lj_session.specs.Substances.{load_reply}
 
--- what stands under a name, else a refusal
+-- the value under a name, or a refusal
 abbrev pub value_or_refusal : {A : Type 0} → Option A → Refusal → Result A Refusal
 value_or_refusal (Some value) refusal = Ok value
 value_or_refusal None refusal = Err refusal
 
--- the session of a name
+-- the session of a name, or a refusal
 abbrev pub session_of : User → List ℕ → Result Session Refusal
 session_of user name = value_or_refusal (value_named name user.sessions) NoSession
 
--- what is saved in a session under a name
+-- the simulation saved in a session under a name, or a refusal
 abbrev pub simulation_saved : Session → List ℕ → Result Simulation Refusal
 simulation_saved session branch = value_or_refusal (value_named branch session.saved) NoBranch
 
--- a session has atoms 0, 1, .. and no more than its count
+-- a refusal unless the session has the atom; they count from 0
 abbrev pub atom_or_refusal : Session → ℕ → Result (Unit {0}) Refusal
 atom_or_refusal session atom = refusal_unless (nat_lt atom (atoms_of session)) NoAtom
 
--- the user, where the simulation of a session is now this one
+-- the user with this simulation in a session
 abbrev pub with_sim : List ℕ → Session → Simulation → User → User
 with_sim name session sim user = with_session name (record session { sim = sim }) user
 
--- a session may go on by at most a million steps, and to step numbers of size at most 10^12
+-- a session may advance by at most a million steps, and to step numbers of size at most 10^12
 abbrev pub can_advance : Session → ℕ → Bool
 can_advance session n =
     nat_le n MAX_STEPS && nat_le (unsigned_abs (session.sim.step +ℤ session.sim.dir *ℤ pos n)) MAX_STEP
 
--- the session that a command is of; LIST and BYE are of none
+-- the session that a command names; LIST and BYE name none
 abbrev pub session_named : Command → Option (List ℕ)
 session_named (Load load) = Some load.name
 session_named (Advance name n) = Some name
@@ -63,7 +63,7 @@ session_named (ListBranches name) = Some name
 session_named (Unload name) = Some name
 session_named Bye = None
 
--- what a command does: its reply and the next user, or its first refusal
+-- the result of a command: its reply and the next user, or its first refusal
 unfoldable pub command_result : User → Command → Bool → Result (Reply × User) Refusal
 command_result user (Load load) mark = do
   mix ← admission user load
@@ -123,15 +123,15 @@ command_result user (Unload name) mark = do
   Ok (reply.Unloaded name, record user { sessions = without_value name user.sessions })
 command_result user Bye mark = Ok (reply.Bye, user)
 
--- a refusal is replied, and the user stays
+-- a refusal becomes the reply, and leaves the user
 abbrev pub reply_and_user : User → Result (Reply × User) Refusal → Reply × User
 reply_and_user user (Ok answer) = answer
 reply_and_user user (Err refusal) = (reply.Refused refusal, user)
 
--- What a command answers. The mark says that memory was refused to it; it matters to LOAD, LOADMIX and BRANCH alone.
+-- The answer to a command. The mark says that memory was refused to it; it matters only to LOAD, LOADMIX and BRANCH.
 abbrev pub answer : User → Command → Bool → Reply × User
 answer user command mark = reply_and_user user (command_result user command mark)
 
--- What is left of a command is answered in the end as the whole is.
+-- The rest of a command is answered as the whole command is.
 abbrev pub AnswersAlike : User → Command → User → Command → Type 0
 AnswersAlike next left user command = (mark : Bool) → answer next left mark ≡ answer user command mark

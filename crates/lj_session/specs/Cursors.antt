@@ -1,4 +1,4 @@
--- Places among the tasks of a session that are still to be posted.
+-- Cursors over the tasks of a session that are still to be posted.
 use Rattle.std.specs.Prelude.{◌≡◌, ℕ, List, Some, slice_get}
 use Rattle.lj_session.specs.declared.tile_cursor.TileCursor.{TileCursor}
 use Rattle.lj_session.specs.UserState.{HeldSession, NoTaskBefore, held_session, held_session_at, names}

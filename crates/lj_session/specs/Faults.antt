@@ -9,17 +9,17 @@ use Rattle.lj_session.specs.declared.refusal.Refusal.{Refusal}
 use Rattle.lj_session.specs.declared.refusal.Refusal.TheVariants.{Xyz, Memory, BranchExists, QuotaSessions, QuotaAtoms}
 use Rattle.lj_session.specs.declared.refusal.Refusal.TheVariants.{QuotaBranches}
 
--- of a body
+-- the refusal of a body
 abbrev pub xyz_refusal : XyzError → Refusal
 xyz_refusal (xyz.Fault fault) = Xyz fault
 xyz_refusal xyz.Memory = Memory
 
--- of a simulation that is not saved
+-- the refusal of a simulation that is not saved
 abbrev pub save_refusal : SaveFault → Refusal
 save_refusal save.Exists = BranchExists
 save_refusal save.Memory = Memory
 
--- of a quota
+-- the refusal of an exceeded quota
 abbrev pub quota_refusal : Over → Refusal
 quota_refusal over.Sessions = QuotaSessions
 quota_refusal over.Atoms = QuotaAtoms

@@ -1,17 +1,17 @@
--- What a session in the code stands for, and what is true of it.
+-- The value of a session in the code, and its invariant.
 use Rattle.std.specs.Prelude.{◌≡◌, ◌≤◌, ◌*◌, unsigned_abs, pos, ◌+ℤ◌, ◌*ℤ◌, length}
 use Rattle.std.specs.List.{AllByRecursion}
 use Rattle.lj_step.specs.declared.simulations.TheConstants.{MAX_STEP}
 use Rattle.lj_session.specs.UserState.{HeldSession, HasCount}
 use Rattle.lj_session.specs.declared.session.HeldSession.TheInside.{Inside}
 
--- the session that the fields of one in the code stand for
+-- the value of a session's fields
 abbrev pub session_of_kept : Inside → HeldSession
 session_of_kept a =
     record { symbols = a.symbols.items; live = a.sim; passed = a.passed; saved = a.branches; owed = a.owed }
 
--- Each atom has its symbol, what is saved has as many atoms as the session, and the step number that the session is
--- going to is in range.
+-- Each atom has its symbol, saved simulations have as many atoms as the session, and the step number after all pending
+-- steps is in range.
 pub record IsHeld (a : Inside) : Type 0 where
   pub symbols : length a.symbols.items ≡ length a.sim.sim.cur
   pub saved : AllByRecursion (HasCount (length a.sim.sim.cur)) a.branches

@@ -1,4 +1,4 @@
--- How many steps a command may ask for, how far a session may go, and the limits of other crates that are one.
+-- Limits of the steps of a command, and limits of two crates that are equal.
 use Rattle.std.specs.Prelude.{◌≡◌, ◌^◌, refl}
 use Rattle.lj_step.specs.declared.frames.TheConstants as frames
 use Rattle.lj_xyz.specs.declared.frame_reader.TheConstants as xyz
@@ -8,6 +8,6 @@ use Rattle.lj_session.specs.declared.session.TheConstants.{MAX_STEPS}
 most_steps : MAX_STEPS ≡ 10 ^ 6
 most_steps = refl
 
--- a simulation has as many atoms as a frame of XYZ text at the most
+-- the limits of atoms of a simulation and of a frame of XYZ text are equal
 most_atoms : frames.MAX_ATOMS ≡ xyz.MAX_FRAME_ATOMS
 most_atoms = refl

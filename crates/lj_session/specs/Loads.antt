@@ -1,4 +1,4 @@
--- LOAD and LOADMIX: what they are refused, and the session that they give.
+-- LOAD and LOADMIX: their refusals, and the session that they load.
 use Rattle.std.specs.Prelude.{ℕ, ◌+◌, Bool, true, false, not, nat_le, nat_lt, is_some, List, [], ◌∷◌, map}
 use Rattle.std.specs.Prelude.{Option, Result, Ok, Err}
 use Rattle.lj_ring.specs.declared.coordinates.Place.{Place}
@@ -23,19 +23,19 @@ use Rattle.lj_branch.specs.Named.{value_named}
 use Rattle.lj_session.specs.Substances.{composition_of, mix_of_substance, nano_or_zero, symbols_of}
 use Rattle.lj_session.specs.Users.{Session, User, atoms_of, atoms_used, sessions_used}
 
--- nothing where a test holds, else a refusal
+-- a refusal unless a test holds
 abbrev pub refusal_unless : Bool → Refusal → Result (Unit {0}) Refusal
 refusal_unless true refusal = Ok tt
 refusal_unless false refusal = Err refusal
 
--- how the atoms of a load interact, or the first refusal that needs no body
+-- the mixture of a load, or the first refusal before the body
 abbrev pub admission : User → Load → Result Mix Refusal
 admission user load = do
   new ← refusal_unless (not (is_some (value_named load.name user.sessions))) Exists
   room ← refusal_unless (nat_lt (sessions_used user) user.quota.sessions) QuotaSessions
   mix_of_substance (nano_or_zero load.edge) load.substance
 
--- the body, where it was read and memory was found for the load
+-- the body, if it was read and there was memory for the load
 abbrev pub body_or_refusal : LoadBody → Bool → Result (List ℕ) Refusal
 body_or_refusal (Read body) false = Ok body
 body_or_refusal (Read body) true = Err Memory
@@ -50,7 +50,7 @@ place_in edge row = record { x = place_of edge row.x; y = place_of edge row.y; z
 abbrev pub places_in : ℕ → List Row → List Place
 places_in edge rows = map (place_in edge) rows
 
--- the session that opens with two frames, under the symbols of the first, which tell the species where two are given
+-- the session that opens with two frames, under the symbols of the first, which determine the species if two are given
 abbrev pub session_from : Mix → Option SymbolPair → List Row → List Row → Session
 session_from mix symbols first second = record {
   symbols = map (λ row. row.symbol) first;
@@ -59,7 +59,7 @@ session_from mix symbols first second = record {
   saved = [];
 }
 
--- of one frame both are made, so that the atoms are at rest
+-- a single frame is used twice, so that the atoms are at rest
 abbrev pub session_of_frames : Mix → Option SymbolPair → List (List Row) → Session
 session_of_frames mix symbols [] = session_from mix symbols [] []
 session_of_frames mix symbols (only ∷ []) = session_from mix symbols only only
@@ -70,18 +70,18 @@ abbrev pub frames_or_refusal : Result (List (List Row)) XyzFault → Result (Lis
 frames_or_refusal (Ok frames) = Ok frames
 frames_or_refusal (Err fault) = Err (Xyz fault)
 
--- how many frames are read: the first, or the first two
+-- the frames that a mode reads: the first, or the first two
 abbrev pub reading_mode : Mode → frames.Mode
 reading_mode Rest = frames.rest
 reading_mode Pair = frames.pair
 
--- a session whose atoms fit the quota beside those that the user has
+-- the session, if its atoms and those that the user has fit the quota
 abbrev pub session_within_quota : User → Session → Result Session Refusal
 session_within_quota user session = do
   room ← refusal_unless (nat_le (atoms_used user + atoms_of session) user.quota.atoms) QuotaAtoms
   Ok session
 
--- the session that a body gives, or the first refusal of the body
+-- the session of a body, or the first refusal of the body
 abbrev pub session_read : User → Mix → Load → List ℕ → Result Session Refusal
 session_read user mix load body = do
   frames ← frames_or_refusal (reading (symbols_of load.substance) (reading_mode load.mode) (lines_of body))

@@ -1,4 +1,4 @@
--- The frames that a load opens a session with, and the session as it is held then.
+-- The frames with which a load opens a session, and that session in the code.
 use Rattle.std.specs.Prelude.{List, [], ◌∷◌, map, Option, Some, None}
 use Rattle.lj_xyz.specs.declared.atom_row.Row.{Row}
 use Rattle.lj_ring.specs.Mix.{Mix, edge_of}
@@ -13,7 +13,7 @@ abbrev pub frames_of : List Row → Option (List Row) → List (List Row)
 frames_of first None = first ∷ []
 frames_of first (Some second) = first ∷ second ∷ []
 
--- the last of them
+-- the last of the frames that were read
 abbrev pub last_of : List Row → Option (List Row) → List Row
 last_of first None = first
 last_of first (Some second) = second

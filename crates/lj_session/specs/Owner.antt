@@ -1,4 +1,4 @@
--- The owner of a user's state: the state, the number of its user, and the command that waits.
+-- The owner of a user's state: the state, the number of its user, and the waiting command.
 use Rattle.std.specs.Prelude.{◌≡◌, ℕ, Bool, true, false, ◌||◌, nat_lt, is_some, IfSome, List, Option, Some, None, if◌then◌else◌}
 use Rattle.std.specs.Option.{option_map_or, option_and_then}
 use Rattle.std.specs.List.{find}
@@ -18,17 +18,17 @@ use Rattle.lj_session.specs.Turns.{waits_for}
 use Rattle.lj_session.specs.UserState.{HeldSession, UserState, user_of, names, with_session_changed, with_step, next_task, with_posted, IsAwaited, with_tile_in, is_whole_in}
 use Rattle.lj_session.specs.UserState.{with_more_owed, with_step_passed, state_at_rest, owed_in, steps_before, turns_before, is_measured}
 
--- what an owner has: the state, the number of its user, and the command that waits, if one does
+-- an owner: the state, the number of its user, and the waiting command, if there is one
 pub record Owner : Type 0 where
   pub state : UserState
   pub number : ℕ
   pub waiting : Option Command
 
--- the user that the state means
+-- the user of an owner, with all pending steps done
 abbrev pub user_in : Owner → User
 user_in owner = user_of owner.state
 
--- an owner that has just been given a state: each step is begun anew
+-- the owner of a new state: each step is restarted
 abbrev pub owner_of_state : UserState → ℕ → Owner
 owner_of_state state number = record { state = state_at_rest state; number = number; waiting = None }
 
@@ -36,40 +36,40 @@ owner_of_state state number = record { state = state_at_rest state; number = num
 abbrev pub with_state : UserState → Owner → Owner
 with_state state owner = record owner { state = state }
 
--- a session owes a step: some are owed to it, or what waits measures it
+-- a session has a step to make: some are pending, or the waiting command measures it
 abbrev pub is_owing : Owner → List ℕ → Bool
 is_owing owner name = nat_lt 0 (owed_in owner.state name) || is_measured owner.waiting name
 
--- whether some session owes a step
+-- some session has a step to make
 abbrev pub is_busy : Owner → Bool
 is_busy owner = is_some (find (is_owing owner) (names owner.state))
 
--- how many turns of its session are left before what waits is answered
+-- how many turns of its session the waiting command still needs
 abbrev pub turns_left : Owner → ℕ
 turns_left owner = option_map_or (turns_before owner.state) owner.waiting 0
 
--- whether what waits, waits for this session
+-- the waiting command needs this session
 abbrev pub is_waited_for : Option Command → List ℕ → Bool
 is_waited_for waiting name = option_map_or (λ session. bytes_eq session name) (option_and_then waits_for waiting) false
 
--- a command begins to take the steps of its own: those of an ADVANCE are owed to its session, and for a MEASURE the
--- energy step is open
+-- a command begins its own steps: those of an ADVANCE become pending in its session, and for a MEASURE the energy step
+-- is opened
 unfoldable pub state_taking_up : Command → UserState → UserState
 state_taking_up (Advance name n) owned = with_session_changed name (with_more_owed n) owned
 state_taking_up (Measure name) owned = with_session_changed name (with_step Energy) owned
 state_taking_up _ owned = owned
 
--- what then waits: an ADVANCE by 0, since its steps are owed
+-- the command that waits then: an ADVANCE by 0, since its steps are pending
 unfoldable pub rest_of : Command → Command
 rest_of (Advance name n) = Advance name 0
 rest_of command = command
 
--- what is held once a command is begun and waits: where steps are owed to its session it waits for them, and elsewhere it
--- begins to take its own
+-- the state once a command is begun and waits: if steps are pending in its session it waits for them, else it begins
+-- its own
 abbrev pub state_begun : Command → UserState → UserState
 state_begun command owned = if nat_lt 0 (steps_before owned command) then owned else state_taking_up command owned
 
--- what waits then
+-- the command that waits then
 abbrev pub command_left : Command → UserState → Command
 command_left command owned = if nat_lt 0 (steps_before owned command) then command else rest_of command
 
@@ -78,7 +78,7 @@ abbrev pub owner_begun : Command → Owner → Owner
 owner_begun command owner =
     record owner { state = state_begun command owner.state; waiting = Some (command_left command owner.state) }
 
--- with what waits, if something does, begun once more
+-- the owner with the waiting command, if there is one, begun again
 abbrev pub owner_begun_again : Option Command → Owner → Owner
 owner_begun_again None owner = owner
 owner_begun_again (Some command) owner = owner_begun command owner
@@ -91,20 +91,20 @@ label_of owner name = record { user = owner.number; session = name }
 abbrev pub task_of_session : Owner → List ℕ → Option Task
 task_of_session owner name = next_task owner.state (label_of owner name)
 
--- the first session, in order of loading, that has such a task
+-- the first session, in order of loading, that has a tile neither posted nor in
 abbrev pub next_session : Owner → Option (List ℕ)
 next_session owner = find (λ name. is_some (task_of_session owner name)) (names owner.state)
 
--- its task
+-- the task of its first tile
 abbrev pub task_in : Owner → Option Task
 task_in owner = option_and_then (task_of_session owner) (next_session owner)
 
--- with a session changed, if a name is given
+-- the state with a session changed, if a name is given
 abbrev pub state_changed_in : Option (List ℕ) → (HeldSession → HeldSession) → UserState → UserState
 state_changed_in None change owned = owned
 state_changed_in (Some name) change owned = with_session_changed name change owned
 
--- that tile noted as posted
+-- the owner with the tile of the next task noted as posted
 abbrev pub with_task_posted : Owner → Owner
 with_task_posted owner = with_state (state_changed_in (next_session owner) with_posted owner.state) owner
 
@@ -112,7 +112,7 @@ with_task_posted owner = with_state (state_changed_in (next_session owner) with_
 abbrev pub IsAwaitedIn : Owner → Task → Type 0
 IsAwaitedIn owner work = IsAwaited owner.state (label_of owner work.name.label.session) work
 
--- that tile is in
+-- the owner with the result of the task in
 abbrev pub with_task_in : Task → Owner → Owner
 with_task_in work owner =
     with_state (with_session_changed work.name.label.session (with_tile_in (tile_number_of work)) owner.state) owner
@@ -121,17 +121,17 @@ with_task_in work owner =
 abbrev pub ready_session : Owner → Option (List ℕ)
 ready_session owner = find (is_whole_in owner.state) (names owner.state)
 
--- the step of a session passed
+-- the state with the step of a session turned
 abbrev pub state_turned : List ℕ → UserState → UserState
 state_turned name owned = with_session_changed name with_step_passed owned
 
--- so of the owner, and what waits for the session begun again
+-- the owner with the step of a session turned, and the waiting command begun again if it needs that session
 abbrev pub owner_turned : List ℕ → Owner → Owner
 owner_turned name owner =
     let passed = with_state (state_turned name owner.state) owner in
     if is_waited_for owner.waiting name then owner_begun_again owner.waiting passed else passed
 
--- The turn of this session is the last one before what waits is answered.
+-- The turn of this session is the last one before the waiting command is answered.
 pub record IsLastTurn (name : List ℕ) (owner : Owner) : Type 0 where
   pub waited : is_waited_for owner.waiting name ≡ true
   pub last : turns_left owner ≡ 1
@@ -143,21 +143,21 @@ pub record IsAnswered (user : User) (command : Command) (reply : Reply) (next : 
   pub answers : (reply, next) ≡ answer user command mark
   pub only_memory : mark ≡ true → reply ≡ Refused Memory
 
--- What waits is answered so.
+-- The waiting command is answered so.
 abbrev pub IsReplied : Owner → Reply → User → Type 0
 IsReplied owner reply next = IfSome owner.waiting (λ command. IsAnswered (user_in owner) command reply next)
 
--- What waits will be answered as what waited would have been; where nothing waits the user stays.
+-- The command that waits now will be answered as the one that waited; if none waits the user does not change.
 abbrev pub WaitsAlikeFor : Option Command → Option Command → User → User → Type 0
 WaitsAlikeFor None None old new = new ≡ old
 WaitsAlikeFor (Some before) (Some after) old new = AnswersAlike new after old before
 WaitsAlikeFor _ _ old new = ⊥
 
--- so of two owners
+-- the same for two owners
 abbrev pub WaitsAlike : Owner → Owner → Type 0
 WaitsAlike old new = WaitsAlikeFor old.waiting new.waiting (user_in old) (user_in new)
 
--- no step is owed to a session whose frame a reply tells
+-- no step is pending in a session whose frame a reply prints
 abbrev pub IsSettled : UserState → Reply → Type 0
 IsSettled owned (Dumped name) = owed_in owned name ≡ 0
 IsSettled owned _ = Unit {0}

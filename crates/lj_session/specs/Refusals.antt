@@ -19,7 +19,7 @@ xyz_number kind.Range = 34
 xyz_number kind.Pair = 35
 xyz_number kind.Species = 39
 
--- its name
+-- the name of a fault of a body
 abbrev pub xyz_name : XyzKind → List ℕ
 xyz_name kind.Count = codes "XYZ_COUNT"
 xyz_name kind.Short = codes "XYZ_SHORT"
@@ -54,7 +54,7 @@ refusal_number StepFactor = 38
 refusal_number Weight = 40
 refusal_number Memory = 90
 
--- its name
+-- the name of a refusal
 abbrev pub refusal_name : Refusal → List ℕ
 refusal_name Denied = codes "DENIED"
 refusal_name Line = codes "LINE"
@@ -79,7 +79,7 @@ refusal_name StepFactor = codes "STEP_FACTOR"
 refusal_name Weight = codes "WEIGHT"
 refusal_name Memory = codes "MEMORY"
 
--- the fault of a body stands at a line of it
+-- the line of a fault of a body, else nothing
 abbrev pub place_text : Refusal → List ℕ
 place_text (Xyz fault) = codes " line " ++ decimal fault.line
 place_text _ = []

@@ -1,4 +1,4 @@
--- What the atoms of a load are: how they interact, which of them are of the second species, and what is replied.
+-- The atoms of a load: their mixture, which of them are of the second species, and the reply.
 use Rattle.std.specs.Prelude.{ℕ, ◌+◌, ◌*◌, Bool, ℤ, pos, List, [], ◌∷◌, Option, Some, None, Result, Ok, Err, if◌then◌else◌}
 use Rattle.std.specs.Option.{unwrap_or}
 use Rattle.lj_ring.specs.declared.mixes.ClassFault.{ClassFault}
@@ -19,7 +19,7 @@ use Rattle.lj_session.specs.declared.substance.ClassNumbers.{ClassNumbers}
 use Rattle.lj_session.specs.declared.substance.Substance.{Substance}
 use Rattle.lj_session.specs.declared.substance.Substance.TheVariants.{Pure, Mixed}
 
--- a word that is no number stands for 0, which is neither an edge, nor a sigma, a step factor or a weight
+-- the number, or 0, which is neither an edge nor a sigma, a step factor or a weight, for a word that does not parse
 abbrev pub nano_or_zero : Option ℤ → ℤ
 nano_or_zero nano = unwrap_or nano (pos 0)
 
@@ -42,7 +42,7 @@ class_refusal class.Weight = Weight
 abbrev pub mix_refusal : MixFault → Refusal
 mix_refusal fault = class_refusal fault.fault
 
--- the mixture of atoms that are all alike, or the fault of their scale as a refusal
+-- the mixture of one species, or the fault of its scale as a refusal
 abbrev pub pure_or_refusal : Result Scale ScaleFault → Result Mix Refusal
 pure_or_refusal (Ok units) = Ok (pure_mix units)
 pure_or_refusal (Err fault) = Err (scale_refusal fault)
@@ -52,15 +52,15 @@ abbrev pub mixture_or_refusal : Result Mix MixFault → Result Mix Refusal
 mixture_or_refusal (Ok mix) = Ok mix
 mixture_or_refusal (Err fault) = Err (mix_refusal fault)
 
--- how the atoms interact in a box of this edge, or the first of edge, and of sigma, step factor and weight of each class
--- in turn, that is out of range
+-- the mixture of a box of this edge, or the first of edge, and of sigma, step factor and weight of each class in turn,
+-- that is out of range
 abbrev pub mix_of_substance : ℤ → Substance → Result Mix Refusal
 mix_of_substance edge (Pure sigma step_factor) =
     pure_or_refusal (scale_of edge (nano_or_zero sigma) (unwrap_or step_factor 0))
 mix_of_substance edge (Mixed symbols first unlike second) =
     mixture_or_refusal (mixture_of edge (numbers_of first) (numbers_of unlike) (numbers_of second))
 
--- the symbols that the atoms of the first frame are to have, where not any will do
+-- the symbols that the atoms of the first frame must have, or None if they can have any
 abbrev pub symbols_of : Substance → Option SymbolPair
 symbols_of (Pure sigma step_factor) = None
 symbols_of (Mixed symbols first unlike second) = Some symbols
@@ -74,16 +74,16 @@ places_where test (x ∷ xs) = (if test x then 1 else 0) + 2 * places_where test
 abbrev pub seconds_among : SymbolPair → List Row → ℕ
 seconds_among symbols rows = places_where (λ row. is_second symbols row.symbol) rows
 
--- the atoms of a frame that are of the second species; where no symbols are asked for, none is
+-- the atoms of a frame that are of the second species; without symbols, none
 abbrev pub seconds_of : Option SymbolPair → List Row → ℕ
 seconds_of None rows = 0
 seconds_of (Some symbols) rows = seconds_among symbols rows
 
--- what the atoms of a frame are
+-- the composition of a frame's atoms
 abbrev pub composition_of : Mix → Option SymbolPair → List Row → Composition
 composition_of mix symbols rows = record { mix = mix; seconds = seconds_of symbols rows }
 
--- the reply where so many atoms are loaded
+-- the reply once this many atoms are loaded
 abbrev pub load_reply : Substance → List ℕ → ℕ → Reply
 load_reply (Pure sigma step_factor) name atoms = Loaded name atoms
 load_reply (Mixed symbols first unlike second) name atoms = LoadedMix name atoms

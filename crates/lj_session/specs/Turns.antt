@@ -1,4 +1,4 @@
--- The steps that commands take of their own, each of them a turn of their session, and the sessions that they wait for.
+-- The steps that a command takes of its own, each a turn of its session, and the session that it waits for.
 use Rattle.std.specs.Prelude.{ℕ, List, Option, Some, None, if◌then◌else◌}
 use Rattle.lj_session.specs.declared.command.Command.{Command}
 use Rattle.lj_session.specs.declared.command.Command.TheVariants.{Load, Advance, Start, Reverse, Branch, Restore, Forget, Tug}
@@ -8,12 +8,12 @@ use Rattle.lj_branch.specs.Named.{value_named}
 use Rattle.lj_session.specs.Users.{Session, User}
 use Rattle.lj_session.specs.Answers.{can_advance}
 
--- a step is a turn
+-- the turns of an ADVANCE: one a step, and none if it is refused
 abbrev pub advance_turns : Option Session → ℕ → ℕ
 advance_turns None n = 0
 advance_turns (Some session) n = if can_advance session n then n else 0
 
--- the potential is summed in one turn
+-- the turns of a MEASURE: one, in which the potential is summed
 abbrev pub measure_turns : Option Session → ℕ
 measure_turns None = 0
 measure_turns (Some session) = 1
@@ -24,7 +24,7 @@ turns user (Advance name n) = advance_turns (value_named name user.sessions) n
 turns user (Measure name) = measure_turns (value_named name user.sessions)
 turns user _ = 0
 
--- The session that a command waits for, until no step is owed to it. The loads, START, FORGET, the lists and BYE wait
+-- The session that a command waits for, until no step is pending there. LOAD, LOADMIX, START, FORGET, LIST and BYE wait
 -- for none.
 unfoldable pub waits_for : Command → Option (List ℕ)
 waits_for (Load load) = None

@@ -1,4 +1,4 @@
--- What the code holds of a user, open steps and all, and the user of the definition that it stands for.
+-- The state of a user in the code, with open steps, and the user of the definition that it stands for.
 use Rattle.std.specs.Prelude.{◌≡◌, ◌≢◌, ◌<◌, OnOk, IsSomeAnd, ℕ, ◌+◌, ◌-◌, is_some, Bool, true, false, ◌&&◌, nat_le, nat_lt, List, []}
 use Rattle.std.specs.Prelude.{◌∷◌, length, map, position, slice_get, Option, Some, None, Result, Ok, Err, if◌then◌else◌, ◌⊎◌}
 use Rattle.std.specs.Option.{option_map, option_map_or, option_and_then}
@@ -24,9 +24,9 @@ use Rattle.lj_session.specs.Users.{Session, User, fresh_user, sessions_used, ato
 use Rattle.lj_session.specs.Answers.{session_named, command_result, answer, can_advance}
 use Rattle.lj_session.specs.Turns.{turns, waits_for}
 
--- A session as it is held: the symbols of its atoms, its simulation with what they are and its open step, what is saved
--- in it, and how many steps are owed to it. The first `passed` tiles of the open step's cover have been posted, or were in
--- when their turn came.
+-- A session in the code: the symbols of its atoms, its simulation with composition and open step, its saved
+-- simulations, and the number of pending steps. The first `passed` tiles of the open step's cover were posted, or
+-- skipped because they were in.
 pub record HeldSession : Type 0 where
   pub symbols : List (List ℕ)
   pub live : Sim
@@ -34,25 +34,25 @@ pub record HeldSession : Type 0 where
   pub saved : List (List ℕ × Simulation)
   pub owed : ℕ
 
--- a saved simulation has so many atoms
+-- a saved simulation has `count` atoms
 abbrev pub HasCount : ℕ → List ℕ × Simulation → Type 0
 HasCount count entry = length entry.1.cur ≡ count
 
--- what is held of a user: the quota, and sessions under names, in order of loading
+-- the state of a user: the quota, and sessions under names, in order of loading
 pub record UserState : Type 0 where
   pub quota : Quota
   pub sessions : List (List ℕ × HeldSession)
 
--- nothing but a quota
+-- a state without sessions
 abbrev pub empty_state : Quota → UserState
 empty_state quota = record { quota = quota; sessions = [] }
 
--- the session that is held, as its present step began
+-- the session, as it was when its present step began
 abbrev pub as_session : HeldSession → Session
 as_session held =
     record { symbols = held.symbols; composition = held.live.composition; sim = held.live.sim; saved = held.saved }
 
--- the session that is meant: with all steps done that are owed to it
+-- the session with all its pending steps done
 abbrev pub session_meant : HeldSession → Session
 session_meant held = record {
   symbols = held.symbols;
@@ -61,15 +61,15 @@ session_meant held = record {
   saved = held.saved;
 }
 
--- a name with the session that is meant by what is held under it
+-- a name, and its session with all pending steps done
 abbrev pub as_entry : List ℕ × HeldSession → List ℕ × Session
 as_entry entry = (entry.0, session_meant entry.1)
 
--- the user that is meant: with all steps done that are owed to the sessions
+-- the user with all pending steps done
 abbrev pub user_of : UserState → User
 user_of owned = record { quota = owned.quota; sessions = map as_entry owned.sessions }
 
--- what the user has of each part of the quota
+-- how much of each part of the quota the user has used
 abbrev pub used_by : UserState → Used
 used_by owned = record {
   sessions = sessions_used (user_of owned);
@@ -89,20 +89,20 @@ held_session_at owned i = option_map (λ entry. entry.1) (slice_get owned.sessio
 abbrev pub names : UserState → List (List ℕ)
 names owned = map (λ entry. entry.0) owned.sessions
 
--- with another value under the name of a session
+-- the state with this session under a name
 abbrev pub with_held_session : List ℕ → HeldSession → UserState → UserState
 with_held_session name held owned = record owned { sessions = with_value name held owned.sessions }
 
--- with what is held under a name changed, if something is
+-- the state with a session changed, if there is one
 abbrev pub with_session_changed_to : List ℕ → (HeldSession → HeldSession) → Option HeldSession → UserState → UserState
 with_session_changed_to name change None owned = owned
 with_session_changed_to name change (Some held) owned = with_held_session name (change held) owned
 
--- with the session of a name changed, if there is one
+-- the state with the session of a name changed, if there is one
 abbrev pub with_session_changed : List ℕ → (HeldSession → HeldSession) → UserState → UserState
 with_session_changed name change owned = with_session_changed_to name change (held_session owned name) owned
 
--- a step of a kind opened, of which no tile is posted or in
+-- the session with a step of a kind open, and no tile of it posted or in
 abbrev pub with_step : Kind → HeldSession → HeldSession
 with_step kind held =
     record held { live = record held.live { part = Some (opened_step kind held.live.composition held.live.sim.cur) }; passed = 0 }
@@ -111,21 +111,21 @@ with_step kind held =
 abbrev pub next_tile : HeldSession → Option ℕ
 next_tile held = find (is_tile_awaited held.live) (range_with_len held.passed (tiles_of held.live - held.passed))
 
--- the task of that tile
+-- the task of the first tile of a session that is neither posted nor in
 abbrev pub next_of : Label → Option HeldSession → Option Task
 next_of label None = None
 next_of label (Some held) = option_and_then (task_at held.live label) (next_tile held)
 
--- that task of the session that a label names
+-- the task of that tile for the session that a label names
 abbrev pub next_task : UserState → Label → Option Task
 next_task owned label = next_of label (held_session owned label.session)
 
--- the first session, in order of loading, that has such a task of the user of a number
+-- the first session, in order of loading, that has a task for the user of this number
 abbrev pub first_with_task : UserState → ℕ → Option (List ℕ)
 first_with_task owned user =
     find (λ name. is_some (next_task owned (record { user = user; session = name }))) (names owned)
 
--- None of the sessions before the i-th has such a task, whatever the number of the user.
+-- No session before the i-th has a task, whatever the number of the user.
 abbrev pub NoTaskBefore : UserState → ℕ → Type 0
 NoTaskBefore owned i = (user k : ℕ) (name : List ℕ) → k < i → slice_get (names owned) k ≡ Some name
     → is_some (next_task owned (record { user = user; session = name })) ≡ false
@@ -143,12 +143,12 @@ pub record IsNextTile (owned : UserState) (i k : ℕ) : Type 0 where
   pub before : NoTaskBefore owned i
   pub first : (user : ℕ) → first_with_task owned user ≡ Some name
 
--- with the tiles passed up to a position and at it, if one is given
+-- the session with the tiles up to and at a position passed, if one is given
 abbrev pub with_passed_to : Option ℕ → HeldSession → HeldSession
 with_passed_to None held = held
 with_passed_to (Some i) held = record held { passed = i + 1 }
 
--- that tile noted as posted
+-- the session with its first tile that is neither posted nor in noted as posted
 abbrev pub with_posted : HeldSession → HeldSession
 with_posted held = with_passed_to (next_tile held) held
 
@@ -156,60 +156,60 @@ with_posted held = with_passed_to (next_tile held) held
 abbrev pub IsAwaited : UserState → Label → Task → Type 0
 IsAwaited owned label work = IsSomeAnd (held_session owned label.session) (λ held. IsAwaitedTask held.live label work)
 
--- one tile more is in
+-- the session with one more tile in
 abbrev pub with_tile_in : ℕ → HeldSession → HeldSession
 with_tile_in k held = record held { live = record held.live { part = with_tile k held.live.part } }
 
--- whether a step is open in a session and all its tiles are in
+-- a step is open in a session and all its tiles are in
 abbrev pub is_whole_session : Option HeldSession → Bool
 is_whole_session None = false
 is_whole_session (Some held) = is_whole held.live.part
 
--- so of the session of a name
+-- the same for the session of a name
 abbrev pub is_whole_in : UserState → List ℕ → Bool
 is_whole_in owned name = is_whole_session (held_session owned name)
 
--- with another simulation, and no step open
+-- the session with another simulation, and no step open
 abbrev pub with_simulation : HeldSession → Simulation → HeldSession
 with_simulation held sim = record held { live = with_step_closed held.live sim }
 
--- with other saved simulations
+-- the session with other saved simulations
 abbrev pub with_saved : HeldSession → List (List ℕ × Simulation) → HeldSession
 with_saved held saved = record held { saved = saved }
 
--- so many steps more are owed; where none were, the first of them is open
+-- the session with n more steps pending; if none were, the first of them is open
 abbrev pub with_more_owed : ℕ → HeldSession → HeldSession
 with_more_owed n held =
     let more = record held { owed = held.owed + n } in
     if nat_lt 0 n && nat_le held.owed 0 then with_step Force more else more
 
--- one step on, and one step less is owed; no step is open
+-- the session one step later, with one fewer step pending and none open
 abbrev pub with_step_taken : HeldSession → HeldSession
 with_step_taken held =
     record (with_simulation held (next_simulation held.live.composition held.live.sim)) { owed = held.owed - 1 }
 
--- one step on, and the next one open if one is owed
+-- the session one step later, with the next step open if one is pending
 abbrev pub with_step_passed : HeldSession → HeldSession
 with_step_passed held =
     let next = with_step_taken held in if nat_lt 0 next.owed then with_step Force next else next
 
--- no step open, and none of its tiles posted
+-- the session with no step open, and no tile posted
 abbrev pub with_no_step : HeldSession → HeldSession
 with_no_step held = record (with_simulation held held.live.sim) { passed = 0 }
 
--- the step begun anew where one is owed, so that no tile is posted or in, and none open elsewhere
+-- the session with its step restarted if one is pending, so that no tile is posted or in, else with none open
 abbrev pub session_at_rest : HeldSession → HeldSession
 session_at_rest held = if nat_lt 0 held.owed then with_step Force held else with_no_step held
 
--- each session so
+-- the state with the step of each session restarted
 abbrev pub state_at_rest : UserState → UserState
 state_at_rest owned = record owned { sessions = map (λ entry. (entry.0, session_at_rest entry.1)) owned.sessions }
 
--- how many steps are owed to the session of a name: none where there is no such session
+-- the number of pending steps of the session of a name, and 0 if there is none
 abbrev pub owed_in : UserState → List ℕ → ℕ
 owed_in owned name = option_map_or (λ held. held.owed) (held_session owned name) 0
 
--- how many steps are owed to the session that a command waits for
+-- the number of pending steps of the session that a command waits for
 abbrev pub steps_before : UserState → Command → ℕ
 steps_before owned command = option_map_or (owed_in owned) (waits_for command) 0
 
@@ -218,26 +218,26 @@ abbrev pub index_waited_for : UserState → Command → Option ℕ
 index_waited_for owned command =
     option_and_then (λ name. position (bytes_eq name) (names owned)) (waits_for command)
 
--- how many turns of its session come before a command is answered: the steps that are owed there, and its own
+-- how many turns of its session come before a command is answered: the pending steps, and its own
 abbrev pub turns_before : UserState → Command → ℕ
 turns_before owned command = steps_before owned command + turns (user_of owned) command
 
--- what waits measures this session
+-- the waiting command measures this session
 abbrev pub is_measured : Option Command → List ℕ → Bool
 is_measured (Some (Measure session)) name = bytes_eq session name
 is_measured _ name = false
 
--- what the open step of a session sums: pushes where steps are owed to it, energies where what waits measures it, and
--- nothing where none is open
+-- the kind of a session's open step: of forces if steps are pending, of energies if the waiting command measures it,
+-- else no step is open
 abbrev pub kind_owed : Option Command → List ℕ → HeldSession → Option Kind
 kind_owed waiting name held =
     if nat_lt 0 held.owed then Some Force else (if is_measured waiting name then Some Energy else None)
 
--- a session may go on by so many steps, after those that are owed to it
+-- a session may advance by n steps after the pending ones
 abbrev pub MayAdvance : ℕ → HeldSession → Type 0
 MayAdvance n held = can_advance (session_meant held) n ≡ true
 
--- A step is open in each session that owes one, and in no other.
+-- A step is open in each session that has one to make, and in no other.
 abbrev pub IsAtWork : Option Command → UserState → Type 0
 IsAtWork waiting owned = (name : List ℕ) (held : HeldSession) → held_session owned name ≡ Some held
     → kind_of held.live.part ≡ kind_owed waiting name held
@@ -247,46 +247,46 @@ pub record IsWhole (expected : Kind) (held : HeldSession) : Type 0 where
   pub kind : kind_of held.live.part ≡ Some expected
   pub whole : is_whole held.live.part ≡ true
 
--- what a command comes to: a reply with the user after it, or a refusal
+-- the outcome of a command: a reply with the user after it, or a refusal
 abbrev pub outcome : Result Reply Refusal → User → Result (Reply × User) Refusal
 outcome (Ok reply) next = Ok (reply, next)
 outcome (Err refusal) next = Err refusal
 
--- A command only reads, and comes to this, whether memory is refused to it or not.
+-- A command only reads, and has this outcome, whether memory is refused to it or not.
 abbrev pub Reads : UserState → Command → Result Reply Refusal → Type 0
 Reads owned command result = (mark : Bool) → command_result (user_of owned) command mark ≡ outcome result (user_of owned)
 
--- Every session but the one of this name is held as it was, its open step and what is posted of it included.
+-- Every session except the one of this name is unchanged, with its open step and what is posted of it.
 abbrev pub OtherSessionsKept : List ℕ → UserState → UserState → Type 0
 OtherSessionsKept name old new = (other : List ℕ) → name ≢ other → held_session new other ≡ held_session old other
 
--- Every session but that of the command is held as it was, its open step and what is posted of it included.
+-- Every session except that of the command is unchanged, with its open step and what is posted of it.
 abbrev pub OthersKept : Command → UserState → UserState → Type 0
 OthersKept command old new =
     (other : List ℕ) → session_named command ≢ Some other → held_session new other ≡ held_session old other
 
--- no step is owed to a session, and none is open in it
+-- no step is pending or open in a session
 pub record IsIdle (held : HeldSession) : Type 0 where
   pub owed : held.owed ≡ 0
   pub closed : kind_of held.live.part ≡ None
 
--- the steps of a session are as they were: what is owed, which is open, and what is posted and in of that
+-- the steps of a session are unchanged: those pending, the open one, and which of its tiles are posted and in
 pub record SameSteps (old new : HeldSession) : Type 0 where
   pub live : new.live ≡ old.live
   pub passed : new.passed ≡ old.passed
   pub owed : new.owed ≡ old.owed
 
--- the steps of a START owed, where the session may go on by them
+-- the session with the steps of a START pending, if it may advance by them
 abbrev pub with_start : ℕ → HeldSession → HeldSession
 with_start n held = if can_advance (session_meant held) n then with_more_owed n held else held
 
--- the steps of its session after a load: none in one that is loaded, and as they were in one that was there
+-- the steps of its session after a load: none in a new session, and unchanged in one that was there
 abbrev pub StepsAfterLoad : Option HeldSession → HeldSession → Type 0
 StepsAfterLoad None after = IsIdle after
 StepsAfterLoad (Some held) after = SameSteps held after
 
--- The steps of its session after a command: a load opens none and leaves those that were there, START owes more, FORGET and
--- LIST leave them as they were, and after another they are as they were, or none is owed or open.
+-- The steps of its session after a command: a load opens none and leaves those that were there, START adds pending
+-- ones, FORGET and LIST leave them unchanged, and after any other they are unchanged, or none is pending or open.
 abbrev pub StepsAfter : Command → Option HeldSession → HeldSession → Type 0
 StepsAfter (Load load) before after = StepsAfterLoad before after
 StepsAfter (Start name n) before after = IsSomeAnd before (λ held. after ≡ with_start n held)
@@ -294,12 +294,12 @@ StepsAfter (Forget name branch) before after = IsSomeAnd before (λ held. SameSt
 StepsAfter (ListBranches name) before after = IsSomeAnd before (λ held. SameSteps held after)
 StepsAfter command before after = IsIdle after ⊎ IsSomeAnd before (λ held. SameSteps held after)
 
--- So are the steps of the session that an answered command is of, if it is there.
+-- The session that a command names, if it is there, has these steps after the command.
 abbrev pub StepsFollow : Command → UserState → UserState → Type 0
 StepsFollow command old new = (name : List ℕ) (after : HeldSession) → session_named command ≡ Some name → held_session new name ≡ Some after
     → StepsAfter command (held_session old name) after
 
--- the session of a name, if there is one, has no step owed or open
+-- the session of a name, if there is one, has no step pending or open
 abbrev pub IsIdleIn : UserState → List ℕ → Type 0
 IsIdleIn owned name = (held : HeldSession) → held_session owned name ≡ Some held → IsIdle held
 

@@ -6,7 +6,8 @@ use Rattle.lj_tile.specs.Species.{Composition}
 use Rattle.lj_step.specs.Motion.{Simulation}
 use Rattle.lj_quota.specs.declared.Quota.{Quota}
 
--- a session: the symbols of its atoms, what they are, its simulation, and simulations saved under names, in order of saving
+-- a session: the symbols and the composition of its atoms, its simulation, and simulations saved under names, in order
+-- of saving
 pub record Session : Type 0 where
   pub symbols : List (List ℕ)
   pub composition : Composition
@@ -38,6 +39,6 @@ sessions_used user = length user.sessions
 abbrev pub atoms_used : User → ℕ
 atoms_used user = sum_by (λ entry. atoms_of entry.1) user.sessions
 
--- how many simulations are saved in them together
+-- how many simulations its sessions have saved together
 abbrev pub branches_used : User → ℕ
 branches_used user = sum_by (λ entry. length entry.1.saved) user.sessions

@@ -3,12 +3,12 @@ ghost use Rattle.std.specs.Prelude.{◌≡◌};
 
 use std::marker::Model;
 
-/// The body of a load, as far as it is there.
+/// The state of a load's body.
 #[derive(Debug, Drop)]
 pub enum LoadBody {
     /// It is not read yet.
     Unread,
-    /// No memory was found for it.
+    /// There was no memory for it.
     Lost,
     Read(Body),
 }

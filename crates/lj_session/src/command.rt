@@ -5,7 +5,7 @@ use crate::substance::Substance;
 use lj_base::Name;
 use lj_fixed::Nano;
 
-/// How many frames of its body a load reads.
+/// The number of frames that a load reads of its body.
 #[derive(Clone, Copy, Debug, PartialEq, Eq)]
 pub enum Mode {
     /// One: the atoms begin at rest.
@@ -14,7 +14,7 @@ pub enum Mode {
     Pair,
 }
 
-/// A LOAD, or a LOADMIX. A number is `None` where its word is no such number.
+/// A LOAD, or a LOADMIX. A number is `None` if its word does not parse.
 #[derive(Debug, Drop)]
 pub struct Load {
     /// The name of the new session.
@@ -32,37 +32,37 @@ pub struct Load {
 pub enum Command {
     /// Loads a session from a body.
     Load(Load),
-    /// Goes on by a number of steps.
+    /// Advances by a number of steps.
     Advance {
         name: Name,
         steps: u64,
     },
-    /// Goes on by a number of steps while other commands are answered. It is answered at once with the step that the
-    /// session is going to.
+    /// Advances by a number of steps while other commands are answered. The reply comes at once, with the step number
+    /// at the end.
     Start {
         name: Name,
         steps: u64,
     },
-    /// Turns the motion back.
+    /// Reverses the motion.
     Reverse {
         name: Name,
     },
-    /// Saves the simulation as it stands.
+    /// Saves the present simulation.
     Branch {
         name: Name,
         branch: Name,
     },
-    /// Goes back to a saved simulation, which stays saved.
+    /// Restores a saved simulation, which stays saved.
     Restore {
         name: Name,
         branch: Name,
     },
-    /// Gives up a saved simulation.
+    /// Removes a saved simulation.
     Forget {
         name: Name,
         branch: Name,
     },
-    /// Adds a displacement for each step, in ring units along each axis, to the motion of an atom.
+    /// Adds a displacement per step, in ring units along each axis, to the motion of an atom.
     Tug {
         name: Name,
         atom: u64,
@@ -85,11 +85,11 @@ pub enum Command {
     },
     /// Lists the sessions.
     List,
-    /// Lists what is saved in a session.
+    /// Lists the saved simulations of a session.
     ListBranches {
         name: Name,
     },
-    /// Gives up a session.
+    /// Removes a session.
     Unload {
         name: Name,
     },

@@ -1,29 +1,29 @@
-//! Laws of owners and of what is answered: functions that do nothing, whose contracts are the laws.
+//! Laws of owners and of answers: functions that do nothing, whose contracts are the laws.
 ghost use Rattle.lj_session.specs.Laws.{RestKeepsUser, PostedKeepsUser, AcceptKeepsUser, BegunWaitsAlike};
 ghost use Rattle.lj_session.specs.Laws.{ListedIsThere};
 
-/// To begin each step anew leaves the user.
+/// Shows that restarting each open step does not change the user.
 pub fn rest_keeps_user()
     ensures { RestKeepsUser }
 {}
 
-/// To note a task as posted leaves the user.
+/// Shows that noting a task as posted does not change the user.
 pub fn posted_keeps_user()
     ensures { PostedKeepsUser }
 {}
 
-/// To take a tile in leaves the user.
+/// Shows that accepting the result of a tile does not change the user.
 pub fn accept_keeps_user()
     ensures { AcceptKeepsUser }
 {}
 
-/// Promise: a command that is begun and waits will be answered as it would be now, and the user stays but for the steps
-/// of an ADVANCE that it begins to take.
+/// Promise: a command that is begun and waits will be answered as it would be now, and the user does not change, except
+/// for the steps of an ADVANCE that it begins.
 pub fn begun_waits_alike()
     ensures { BegunWaitsAlike }
 {}
 
-/// A reply lists the atoms of a session, or what is saved in it, only where that session is one of the user after it.
+/// Shows that a reply lists the atoms or the saved simulations of a session only if the user has it after the command.
 pub fn listed_is_there()
     ensures { ListedIsThere }
 {}

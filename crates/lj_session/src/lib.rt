@@ -1,4 +1,4 @@
-//! The sessions of a user: the commands on them, their replies, and what each command is answered.
+//! The sessions of a user: the commands on them, and the reply to each command.
 #![tactic(auto)]
 
 mod body;

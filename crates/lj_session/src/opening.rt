@@ -1,4 +1,4 @@
-//! The frames that a load opens a session with.
+//! The frames with which a load opens a session.
 ghost use Rattle.std.specs.Prelude.{◌≡◌, ◌≤◌, length, map, Some, None, IfOk, IsTrue};
 ghost use Rattle.std.specs.Option.{option_copied};
 ghost use Rattle.lj_xyz.specs.Atoms.{is_count};
@@ -28,7 +28,7 @@ pub(crate) struct Opening {
 }
 
 impl Opening {
-    /// Reads what a mode asks for. Each atom of the first frame is to have one of the symbols, where two are given.
+    /// Reads the frames of a mode. Each atom of the first frame must have one of the symbols, if two are given.
     pub(crate) fn read(
         alloc: Global,
         mode: Mode,
@@ -54,7 +54,7 @@ impl Opening {
         }
     }
 
-    /// How many atoms there are, 1 to `MAX_FRAME_ATOMS`.
+    /// Returns the number of atoms, at most `MAX_FRAME_ATOMS`.
     pub(crate) fn count(&self) -> usize
         ensures value { result ≡ length self.now.first }
         ensures most { result ≤ MAX_FRAME_ATOMS }
@@ -62,8 +62,8 @@ impl Opening {
         self.first.len()
     }
 
-    /// The session that opens with these frames. Of one frame both are made, so that the atoms are at rest. Where
-    /// symbols of two species are given, those of the first frame tell the species.
+    /// Makes the session that opens with these frames. A single frame is used twice, so that the atoms are at rest. If
+    /// symbols of two species are given, those of the first frame determine the species.
     pub(crate) fn session(
         self,
         alloc: Global,
@@ -86,7 +86,7 @@ impl Opening {
         Ok(HeldSession::new(symbols, sim, Branches::new(alloc)))
     }
 
-    /// The places of the last frame: those of the first, which are at hand, where there is no other.
+    /// Returns the places of the last frame: `first` if there is only one.
     fn last_places(
         &self,
         alloc: Global,

@@ -1,4 +1,4 @@
-//! The owner of a user's state: a command is begun, and what takes time goes out as tasks that anyone may compute.
+//! The owner of a user's state: it begins commands, and hands out their steps as tasks that anyone may compute.
 ghost use Rattle.std.specs.Prelude.{◌≡◌, ◌↔◌, ◌<◌, ◌+◌, ℕ, Bool, true, false, Some, None, IsOk, IsSome};
 ghost use Rattle.std.specs.Prelude.{IfSome, IfErr, OnOk, OnErr, OnSome, IfNone, is_some};
 ghost use Rattle.std.specs.List.{IsDistinct};
@@ -27,7 +27,7 @@ use lj_tile::{Done, DoneRef, Kind, Task};
 use std::marker::Model;
 use std::mem;
 
-/// What the beginning of a command comes to.
+/// The outcome of beginning a command.
 #[derive(Debug, Drop)]
 pub enum Begin {
     /// It is answered.
@@ -36,8 +36,8 @@ pub enum Begin {
     Running,
 }
 
-/// Owns a user's state, and the command that waits. Each session to which steps are owed goes on, tile by tile, while other
-/// commands are answered; a command that needs a session as it will be waits until nothing is owed to it.
+/// The owner of a user's state and of the waiting command. Each session with pending steps advances, tile by tile,
+/// while other commands are answered. A command that needs the session after these steps waits until none is pending.
 #[derive(Drop)]
 pub struct Owner {
     state: UserState,
@@ -58,8 +58,8 @@ impl Model for Owner {
 }
 
 impl Owner {
-    /// Returns the owner of a state. Nothing waits, and the step of each session to which steps are owed is begun anew. The
-    /// number of the user stands in the names of the tasks.
+    /// Returns the owner of a state. No command waits, and the step of each session with pending steps is restarted.
+    /// The number of the user is part of the tasks' names.
     pub fn new(state: UserState, user: u8) -> Owner
         ensures value { result ≡ owner_of_state state user }
         ensures distinct { IsDistinct bytes_eq (names result.state) }
@@ -73,12 +73,12 @@ impl Owner {
         }
     }
 
-    /// Begins a command. It is answered at once where no step is owed to the session that it waits for and it takes none of
-    /// its own; else it waits. START is always answered at once, with the step that the session is going to. Only LOAD,
-    /// LOADMIX and BRANCH take memory.
+    /// Begins a command. It is answered at once if the session that it waits for has no pending steps and it takes none
+    /// of its own; else it waits. START is always answered at once, with the step number at the end. Only LOAD, LOADMIX
+    /// and BRANCH take memory.
     ///
     /// Promise: a command is answered at once exactly where it has no turn to wait for, with the reply and the next
-    /// user of the definition; else it waits, and will be answered what it would be now. If it is refused nothing has
+    /// user of the definition; else it waits, and will be answered as it would be now. If it is refused nothing has
     /// changed, and it changes no other session.
     pub fn begin(&mut self, command: Command) -> Begin
         requires idle { self.old.waiting ≡ None }
@@ -102,8 +102,7 @@ impl Owner {
         self.begin_from(&mut command)
     }
 
-    /// Begins a command as `begin` does, from the room that it was read into, so that it is not moved. What the room holds then
-    /// is not said.
+    /// Begins a command as `begin` does, in place, so that it is not moved. `command` is unspecified afterwards.
     pub fn begin_from(&mut self, command: &mut Command) -> Begin
         requires idle { self.old.waiting ≡ None }
         ensures at_once { IfAnswered result (λ _. turns_before self.old.state command.old ≡ 0) }
@@ -130,7 +129,8 @@ impl Owner {
         Begin::Running
     }
 
-    /// The task of the first tile that is neither posted nor in, of the first session, in order of loading, that has one.
+    /// Returns the task of the first tile that is neither posted nor in, of the first session, in order of loading,
+    /// that has one.
     pub fn next_task(&self) -> Option<Task>
         ensures { result ≡ task_in self.now }
     {
@@ -142,7 +142,7 @@ impl Owner {
         }
     }
 
-    /// Makes `room` the task that `next_task` returns. False where there is none; the room is as before then.
+    /// Writes the task that `next_task` returns to `room`. Returns false if there is none; `room` is unchanged then.
     pub fn next_task_in(&self, room: &mut Task) -> bool
         ensures some { result ≡ true → task_in self.now ≡ Some room.new }
         ensures none { result ≡ false → task_in self.now ≡ None }
@@ -155,7 +155,7 @@ impl Owner {
         self.state.task_in(i, k, &label, room)
     }
 
-    /// The cursor at the task that `next_task` returns.
+    /// Returns the cursor at the task that `next_task` returns.
     pub fn first_tile(&self) -> Option<TileCursor>
         ensures some { IfSome result (λ cursor. IsPostedTo cursor self.now self.now) }
         ensures none { IfNone result (task_in self.now ≡ None) }
@@ -167,8 +167,9 @@ impl Owner {
         Some(TileCursor { session, from })
     }
 
-    /// Makes `room` the task at a cursor, and moves the cursor behind it: the next task once all before the cursor are posted.
-    /// It posts none. False where the session of the cursor has no task there; nothing is changed then.
+    /// Writes the task at a cursor to `room`, and moves the cursor behind it. This task is the next one once all before
+    /// the cursor are posted; it posts none. Returns false if the session of the cursor has no task there; nothing has
+    /// changed then.
     pub fn task_from_in(&self, cursor: &mut TileCursor, room: &mut Task) -> bool
         ensures task { result ≡ true → (later : Owner) → IsPostedTo cursor.old self.now later
             → task_in later ≡ Some room.new }
@@ -200,10 +201,10 @@ impl Owner {
         }
     }
 
-    /// Takes in the result of a task that the step of a session awaits. Another is handed back, and nothing has changed.
+    /// Accepts the result of a task that the step of a session awaits. Any other is handed back, and nothing has changed.
     ///
-    /// Promise: a result is taken exactly where the step of its session awaits that very task; else it is handed back,
-    /// and nothing has changed.
+    /// Promise: a result is accepted exactly where the step of its session awaits that very task; else it is handed
+    /// back, and nothing has changed.
     pub fn accept(&mut self, done: Done) -> Result<(), Stray>
         ensures accepted { IsOk result ↔ IsAwaitedIn self.old done }
         ensures taken { OnOk result (self.new ≡ with_task_in done self.old) }
@@ -217,7 +218,7 @@ impl Owner {
         }
     }
 
-    /// Takes in a result as `accept` does, and copies nothing of it.
+    /// Accepts a result by reference, as `accept` does, and copies nothing of it.
     pub fn take_in(&mut self, done: &DoneRef<'_>) -> Result<(), NotAwaited>
         ensures accepted { IsOk result ↔ IsAwaitedIn self.old done.now }
         ensures taken { OnOk result (self.new ≡ with_task_in done.now self.old) }
@@ -231,7 +232,7 @@ impl Owner {
         self.state.take_in(label, done)
     }
 
-    /// Whether some session owes a step.
+    /// Returns whether some session has a step to make.
     pub fn is_busy(&self) -> bool
         ensures { result ≡ is_busy self.now }
     {
@@ -243,7 +244,7 @@ impl Owner {
         false
     }
 
-    /// Whether a session owes a step of which all tiles are in.
+    /// Returns whether a session has a step to make whose tiles are all in.
     pub fn is_whole(&self, name: &Name) -> bool
         ensures value { result ≡ is_whole_in self.now.state name.now }
         ensures owes { result ≡ true → is_owing self.now name.now ≡ true }
@@ -251,7 +252,7 @@ impl Owner {
         self.state.is_whole(name)
     }
 
-    /// The first session, in order of loading, that owes a step of which all tiles are in.
+    /// Returns the first session, in order of loading, that has a step to make whose tiles are all in.
     pub fn ready_session(&self) -> Option<Name>
         ensures first { result ≡ ready_session self.now }
         ensures whole { IfSome result (λ name. is_whole_in self.now.state name ≡ true) }
@@ -260,12 +261,12 @@ impl Owner {
         Some(self.state.first_whole()?.copy())
     }
 
-    /// Turns the step of a session: one step less is owed to it, and the next one is open if there is one. Where that was
-    /// what a command waited for, the command begins again: it is answered, or begins to take steps of its own. No other
-    /// session is changed. If the command is refused, the step is made and nothing else.
+    /// Turns the step of a session: one fewer is pending, and the next one is open if there is one. If the waiting
+    /// command needs this session, it begins again: it is answered, begins its own steps, or waits on. No other session
+    /// is changed. If the command is refused, the step is made and nothing else.
     ///
-    /// Promise: what waits is answered exactly at its last turn, with the reply and the next user of the definition; no
-    /// other session is changed.
+    /// Promise: the waiting command is answered exactly at its last turn, with the reply and the next user of the
+    /// definition; no other session is changed.
     pub fn turn_session(&mut self, name: &Name) -> Option<Reply>
         requires { is_whole_in self.old.state name.now ≡ true }
         ensures last { IsSome result ↔ IsLastTurn name.now self.old }
@@ -298,7 +299,7 @@ impl Owner {
         }
     }
 
-    /// Whether a command waits.
+    /// Returns whether a command waits.
     pub fn is_waiting(&self) -> bool
         ensures value { result ≡ is_some self.now.waiting }
         ensures some { result ≡ true → 0 < turns_left self.now }
@@ -306,16 +307,17 @@ impl Owner {
         self.waiting.is_some()
     }
 
-    /// The state. Each session stands as its present step began.
+    /// Returns the state. Each session is as it was when its present step began.
     pub fn state(&self) -> &UserState
         ensures { result.now ≡ self.now.state }
     {
         &self.state
     }
 
-    /// Hands the state back, with what is owed to its sessions. Their steps are begun anew, so that no tile is posted or in.
+    /// Returns the state, with the pending steps of its sessions. Open steps are restarted, so that no tile is posted
+    /// or in.
     ///
-    /// Promise: the state that is handed back means the same user, with what is owed to its sessions.
+    /// Promise: the state that is handed back means the same user, with the pending steps of its sessions.
     pub fn into_state(self) -> UserState
         requires { self.waiting ≡ None }
         ensures state { result ≡ state_at_rest self.state }
@@ -326,11 +328,11 @@ impl Owner {
         state
     }
 
-    /// Gives up the state, and what waits.
+    /// Drops the state and the waiting command.
     pub fn abandon(self) {}
 
-    /// Takes a command that is not answered at once out of its room and holds it, and begins to take its own steps where no
-    /// other is owed. It is kept out of line, so that `begin_from` is short for what is answered at once.
+    /// Stores a command that is not answered at once, and begins its own steps if no other is pending. It is kept out
+    /// of line, so that `begin_from` is short for commands that are answered at once.
     #[inline(never)]
     fn hold(&mut self, command: &mut Command)
         requires idle { self.old.waiting ≡ None }
@@ -347,14 +349,14 @@ impl Owner {
         self.waiting = Some(take_up(&mut self.state, command));
     }
 
-    /// Whether a session owes a step.
+    /// Returns whether a session has a step to make.
     fn owes(&self, name: &Name) -> bool
         ensures { result ≡ is_owing self.now name.now }
     {
         self.state.owed(name) > 0 || self.is_measured(name)
     }
 
-    /// Whether what waits measures this session.
+    /// Returns whether the waiting command measures this session.
     fn is_measured(&self, name: &Name) -> bool
         ensures { result ≡ is_measured self.now.waiting name.now }
     {
@@ -364,7 +366,7 @@ impl Owner {
         }
     }
 
-    /// Whether what waits, waits for this session.
+    /// Returns whether the waiting command needs this session.
     fn is_waited_for(&self, name: &Name) -> bool
         ensures { result ≡ is_waited_for self.now.waiting name.now }
     {
@@ -374,7 +376,7 @@ impl Owner {
         }
     }
 
-    /// The label of the tasks of a session.
+    /// Returns the label of the tasks of a session.
     fn label(&self, session: Name) -> Label
         ensures { result ≡ label_of self.now session }
     {
@@ -385,7 +387,7 @@ impl Owner {
     }
 }
 
-/// Answers a command that waits for nothing, and takes no step of its own, from its room. The index is that of the session that
+/// Answers a command in place that waits for nothing and takes no step of its own. `index` is that of the session that
 /// it waits for.
 fn answer(state: &mut UserState, command: &mut Command, index: Option<usize>) -> Reply
     requires index { index ≡ index_waited_for state.old command.old }
@@ -402,14 +404,14 @@ fn answer(state: &mut UserState, command: &mut Command, index: Option<usize>) ->
     replied(state.perform_from(command, index))
 }
 
-/// Returns the reply to a command: where it is refused, its refusal.
+/// Returns the reply to a command, or its refusal.
 fn replied(outcome: Result<Reply, Refusal>) -> Reply
     ensures { result ≡ reply_of outcome }
 {
     outcome.unwrap_or_else(Reply::Refused)
 }
 
-/// Begins to take the steps of a command where none is owed to its session. Returns what waits then.
+/// Begins the steps of a command if none is pending in its session. Returns the command that waits then.
 fn take_up(state: &mut UserState, command: Command) -> Command
     requires at_work { IsAtWork None state.old }
     requires waits { 0 < turns_before state.old command }

@@ -5,14 +5,14 @@ ghost use Rattle.lj_session.specs.Refusals.{refusal_number, refusal_name, xyz_nu
 use lj_xyz::{XyzFault, XyzKind};
 use std::fmt;
 
-/// Why an item is refused. A refusal changes nothing.
+/// The reason why an item is refused. A refusal changes nothing.
 #[derive(Clone, Copy, Debug, PartialEq, Eq)]
 pub enum Refusal {
     /// The first line is no HELLO with the name and the token of a user.
     Denied,
     /// A line has more than 256 bytes.
     Line,
-    /// A line has no word, a wrong number of words, a word not of its shape, or twice the same symbol.
+    /// A line has no word, a wrong number of words, a word of the wrong form, or the same symbol twice.
     Syntax,
     /// A line of LOAD or LOADMIX has no count.
     Body,
@@ -55,7 +55,7 @@ pub enum Refusal {
 }
 
 impl Refusal {
-    /// The number, 1 to 90.
+    /// Returns the number, 1 to 90.
     pub fn number(self) -> u8
         ensures { result ≡ refusal_number self }
     {
@@ -85,7 +85,7 @@ impl Refusal {
         }
     }
 
-    /// The name, in capitals.
+    /// Returns the name, in capitals.
     pub fn name(self) -> &'static str
         ensures { result.now ≡ refusal_name self }
     {

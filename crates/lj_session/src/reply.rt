@@ -4,7 +4,7 @@ use crate::refusal::Refusal;
 use lj_base::Name;
 use lj_ring::Place;
 
-/// What an item is answered. A reply names the step that it describes.
+/// The reply to an item. It names the step that it describes.
 #[derive(Debug, PartialEq, Eq, Drop)]
 pub enum Reply {
     Loaded {
@@ -20,7 +20,7 @@ pub enum Reply {
         name: Name,
         step: i64,
     },
-    /// The step is the one that the session is going to.
+    /// The step number is the one after all pending steps.
     Started {
         name: Name,
         step: i64,
@@ -48,8 +48,8 @@ pub enum Reply {
         atom: u64,
         step: i64,
     },
-    /// The momentum and the kinetic number are in ring units for each step, the potential in units
-    /// of 2^-24 ε.
+    /// The momentum is in ring units per step, the kinetic number in the square of this unit, the potential in units of
+    /// 2^-24 ε.
     Measured {
         name: Name,
         step: i64,
@@ -70,7 +70,7 @@ pub enum Reply {
     },
     /// All sessions of the user after the command.
     Listed,
-    /// All that is saved in a session of the user after the command.
+    /// The saved simulations of a session of the user after the command.
     ListedBranches {
         name: Name,
     },
@@ -79,6 +79,6 @@ pub enum Reply {
     },
     /// The connection ends.
     Bye,
-    /// The user is as before.
+    /// The user is unchanged.
     Refused(Refusal),
 }

@@ -1,4 +1,4 @@
-//! Which atoms of a frame are of the second species.
+//! The atoms of a frame that are of the second species.
 ghost use Rattle.std.specs.Prelude.{◌≡◌, ◌≤◌, length, IfOk};
 ghost use Rattle.std.specs.Option.{option_copied};
 ghost use Rattle.lj_step.specs.Sets.{number_of_bits};
@@ -8,7 +8,7 @@ use lj_tile::BLOCK;
 use lj_xyz::{Row, SymbolPair};
 use std::alloc::{AllocError, Global};
 
-/// The bits of each block of 64 atoms that tell which are of the second species. Where no symbols are asked for, none is.
+/// Returns for each block of 64 atoms the bits of those of the second species. Without symbols all are 0.
 pub(crate) fn seconds_of(
     alloc: Global,
     symbols: Option<&SymbolPair>,

@@ -1,4 +1,4 @@
-//! A session as it is held.
+//! A session in the code.
 ghost use Rattle.std.specs.Prelude.{◌≡◌, ◌↔◌, ◌<◌, ◌+◌, ◌^◌, [], length, slice_get, Some, None, IsOk, IsSome};
 ghost use Rattle.std.specs.Prelude.{IsErrOf};
 ghost use Rattle.std.specs.Prelude.{IfNone, IfSome, OnOk, OnErr, ◌≤◌, unsigned_abs, IfOk, true, false, is_some};
@@ -23,7 +23,7 @@ use std::marker::Model;
 /// The most steps of one ADVANCE or START.
 const MAX_STEPS: u64 = 1_000_000;
 
-/// The symbols of some atoms, their simulation, what is saved of it, and how many steps are owed to it.
+/// The symbols of some atoms, their simulation, its saved copies, and the number of pending steps.
 #[derive(Drop)]
 pub(crate) struct HeldSession {
     symbols: Vec<Symbol>,
@@ -46,7 +46,7 @@ impl Model for HeldSession {
 }
 
 impl HeldSession {
-    /// A session of which nothing is saved, and to which no step is owed.
+    /// Makes a session without saved simulations and pending steps.
     pub(crate) fn new(symbols: Vec<Symbol>, sim: Sim, branches: Branches) -> HeldSession
         requires symbols { length symbols.items ≡ length sim.sim.cur }
         requires branches { branches ≡ [] }
@@ -62,21 +62,21 @@ impl HeldSession {
         }
     }
 
-    /// The simulation.
+    /// Returns the simulation.
     pub(crate) fn sim(&self) -> &Sim
         ensures { result.now ≡ self.now.live }
     {
         &self.sim
     }
 
-    /// What is saved.
+    /// Returns the saved simulations.
     pub(crate) fn branches(&self) -> &Branches
         ensures { result.now ≡ self.now.saved }
     {
         &self.branches
     }
 
-    /// The symbol of an atom.
+    /// Returns the symbol of an atom.
     pub(crate) fn symbol(&self, atom: usize) -> &Symbol
         requires { atom < length self.now.live.sim.cur }
         ensures { slice_get self.now.symbols atom ≡ Some result.now }
@@ -84,14 +84,14 @@ impl HeldSession {
         &self.symbols[atom]
     }
 
-    /// How many steps are owed to it.
+    /// Returns the number of pending steps.
     pub(crate) fn owed(&self) -> u64
         ensures { result ≡ self.now.owed }
     {
         self.owed
     }
 
-    /// The step number that it is going to: the one after all steps that are owed to it.
+    /// Returns the step number after all pending steps.
     #[tactic(auto, using(crate::proofs::Owed::target_is))]
     pub(crate) fn target(&self) -> i64
         ensures value { result ≡ (session_meant self.now).sim.step }
@@ -100,7 +100,7 @@ impl HeldSession {
         self.sim.step() + self.sim.dir() * self.owed as i64
     }
 
-    /// Whether it may go on by so many steps, after those that are owed to it.
+    /// Returns whether it may advance by `steps` after the pending steps.
     #[tactic(auto, using(crate::proofs::Owed::dir_is))]
     pub(crate) fn can_advance(&self, steps: u64) -> bool
         ensures { result ≡ can_advance (session_meant self.now) steps }
@@ -108,7 +108,7 @@ impl HeldSession {
         leads_in_range(self.target(), self.sim.dir(), steps)
     }
 
-    /// Owes it so many steps more. Where none were owed the first of them is open then.
+    /// Adds pending steps. If none were pending, the first of them is open then.
     pub(crate) fn owe(&mut self, steps: u64)
         requires { can_advance (session_meant self.old) steps ≡ true }
         ensures { self.new ≡ states.with_more_owed steps self.old }
@@ -123,7 +123,7 @@ impl HeldSession {
         }
     }
 
-    /// Turns the motion back. No step is open then.
+    /// Reverses the motion. No step is open then.
     pub(crate) fn reverse(&mut self)
         requires { self.old.owed ≡ 0 }
         ensures value { self.new ≡ with_simulation self.old (motion.reversal self.old.live.sim) }
@@ -133,7 +133,7 @@ impl HeldSession {
         let _most = self.sim.step();
     }
 
-    /// Gives an atom a displacement more for each step. No step is open then.
+    /// Adds a displacement per step to an atom. No step is open then.
     pub(crate) fn tug(&mut self, atom: usize, by: Displacement)
         requires { atom < length self.old.live.sim.cur }
         ensures { let sim = motion.with_tug atom
@@ -146,7 +146,7 @@ impl HeldSession {
     /// Saves a copy of the simulation under a new name.
     ///
     /// # Errors
-    /// `Exists` where the name is taken, else `Memory`. Nothing has changed then.
+    /// `Exists` if the name is taken, else `Memory`. Nothing has changed then.
     pub(crate) fn save(&mut self, branch: Name) -> Result<(), SaveFault>
         ensures exists { IsErrOf result Exists ↔ IsSome (value_named branch self.old.saved) }
         ensures saved { OnOk result
@@ -156,10 +156,10 @@ impl HeldSession {
         self.branches.save(branch, &self.sim)
     }
 
-    /// Goes back to what is saved under a name, which stays saved. No step is open then.
+    /// Restores the simulation saved under a name, which stays saved. No step is open then.
     ///
     /// # Errors
-    /// `NoBranch` where nothing is saved under it. Nothing has changed then.
+    /// `NoBranch` if nothing is saved under it. Nothing has changed then.
     pub(crate) fn restore(&mut self, branch: &Name) -> Result<(), NoBranch>
         requires { self.old.owed ≡ 0 }
         ensures found { IsOk result ↔ IsSome (value_named branch.now self.old.saved) }
@@ -173,10 +173,10 @@ impl HeldSession {
         restored
     }
 
-    /// Takes out what is saved under a name.
+    /// Removes the simulation saved under a name.
     ///
     /// # Errors
-    /// `NoBranch` where nothing is saved under it. Nothing has changed then.
+    /// `NoBranch` if nothing is saved under it. Nothing has changed then.
     pub(crate) fn forget(&mut self, branch: &Name) -> Result<(), NoBranch>
         ensures found { IsOk result ↔ IsSome (value_named branch.now self.old.saved) }
         ensures taken { OnOk result
@@ -194,7 +194,7 @@ impl HeldSession {
         self.passed = 0;
     }
 
-    /// Closes the step that is open. The motion stays.
+    /// Closes the open step. The frames stay.
     pub(crate) fn close_step(&mut self)
         ensures { self.new ≡ states.with_no_step self.old }
     {
@@ -202,7 +202,7 @@ impl HeldSession {
         self.passed = 0;
     }
 
-    /// Begins its step anew where one is owed, so that no tile is posted or in; elsewhere none is open then.
+    /// Restarts its step if one is pending, so that no tile is posted or in; else no step is open then.
     pub(crate) fn rest(&mut self)
         ensures { self.new ≡ states.session_at_rest self.old }
     {
@@ -213,14 +213,14 @@ impl HeldSession {
         }
     }
 
-    /// How many tiles of the open step's cover have been posted, or were in when their turn came.
+    /// Returns how many tiles of the open step's cover were posted, or skipped because they were in.
     pub(crate) fn passed(&self) -> usize
         ensures { result ≡ self.now.passed }
     {
         self.passed
     }
 
-    /// The position in the cover of the first tile that is neither posted nor in.
+    /// Returns the position in the cover of the first tile that is neither posted nor in.
     pub(crate) fn next_tile(&self) -> Option<usize>
         ensures value { result ≡ states.next_tile self.now }
         ensures below { IfSome result (λ i. i < steps.tiles_of self.now.live) }
@@ -228,7 +228,7 @@ impl HeldSession {
         self.next_tile_from(self.passed)
     }
 
-    /// The position in the cover of the first tile, from a place on, that is awaited.
+    /// Returns the position in the cover of the first awaited tile from `from` on.
     fn next_tile_from(&self, from: usize) -> Option<usize>
         ensures value { result ≡ states.next_tile (record self.now { passed = from }) }
         ensures below { IfSome result (λ i. i < steps.tiles_of self.now.live) }
@@ -241,7 +241,7 @@ impl HeldSession {
         None
     }
 
-    /// Makes `room` the task of the first tile of the cover, from a place on, that is awaited. Returns the place after it.
+    /// Writes the task of the first awaited tile from `from` on to `room`. Returns the position after it.
     pub(crate) fn task_from_in(&self, from: usize, label: &Label, room: &mut Task) -> Option<usize>
         ensures task { let held = record self.now { passed = from } in
             IfSome result (λ _. states.next_of label.now (Some held) ≡ Some room.new) }
@@ -258,7 +258,7 @@ impl HeldSession {
         }
     }
 
-    /// Makes `room` the task of the first tile that is neither posted nor in, which is the i-th of the cover.
+    /// Writes the task of the first tile that is neither posted nor in, the i-th of the cover, to `room`.
     pub(crate) fn task_in(&self, i: usize, label: &Label, room: &mut Task) -> bool
         requires { states.next_tile self.now ≡ Some i }
         ensures some { result ≡ true → states.next_of label.now (Some self.now) ≡ Some room.new }
@@ -268,7 +268,7 @@ impl HeldSession {
         self.sim.task_in(i, label, room)
     }
 
-    /// Notes the first tile that is neither posted nor in, which is the i-th of the cover, as posted.
+    /// Notes the first tile that is neither posted nor in, the i-th of the cover, as posted.
     pub(crate) fn post(&mut self, i: usize)
         requires next { states.next_tile self.old ≡ Some i }
         requires below { i < steps.tiles_of self.old.live }
@@ -278,7 +278,7 @@ impl HeldSession {
         self.passed = i + 1;
     }
 
-    /// Takes in the result of a tile that the open step awaits. At another nothing changes.
+    /// Accepts the result of a tile that the open step awaits. Any other changes nothing.
     pub(crate) fn take_in(&mut self, label: &Label, done: &DoneRef<'_>) -> Result<(), NotAwaited>
         ensures accepted { IsOk result ↔ steps.IsAwaitedTask self.old.live label.now done.now }
         ensures taken { OnOk result
@@ -288,8 +288,8 @@ impl HeldSession {
         self.sim.take_in(label, done)
     }
 
-    /// Turns the whole force step, one that is owed: the motion goes one step on, and the next step is open if one is
-    /// owed.
+    /// Turns a whole force step: the motion advances by one step, one fewer is pending, and the next one is open if
+    /// there is one.
     pub(crate) fn pass_step(&mut self)
         requires whole { IsWhole Force self.old }
         requires owed { 0 < self.old.owed }
@@ -306,7 +306,7 @@ impl HeldSession {
     }
 }
 
-/// Whether a million steps or fewer lead from a step number in a direction to one in range.
+/// Returns whether a million steps or fewer lead from a step number in a direction to one in range.
 fn leads_in_range(step: i64, dir: i64, steps: u64) -> bool
     requires here { unsigned_abs step ≤ MAX_STEP }
     requires dir { unsigned_abs dir ≡ 1 }

@@ -32,11 +32,9 @@ use std::alloc::Global;
 use std::marker::Model;
 use std::mem;
 
-/// A user's quota, what is used of it, and sessions by their names, in order of loading, with the steps that are owed to
-/// them.
+/// A user's quota, how much of it is used, and the sessions by their names, in order of loading, with their pending steps.
 ///
-/// Promise: with the steps done that are owed, it is always the last user of some list of commands, begun without
-/// sessions.
+/// Promise: with all pending steps done, it is always the last user of some list of commands, begun without sessions.
 #[derive(Drop)]
 pub struct UserState {
     quota: Quota,
@@ -72,7 +70,7 @@ impl UserState {
         }
     }
 
-    /// How many sessions there are.
+    /// Returns how many sessions there are.
     pub fn len(&self) -> usize
         ensures value { result ≡ length self.now.sessions }
         ensures distinct { IsDistinct bytes_eq (names self.now) }
@@ -81,28 +79,28 @@ impl UserState {
         self.sessions.len()
     }
 
-    /// Whether there are no sessions.
+    /// Returns whether there are no sessions.
     pub fn is_empty(&self) -> bool
         ensures { IsTrue result ↔ (length self.now.sessions ≡ 0) }
     {
         self.len() == 0
     }
 
-    /// What the user has of each part of the quota.
+    /// Returns how much of each part of the quota the user has used.
     pub fn used(&self) -> Used
         ensures { result ≡ used_by self.now }
     {
         self.used
     }
 
-    /// The index of a session in the order of loading; None where no session has the name.
+    /// Returns the index of a session in the order of loading; None where no session has the name.
     pub fn index_of(&self, name: &Name) -> Option<usize>
         ensures { result ≡ position (bytes_eq name.now) (names self.now) }
     {
         self.sessions.get_index_of(name)
     }
 
-    /// The name of the i-th session, in order of loading.
+    /// Returns the name of the i-th session, in order of loading.
     pub fn name_at(&self, i: usize) -> &Name
         requires { i < length self.now.sessions }
         ensures { slice_get (names self.now) i ≡ Some result.now }
@@ -110,7 +108,7 @@ impl UserState {
         self.sessions.get_index(i).unwrap().0
     }
 
-    /// The simulation of the i-th session, as its present step began.
+    /// Returns the simulation of the i-th session, as it was when its present step began.
     pub fn sim_at(&self, i: usize) -> &Sim
         requires { i < length self.now.sessions }
         ensures { option_map (λ held. held.live) (held_session_at self.now i) ≡ Some result.now }
@@ -118,7 +116,7 @@ impl UserState {
         self.at(i).sim()
     }
 
-    /// The edge of the i-th session's box.
+    /// Returns the edge of the i-th session's box.
     pub fn edge_at(&self, i: usize) -> Edge
         requires { i < length self.now.sessions }
         ensures { option_map (λ held. edge_of held.live.composition.mix) (held_session_at self.now i)
@@ -127,7 +125,7 @@ impl UserState {
         self.sim_at(i).edge()
     }
 
-    /// The symbol of an atom of the i-th session.
+    /// Returns the symbol of an atom of the i-th session.
     pub fn symbol_at(&self, i: usize, atom: usize) -> &Symbol
         requires session { i < length self.now.sessions }
         requires atom { ForSome (held_session_at self.now i) (λ held. atom < length held.live.sim.cur) }
@@ -137,7 +135,7 @@ impl UserState {
         self.at(i).symbol(atom)
     }
 
-    /// What is saved in the i-th session.
+    /// Returns the saved simulations of the i-th session.
     pub fn branches_at(&self, i: usize) -> &Branches
         requires { i < length self.now.sessions }
         ensures { option_map (λ held. held.saved) (held_session_at self.now i) ≡ Some result.now }
@@ -145,7 +143,7 @@ impl UserState {
         self.at(i).branches()
     }
 
-    /// The step number that the i-th session is going to: the one after all steps that are owed to it.
+    /// Returns the step number of the i-th session after all its pending steps.
     pub fn target_at(&self, i: usize) -> i64
         requires { i < length self.now.sessions }
         ensures { option_map (λ held. (session_meant held).sim.step) (held_session_at self.now i)
@@ -154,7 +152,7 @@ impl UserState {
         self.at(i).target()
     }
 
-    /// The i-th session, in order of loading.
+    /// Returns the i-th session, in order of loading.
     fn at(&self, i: usize) -> &HeldSession
         requires { i < length self.now.sessions }
         ensures { held_session_at self.now i ≡ Some result.now }
@@ -162,14 +160,14 @@ impl UserState {
         self.sessions.get_index(i).unwrap().1
     }
 
-    /// The session of a name, if there is one.
+    /// Returns the session of a name, if there is one.
     fn find(&self, name: &Name) -> Option<&HeldSession>
         ensures { option_copied result ≡ held_session self.now name.now }
     {
         self.sessions.get(name)
     }
 
-    /// The session of a name whose index was looked up, if there is one.
+    /// Returns the session of a name whose index was looked up, if there is one.
     fn found(&self, name: &Name, index: Option<usize>) -> Option<&HeldSession>
         requires { index ≡ position (bytes_eq name.now) (names self.now) }
         ensures { option_copied result ≡ held_session self.now name.now }
@@ -177,14 +175,14 @@ impl UserState {
         Some(self.at(index?))
     }
 
-    /// Whether a session has the name.
+    /// Returns whether a session has the name.
     fn has(&self, name: &Name) -> bool
         ensures { result ≡ is_some (value_named name.now (user_of self.now).sessions) }
     {
         self.find(name).is_some()
     }
 
-    /// Performs a command as `perform` does, from its room. A SHOW, which comes most often, is read there; any other is taken
+    /// Performs a command as `perform` does, in place. A SHOW, which comes most often, is only read; any other is moved
     /// out.
     pub(crate) fn perform_from(
         &mut self,
@@ -203,7 +201,7 @@ impl UserState {
         self.perform_taken(command, index)
     }
 
-    /// Takes a command out of its room and performs it. It is kept out of line, so that `perform_from` is short for SHOW.
+    /// Moves a command out and performs it. It is kept out of line, so that `perform_from` is short for SHOW.
     #[inline(never)]
     fn perform_taken(
         &mut self,
@@ -219,7 +217,7 @@ impl UserState {
         self.perform(mem::replace(command, Command::Bye), index)
     }
 
-    /// Performs a command that waits for nothing, and takes no step of its own. The index is that of the session that it
+    /// Performs a command that waits for nothing and takes no step of its own. `index` is that of the session that it
     /// waits for: SHOW, DUMP and ADVANCE read the session by it.
     ///
     /// # Errors

@@ -1,4 +1,4 @@
-//! What the atoms of a load are, as its words say.
+//! The species of a load's atoms and how they interact, by the words of the load.
 ghost use Rattle.std.specs.Prelude.{◌≡◌};
 ghost use Rattle.std.specs.Option.{option_copied};
 ghost use Rattle.lj_session.specs.Substances.{load_reply, mix_of_substance, nano_or_zero, numbers_of, symbols_of};
@@ -10,7 +10,7 @@ use lj_fixed::Nano;
 use lj_ring::{Mix, Scale};
 use lj_xyz::SymbolPair;
 
-/// The numbers of a class of pairs. Each is `None` where its word is no such number.
+/// The numbers of a class of pairs. Each is `None` if its word does not parse.
 #[derive(Clone, Copy, Debug)]
 pub struct ClassNumbers {
     /// In nano.
@@ -21,17 +21,17 @@ pub struct ClassNumbers {
     pub weight: Option<u64>,
 }
 
-/// What the atoms of a load are. Each of its numbers is `None` where its word is no such number.
+/// The species of a load's atoms and how they interact. Each number is `None` if its word does not parse.
 #[derive(Debug, Drop)]
 pub enum Substance {
-    /// All alike, under any symbols: LOAD.
+    /// One species, under any symbols: LOAD.
     Pure {
         /// In nano.
         sigma: Option<Nano>,
         /// In units of 2^-32.
         step_factor: Option<u64>,
     },
-    /// Of two species, each under its symbol: LOADMIX. The classes are that of two atoms of the first species, of one of
+    /// Two species, each under its symbol: LOADMIX. The classes are those of two atoms of the first species, of one of
     /// each, and of two of the second.
     Mixed {
         symbols: SymbolPair,
@@ -42,7 +42,7 @@ pub enum Substance {
 }
 
 impl ClassNumbers {
-    /// Sigma, step factor and weight. A word that was no number stands for 0, which is out of range for each.
+    /// Returns sigma, step factor and weight, with 0, which is out of range, for a word that does not parse.
     fn numbers(&self) -> (Nano, u64, u64)
         ensures { result ≡ numbers_of self.now }
     {
@@ -55,7 +55,7 @@ impl ClassNumbers {
 }
 
 impl Substance {
-    /// How the atoms interact in a box of this edge.
+    /// Makes the mixture of a box of this edge.
     ///
     /// # Errors
     /// The first of edge, and of sigma, step factor and weight of each class in turn, that is out of range.
@@ -80,7 +80,7 @@ impl Substance {
         }
     }
 
-    /// The symbols that the atoms of the first frame are to have, where not any will do.
+    /// Returns the symbols that the atoms of the first frame must have; `None` if they can have any.
     pub(crate) fn symbols(&self) -> Option<&SymbolPair>
         ensures { option_copied result ≡ symbols_of self.now }
     {
@@ -90,7 +90,7 @@ impl Substance {
         }
     }
 
-    /// The reply where so many atoms of it are loaded.
+    /// Returns the reply once `atoms` atoms are loaded.
     pub(crate) fn loaded(&self, name: Name, atoms: usize) -> Reply
         ensures { result ≡ load_reply self.now name atoms }
     {
@@ -101,7 +101,7 @@ impl Substance {
     }
 }
 
-/// A word that was no number stands for 0, which is neither an edge nor a sigma.
+/// Returns the number, or 0, which is neither an edge nor a sigma, for a word that does not parse.
 fn or_zero(nano: Option<Nano>) -> Nano
     ensures { result ≡ nano_or_zero nano }
 {

@@ -1,6 +1,6 @@
-//! A place among the tasks that are still to be posted.
+//! A cursor over the tasks that are still to be posted.
 
-/// A place among the tasks of a session that are still to be posted. `Owner::first_tile` makes it, and
+/// A cursor over the tasks of a session that are still to be posted. `Owner::first_tile` makes it, and
 /// `Owner::task_from_in` moves it on.
 #[derive(Clone, Copy, PartialEq, Eq, Debug)]
 pub struct TileCursor {

@@ -1,4 +1,4 @@
-//! ADVANCE, START and MEASURE: what is owed to a session, whether a command waits, and what is answered without a step.
+//! ADVANCE, START and MEASURE: the pending steps of a session, which commands wait, and answers without a step.
 ghost use Rattle.std.specs.Prelude.{◌≡◌, ◌<◌, Bool, false, true, Ok, IsSome, OnErr, position};
 ghost use Rattle.std.specs.Option.{ForSome, option_copied};
 ghost use Rattle.std.specs.Str.{bytes_eq};
@@ -19,7 +19,7 @@ use crate::state::UserState;
 use lj_base::Name;
 
 impl Command {
-    /// The session that it waits for, until no step is owed to it.
+    /// Returns the session that it waits for, until no step is pending there.
     #[tactic(auto, unfolding(crate::specs::Turns::waits_for))]
     pub(crate) fn waits_for(&self) -> Option<&Name>
         ensures { option_copied result ≡ definition.waits_for self.now }
@@ -45,7 +45,7 @@ impl Command {
 }
 
 impl UserState {
-    /// How many steps are owed to the session of a name; 0 where there is none.
+    /// Returns the number of pending steps of the session of a name; 0 if there is none.
     pub(crate) fn owed(&self, name: &Name) -> u64
         ensures { result ≡ owed_in self.now name.now }
     {
@@ -55,7 +55,7 @@ impl UserState {
         }
     }
 
-    /// How many steps are owed to the session that a command waits for.
+    /// Returns the number of pending steps of the session that a command waits for.
     pub(crate) fn steps_before(&self, command: &Command) -> u64
         ensures { result ≡ states.steps_before self.now command.now }
     {
@@ -65,14 +65,15 @@ impl UserState {
         }
     }
 
-    /// The index of the session that a command waits for, if there is one.
+    /// Returns the index of the session that a command waits for, if there is one.
     pub(crate) fn index_waited_for(&self, command: &Command) -> Option<usize>
         ensures { result ≡ states.index_waited_for self.now command.now }
     {
         self.index_of(command.waits_for()?)
     }
 
-    /// Whether a command waits for nothing and takes no step of its own. The index is that of the session that it waits for.
+    /// Returns whether a command waits for nothing and takes no step of its own. `index` is that of the session that it
+    /// waits for.
     pub(crate) fn is_at_once(&self, command: &Command, index: Option<usize>) -> bool
         requires { index ≡ states.index_waited_for self.now command.now }
         ensures at_once { result ≡ true → turns_before self.now command.now ≡ 0 }
@@ -92,7 +93,7 @@ impl UserState {
         }
     }
 
-    /// Owes so many steps more to a session, which may go on by them.
+    /// Adds pending steps to a session, which may advance by them.
     pub(crate) fn owe(&mut self, name: &Name, steps: u64)
         requires session { IsSome (held_session self.old name.now) }
         requires near { ForSome (held_session self.old name.now) (MayAdvance steps) }
@@ -106,7 +107,7 @@ impl UserState {
         session.owe(steps);
     }
 
-    /// Owes so many steps more to a session. The reply has the step number that it is then going to.
+    /// Adds pending steps to a session. The reply has the step number after all of them.
     pub(crate) fn start(&mut self, name: Name, steps: u64) -> Result<Reply, Refusal>
         ensures performs { Performs self.old (commands.Start name steps) result self.new }
         ensures quota { self.new.quota ≡ self.old.quota }
@@ -123,7 +124,7 @@ impl UserState {
         Ok(Reply::Started { name, step })
     }
 
-    /// An ADVANCE that waits for nothing, and takes no turn: it is refused, or by 0. The index is that of the session.
+    /// Answers an ADVANCE that waits for nothing and takes no turn: it is by 0, or refused. `index` is that of the session.
     pub(crate) fn advance_at_once(
         &self,
         name: Name,
@@ -144,7 +145,7 @@ impl UserState {
         Ok(Reply::Advanced { name, step })
     }
 
-    /// A MEASURE that takes no turn: it is refused.
+    /// Answers a MEASURE that takes no turn: it is refused.
     pub(crate) fn measure_at_once(&self, name: Name) -> Result<Reply, Refusal>
         requires { definition.turns (user_of self.now) (commands.Measure name) ≡ 0 }
         ensures { Reads self.now (commands.Measure name) result }
@@ -152,7 +153,7 @@ impl UserState {
         Err(Refusal::NoSession)
     }
 
-    /// The reply to a MEASURE, by the whole energy step of the session.
+    /// Returns the reply to a MEASURE, by the whole energy step of the session.
     pub(crate) fn measured(&self, name: Name) -> Reply
         requires session { IsSome (held_session self.now name) }
         requires settled { owed_in self.now name ≡ 0 }
@@ -170,7 +171,7 @@ impl UserState {
         }
     }
 
-    /// The session of a name.
+    /// Returns the session of a name.
     fn session(&self, name: &Name) -> &HeldSession
         requires { IsSome (held_session self.now name.now) }
         ensures { held_session self.now name.now ≡ Some result.now }

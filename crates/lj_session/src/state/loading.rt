@@ -45,7 +45,7 @@ impl UserState {
         Ok(substance.loaded(name, atoms))
     }
 
-    /// Gives up a session. The others keep their order.
+    /// Removes a session. The others keep their order.
     pub(crate) fn unload(&mut self, name: Name) -> Result<Reply, Refusal>
         requires { owed_in self.old name ≡ 0 }
         ensures performs { Performs self.old (commands.Unload name) result self.new }
@@ -61,7 +61,7 @@ impl UserState {
         Ok(Reply::Unloaded { name })
     }
 
-    /// How the atoms of a load interact. Its body is not looked at.
+    /// Returns the mixture of a load, or its first refusal before the body.
     fn admit(&self, load: &Load) -> Result<Mix, Refusal>
         ensures { result ≡ admission (user_of self.now) load.now }
     {

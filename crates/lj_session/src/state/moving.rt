@@ -10,7 +10,7 @@ use lj_base::Name;
 use lj_step::Displacement;
 
 impl UserState {
-    /// Turns the motion of a session back.
+    /// Reverses the motion of a session.
     pub(crate) fn reverse(&mut self, name: Name) -> Result<Reply, Refusal>
         requires { owed_in self.old name ≡ 0 }
         ensures performs { Performs self.old (commands.Reverse name) result self.new }
@@ -25,7 +25,7 @@ impl UserState {
         Ok(Reply::Reversed { name, step })
     }
 
-    /// Gives an atom of a session a displacement more for each step.
+    /// Adds a displacement per step to an atom of a session.
     pub(crate) fn tug(&mut self, name: Name, atom: u64, by: Displacement) -> Result<Reply, Refusal>
         requires { owed_in self.old name ≡ 0 }
         ensures performs { Performs self.old (commands.Tug name atom by.x by.y by.z) result self.new }

@@ -30,7 +30,7 @@ impl UserState {
         Ok(Reply::Branched { name, branch, step })
     }
 
-    /// Goes back to what is saved in a session under a name.
+    /// Restores the simulation saved in a session under a name.
     pub(crate) fn restore(&mut self, name: Name, branch: Name) -> Result<Reply, Refusal>
         requires { owed_in self.old name ≡ 0 }
         ensures performs { Performs self.old (commands.Restore name branch) result self.new }
@@ -45,7 +45,7 @@ impl UserState {
         Ok(Reply::Restored { name, branch, step })
     }
 
-    /// Takes out what is saved in a session under a name.
+    /// Removes the simulation saved in a session under a name.
     pub(crate) fn forget(&mut self, name: Name, branch: Name) -> Result<Reply, Refusal>
         ensures performs { Performs self.old (commands.Forget name branch) result self.new }
         ensures quota { self.new.quota ≡ self.old.quota }

@@ -42,7 +42,7 @@ impl UserState {
         Ok(Reply::Dumped { name })
     }
 
-    /// Lists what is saved in a session.
+    /// Lists the saved simulations of a session.
     pub(crate) fn list_branches(&self, name: Name) -> Result<Reply, Refusal>
         ensures { Reads self.now (commands.ListBranches name) result }
     {

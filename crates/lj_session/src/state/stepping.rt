@@ -39,8 +39,8 @@ impl UserState {
         session.close_step();
     }
 
-    /// Begins each step anew: of a session to which steps are owed one is open, with no tile posted or in, and of every
-    /// other none.
+    /// Restarts each step: a session with pending steps has one open, with no tile posted or in, and any other has none
+    /// open.
     pub(crate) fn rest(&mut self)
         ensures rested { self.new ≡ state_at_rest self.old }
         ensures user { user_of self.new ≡ user_of self.old }
@@ -54,8 +54,8 @@ impl UserState {
         }
     }
 
-    /// The first tile that is neither posted nor in of the first session, in order of loading, that has one: the index of
-    /// the session, and the tile's position in the cover of its open step.
+    /// Returns the first tile that is neither posted nor in of the first session, in order of loading, that has one:
+    /// the index of the session, and the tile's position in the cover of its open step.
     pub(crate) fn next_tile(&self) -> Option<(usize, usize)>
         ensures some { IfSome result (λ next. IsNextTile self.now next.0 next.1) }
         ensures none { IfNone result ((user : ℕ) → first_with_task self.now user ≡ None) }
@@ -68,7 +68,7 @@ impl UserState {
         None
     }
 
-    /// Makes `room` the task of the next tile, which is the k-th of the i-th session.
+    /// Writes the task of the next tile, the k-th of the i-th session, to `room`.
     pub(crate) fn task_in(&self, i: usize, k: usize, label: &Label, room: &mut Task) -> bool
         requires next { IsNextTile self.now i k }
         requires label { slice_get (names self.now) i ≡ Some label.now.session }
@@ -79,7 +79,7 @@ impl UserState {
         self.at(i).task_in(k, label, room)
     }
 
-    /// How many tiles of the i-th session have been posted, or were in when their turn came.
+    /// Returns how many tiles of the i-th session were posted, or skipped because they were in.
     pub(crate) fn passed_at(&self, i: usize) -> usize
         requires { i < length self.now.sessions }
         ensures { option_map (λ held. held.passed) (held_session_at self.now i) ≡ Some result }
@@ -87,8 +87,8 @@ impl UserState {
         self.at(i).passed()
     }
 
-    /// Makes `room` the task of the first tile of the i-th session, from a place of its cover on, that is awaited. Returns the
-    /// place after it.
+    /// Writes the task of the first awaited tile of the i-th session, from a position of its cover on, to `room`.
+    /// Returns the position after it.
     pub(crate) fn task_from_in(
         &self,
         i: usize,
@@ -106,7 +106,7 @@ impl UserState {
         self.at(i).task_from_in(from, label, room)
     }
 
-    /// Notes the next tile, which is the k-th of the i-th session, as posted.
+    /// Notes the next tile, the k-th of the i-th session, as posted.
     pub(crate) fn post(&mut self, i: usize, k: usize)
         requires { IsNextTile self.old i k }
         ensures posted { (name : List ℕ) → slice_get (names self.old) i ≡ Some name
@@ -119,7 +119,7 @@ impl UserState {
         session.post(k);
     }
 
-    /// Takes in the result of a tile that a session's open step awaits. At another nothing changes.
+    /// Accepts the result of a tile that a session's open step awaits. Any other changes nothing.
     pub(crate) fn take_in(&mut self, label: &Label, done: &DoneRef<'_>) -> Result<(), NotAwaited>
         ensures accepted { IsOk result ↔ IsAwaited self.old label.now done.now }
         ensures taken { OnOk result
@@ -134,7 +134,7 @@ impl UserState {
         session.take_in(label, done)
     }
 
-    /// Whether a step is open in a session and all its tiles are in.
+    /// Returns whether a step is open in a session and all its tiles are in.
     pub(crate) fn is_whole(&self, name: &Name) -> bool
         ensures { result ≡ is_whole_in self.now name.now }
     {
@@ -144,7 +144,7 @@ impl UserState {
         }
     }
 
-    /// Whether a step is open in the i-th session and all its tiles are in.
+    /// Returns whether a step is open in the i-th session and all its tiles are in.
     fn is_whole_at(&self, i: usize) -> bool
         requires within { i < length self.now.sessions }
         requires distinct { IsDistinct bytes_eq (names self.now) }
@@ -154,7 +154,7 @@ impl UserState {
         self.at(i).sim().is_whole()
     }
 
-    /// The first session, in order of loading, of which a step is open and all its tiles are in.
+    /// Returns the first session, in order of loading, that has an open step whose tiles are all in.
     pub(crate) fn first_whole(&self) -> Option<&Name>
         ensures { option_copied result ≡ find (is_whole_in self.now) (names self.now) }
     {
@@ -167,8 +167,8 @@ impl UserState {
         None
     }
 
-    /// Turns the whole force step of a session, one that is owed: its motion goes one step on, and the next step is open
-    /// if one is owed.
+    /// Turns a whole force step of a session: its motion advances by one step, one fewer is pending, and the next one
+    /// is open if there is one.
     pub(crate) fn pass_step(&mut self, name: &Name)
         requires session { IsSome (held_session self.old name.now) }
         requires owed { 0 < owed_in self.old name.now }
