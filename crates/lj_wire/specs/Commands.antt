@@ -1,5 +1,5 @@
--- The item that a line is: its words, the command that they say, and the body that follows the line of a load. Where words
--- are listed, `s` and `b` are names, `P` and `Q` symbols of atoms, `N` is a number and `D` a displacement.
+-- How a line is parsed into an item: its words, the command in them, and the body after the line of a load. In lists of words `s`
+-- and `b` are names, `P` and `Q` symbols of atoms, `N` is a number and `D` a displacement.
 use Rattle.std.specs.Prelude.{ℕ, Bool, nat_le, nat_lt, ◌&&◌, List, [], ◌∷◌, length}
 use Rattle.std.specs.Prelude.{Option, Some, None, if◌then◌else◌, codes}
 use Rattle.std.specs.List.{last_or}
@@ -33,7 +33,7 @@ use Rattle.lj_wire.specs.Displacements.{displacement_of}
 use Rattle.lj_wire.specs.Verbs.{has_body, verb_of}
 
 infixl 10 ◌>>=◌
--- the next word, or none
+-- the bind of Option: None stays None
 abbrev pub ◌>>=◌ : {A B : Type 0} → Option A → (A → Option B) → Option B
 (Some x) >>= f = f x
 None >>= f = None
@@ -63,7 +63,7 @@ name_and_number (s ∷ n ∷ []) = do
   Some (name, number)
 name_and_number words = None
 
--- a command without words
+-- a command without arguments
 abbrev pub bare_command : Command → Words → Option Command
 bare_command command [] = Some command
 bare_command command words = None
@@ -72,7 +72,7 @@ bare_command command words = None
 abbrev pub session_command : (List ℕ → Command) → Words → Option Command
 session_command command words = option_map command (one_name words)
 
--- a command on what is saved in a session: `s b`
+-- a command on a branch: `s b`
 abbrev pub branch_command : (List ℕ → List ℕ → Command) → Words → Option Command
 branch_command command words = option_map (λ p. command p.0 p.1) (two_names words)
 
@@ -114,14 +114,14 @@ abbrev pub mode_and_count : Words → Option (List ℕ)
 mode_and_count (mode ∷ count ∷ []) = Some mode
 mode_and_count words = None
 
--- LOAD: `s edge sigma step_factor mode count`, of which edge, sigma and step factor may be any words
+-- LOAD: `s edge sigma step_factor mode count`; edge, sigma and step factor may be any words
 abbrev pub load_of : Words → Option Load
 load_of (s ∷ edge ∷ sigma ∷ step_factor ∷ words) = do
   mode ← mode_and_count words
   load_from s edge (Pure (result_ok (nano_of sigma)) (number_of step_factor)) mode
 load_of words = None
 
--- the symbol of an atom that a word is
+-- a word as the symbol of an atom
 abbrev pub symbol_of : List ℕ → Option (List ℕ)
 symbol_of word = if is_symbol word then Some word else None
 
@@ -132,7 +132,7 @@ symbols_of p q = do
   second ← symbol_of q
   pair_of first second
 
--- the class that the first three words say, `sigma step_factor weight`, and the words after them; they may be any words
+-- the class in the first three words, `sigma step_factor weight`, which may be any words; and the words after them
 abbrev pub class_in : Words → Option (ClassNumbers × Words)
 class_in (sigma ∷ step_factor ∷ weight ∷ words) = Some (
   record { sigma = result_ok (nano_of sigma); step_factor = number_of step_factor; weight = number_of weight },
@@ -140,7 +140,7 @@ class_in (sigma ∷ step_factor ∷ weight ∷ words) = Some (
 )
 class_in words = None
 
--- the classes of two atoms of the first species, of one of each and of two of the second, and the words after them
+-- the classes for two atoms of the first species, for one of each and for two of the second; `left` has the words after them
 pub record Classes : Type 0 where
   pub first : ClassNumbers
   pub unlike : ClassNumbers
@@ -168,7 +168,7 @@ load_mix_of words = None
 abbrev pub load_command : LoadBody → Option Load → Option Command
 load_command body load = option_map (λ load. command.Load (record load { body = body })) load
 
--- the command that a first word and the words after it say, with this body where it is a load
+-- the command of a verb and the words after it; a load gets this body
 abbrev pub verb_command : Verb → LoadBody → Words → Option Command
 verb_command verb.Load body words = load_command body (load_of words)
 verb_command verb.LoadMix body words = load_command body (load_mix_of words)
@@ -186,44 +186,44 @@ verb_command verb.List body words = list_command words
 verb_command verb.Unload body words = session_command command.Unload words
 verb_command verb.Bye body words = bare_command command.Bye words
 
--- the number that a word of at most 7 digits says, where it is at most 1,048,576
+-- the value of a word of at most 7 digits, where it is at most 1,048,576
 unfoldable pub count_of : List ℕ → Option ℕ
 count_of word = do
   count ← number_of word
   if nat_le (length word) MAX_COUNT_DIGITS && nat_le count MAX_BODY_BYTES then Some count else None
 
--- the count of the line of a load: its last word after the first one
+-- the count in the line of a load: the last word after the verb
 abbrev pub last_count : Words → Option ℕ
 last_count words = last_or None words >>= count_of
 
--- the command of words that say one
+-- the item of parsed words: their command, or a syntax fault
 abbrev pub item_or_syntax : Option Command → Item
 item_or_syntax (Some command) = item.Command command
 item_or_syntax None = item.Bad fault.Syntax
 
--- the item of the line of a load with this count, whose words say this command if they say one
+-- the item of the line of a load: without a count the last fault Body, else its command or a syntax fault
 abbrev pub counted_item : Option ℕ → Option Command → Item
 counted_item (Some count) command = item_or_syntax command
 counted_item None command = item.Last fault.Body
 
--- the item of a line with this first word, if it begins a command, and with this body where it is that of a load
+-- the item of a line, by its verb and the words after it: without a verb the fault Command; a load gets this body
 abbrev pub verb_item : Option Verb → Words → LoadBody → Item
 verb_item None words body = item.Bad fault.Command
 verb_item (Some verb) words body =
     if has_body verb then counted_item (last_count words) (verb_command verb body words)
     else item_or_syntax (verb_command verb body words)
 
--- how many bytes of body follow a line with this first word
+-- the number of bytes of body after a line with this verb: the count of a load, else 0
 abbrev pub verb_body_len : Option Verb → Words → ℕ
 verb_body_len None words = 0
 verb_body_len (Some verb) words = if has_body verb then unwrap_or (last_count words) 0 else 0
 
--- the item of a line of these words, with this body where it is the line of a load
+-- the item of a line of these words: without a word a syntax fault; a load gets this body
 unfoldable pub item_of_words : Words → LoadBody → Item
 item_of_words [] body = item.Bad fault.Syntax
 item_of_words (word ∷ words) body = verb_item (verb_of word) words body
 
--- how many bytes of body follow a line of these words
+-- the number of bytes of body after a line of these words
 unfoldable pub body_len : Words → ℕ
 body_len [] = 0
 body_len (word ∷ words) = verb_body_len (verb_of word) words
@@ -232,19 +232,19 @@ body_len (word ∷ words) = verb_body_len (verb_of word) words
 abbrev pub is_over : List ℕ → Bool
 is_over line = nat_lt MAX_LINE_BYTES (length line)
 
--- what such a line is: one of 65,536 bytes or more ends the connection
+-- the item of an overlong line: from 65,536 bytes on it ends the connection
 abbrev pub over_item : List ℕ → Item
 over_item line = if nat_lt (length line) LONG_LINE_BYTES then item.Bad fault.Line else item.Last fault.Long
 
--- the words of a line, of which a carriage return at its end is no part
+-- the words of a line, without a carriage return at its end
 abbrev pub words_in : List ℕ → Words
 words_in line = words_of (strip_carriage_return line)
 
--- how many bytes of body follow a line
+-- the number of bytes of body after a line; 0 after an overlong one
 abbrev pub body_len_announced : List ℕ → ℕ
 body_len_announced line = if is_over line then 0 else body_len (words_in line)
 
--- the item of a line, with this body where it is that of a load
+-- the item of a line; a load gets this body
 abbrev pub item_with : List ℕ → LoadBody → Item
 item_with line body = if is_over line then over_item line else item_of_words (words_in line) body
 

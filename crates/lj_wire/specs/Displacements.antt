@@ -5,7 +5,7 @@ use Rattle.std.specs.Option.{option_map, option_and_then}
 use Rattle.std.specs.Str.Parse.{starts_with_minus}
 use Rattle.lj_fixed.specs.Numbers.{number_of}
 
--- a number, or with `-` before it the one below zero
+-- a whole number, negative with `-` before it
 abbrev pub integer_of : List ℕ → Option ℤ
 integer_of word =
     if starts_with_minus word then option_map (λ n. neg_ℤ (pos n)) (number_of (drop 1 word))
@@ -15,6 +15,6 @@ integer_of word =
 abbrev pub is_displacement : ℤ → Bool
 is_displacement z = int_le (neg_ℤ (pos (2 ^ 31))) z && int_le z (pos (2 ^ 31) -ℤ pos 1)
 
--- the displacement that a word says
+-- the displacement in a word; None outside that range
 unfoldable pub displacement_of : List ℕ → Option ℤ
 displacement_of word = option_and_then (λ z. if is_displacement z then Some z else None) (integer_of word)

@@ -1,11 +1,11 @@
--- Counts of errors and of calls, where they are kept. A count of 64 bits has a last value, at which it stays.
+-- Counts of errors and of calls, where they are kept: counters of 64 bits that saturate.
 use Rattle.std.specs.Prelude.{◌≡◌, ℕ, ◌+◌, ◌-◌, ◌^◌, min, max, Option, Some, None}
 
--- a count that goes up by one: it stays at its last value
+-- a count plus one, saturating at 2^64 - 1
 abbrev pub one_more : ℕ → ℕ
 one_more n = max n (min (n + 1) (2 ^ 64 - 1))
 
--- a count rises by one, or stands at its last value; where none is kept there is nothing to say
+-- a count goes up by one, saturating; where none is kept, None stays None
 abbrev pub Rises : Option ℕ → Option ℕ → Type 0
 Rises None None = Unit {0}
 Rises None (Some m) = ⊥

@@ -1,4 +1,4 @@
--- The first line of a connection: what it says, and what reading it does to how a reader stands.
+-- The first line of a connection: what it asks for, and how reading it changes the state of a reader.
 use Rattle.std.specs.Prelude.{◌≡◌, ℕ, ◌==◌, ◌≤◌, List, [], ◌∷◌, ◌++◌, length, Option, Some, None, ◌⊎◌}
 use Rattle.std.specs.Prelude.{if◌then◌else◌, codes}
 use Rattle.std.specs.Io.KnownBytes.{Consumes, IsAtEnd}
@@ -24,12 +24,12 @@ hello_asked (name ∷ token ∷ []) = do
   Some (Asked name token)
 hello_asked words = None
 
--- the words of a line that greets: HELLO, a name and a token
+-- a greeting: HELLO, a name and a token
 abbrev pub greeting : Words → Option Hello
 greeting [] = None
 greeting (word ∷ words) = if bytes_eq word (codes "HELLO") then hello_asked words else None
 
--- what a first line says
+-- the meaning of a first line: a greeting, or any other line
 abbrev pub hello_of : List ℕ → Hello
 hello_of line = if is_over line then Other else unwrap_or (greeting (words_in line)) Other
 
@@ -40,13 +40,13 @@ pub record IsHelloLine (bytes : List ℕ) (hello : Hello) : Type 0 where
   pub is_line : IsLine line
   pub means : hello ≡ hello_of line
 
--- as many bytes without a line feed as no line has
+-- 65,536 bytes without a line feed: too long for a line
 pub record IsHelloTooLong (bytes : List ℕ) (hello : Hello) : Type 0 where
   pub one_line : LacksLineFeed bytes
   pub long : length bytes ≡ LONG_LINE_BYTES
   pub means : hello ≡ Other
 
--- the first line of a connection, or what is too long for a line
+-- the bytes taken as the first line: a line, or 65,536 bytes without a line feed
 abbrev pub IsFirstLine : List ℕ → Hello → Type 0
 IsFirstLine bytes hello = IsHelloLine bytes hello ⊎ IsHelloTooLong bytes hello
 
@@ -57,12 +57,12 @@ pub record TakesHello (old new : Input) (hello : Hello) : Type 0 where
   pub is_first : IsFirstLine front hello
   pub reads_for : ReadsFor old new (length front)
 
--- the first line was taken, or the input has ended in less than a line
+-- the first line was taken, or the input ended before a whole line came
 abbrev pub ReadsHello : Input → Option Hello → Input → Type 0
 ReadsHello old (Some hello) new = TakesHello old new hello
 ReadsHello old None new = TakesPart old new × IsAtEnd (bytes_untaken new)
 
--- The first line was taken, which is no item, and the reader goes on. Nothing is read for a line that is held already.
+-- The first line was taken and the reader stays open; the line counts as no item. No read is made for a line already held.
 pub record Greets (old new : LineReader) (hello : Hello) : Type 0 where
   pub was_open : old.phase ≡ Open
   pub front : List ℕ
@@ -73,7 +73,7 @@ pub record Greets (old new : LineReader) (hello : Hello) : Type 0 where
   pub unread_is : length front ≤ length old.held → new.unread ≡ old.unread
   pub phase_is : new.phase ≡ Open
 
--- the input has ended in less than a line, which was taken
+-- the input ended before a whole line came; what came was taken
 pub record CeasesEarly (old new : LineReader) : Type 0 where
   pub was_open : old.phase ≡ Open
   pub part : List ℕ
@@ -84,7 +84,7 @@ pub record CeasesEarly (old new : LineReader) : Type 0 where
   pub errors_is : new.errors ≡ old.errors
   pub phase_is : new.phase ≡ Over
 
--- a read has failed in less than a line, which was taken: of the bytes read none is left
+-- a read failed before a whole line came; what came was taken, and no byte is held
 pub record FailsEarly (old new : LineReader) : Type 0 where
   pub was_open : old.phase ≡ Open
   pub part : List ℕ
@@ -95,10 +95,10 @@ pub record FailsEarly (old new : LineReader) : Type 0 where
   pub errors_rise : Rises old.errors new.errors
   pub phase_is : new.phase ≡ Failed
 
--- no line comes: the reader was over already and nothing has changed, or the input has ended
+-- no line: the reader was over and is unchanged, or the input ended
 abbrev pub GreetsNone : LineReader → LineReader → Type 0
 GreetsNone old new = (old.phase ≡ Over) × (new ≡ old) ⊎ CeasesEarly old new
 
--- a fault: the reader had failed already and nothing has changed, or a read has failed
+-- a fault: the reader had failed and is unchanged, or a read failed
 abbrev pub HasFailedEarly : LineReader → LineReader → Type 0
 HasFailedEarly old new = (old.phase ≡ Failed) × (new ≡ old) ⊎ FailsEarly old new

@@ -1,4 +1,4 @@
--- Items of a stream: those that end the connection, the body put into a load, and the refusal that a fault is answered.
+-- Items of a stream: which of them end the connection, how a load gets its body, and which refusal answers a fault.
 use Rattle.std.specs.Prelude.{Bool, true, false}
 use Rattle.lj_session.specs.declared.body.LoadBody.{LoadBody}
 use Rattle.lj_session.specs.declared.command.Command.TheVariants.{Bye, Load}
@@ -18,14 +18,14 @@ refusal_of fault.Long = refusal.Long
 refusal_of fault.Command = refusal.Command
 refusal_of fault.Enough = refusal.Enough
 
--- the connection ends with BYE and with a last fault
+-- BYE and a last fault end the connection
 abbrev pub is_ending : Item → Bool
 is_ending (Command Bye) = true
 is_ending (Command _) = false
 is_ending (Bad fault) = false
 is_ending (Last fault) = true
 
--- the item with this body, where it is a load
+-- a load with this body; any other item unchanged
 abbrev pub with_body : Item → LoadBody → Item
 with_body (Command (Load load)) body = Command (Load (record load { body = body }))
 with_body (Command command) body = Command command

@@ -18,33 +18,32 @@ use Rattle.lj_wire.specs.Told.{item_reply, item_text, last_user, alone}
 use Rattle.lj_wire.specs.Runs.{item_before}
 use Rattle.lj_wire.specs.Streams.{Splits}
 
--- A stream has one splitting into items and a rest.
+-- A stream splits into items and a rest in one way only.
 abbrev pub OneSplitting : Type 0
 OneSplitting = (n : ℕ) (bytes : List ℕ) (items others : List Item) (rest remainder : List ℕ)
     → Splits n bytes items rest → Splits n bytes others remainder → (items ≡ others) × (rest ≡ remainder)
 
--- Each stream has a splitting.
+-- Each stream splits into items and a rest.
 abbrev pub SomeSplitting : Type 0
 SomeSplitting = (bytes : List ℕ) → (items : List Item) × (rest : List ℕ) × Splits 0 bytes items rest
 
--- What is told says whether memory was refused: the mark may be read off the text.
+-- The text of an answer shows whether memory was refused: the mark can be read off it.
 abbrev pub MarkIsTold : Type 0
 MarkIsTold = (user : User) (item : Item) (mark : Bool)
     → item_text user item mark ≡ item_text user item (is_memory (item_text user item mark).0)
 
--- Where two commands are answered alike, each from a user of its own, the same is told.
+-- Two commands that are answered alike, each from its own user, get the same text and leave the same user.
 abbrev pub AlikeIsTold : Type 0
 AlikeIsTold = (new : User) (left : Order) (old : User) (command : Order) (mark : Bool)
     → AnswersAlike new left old command → item_text new (Command left) mark ≡ item_text old (Command command) mark
 
--- An item before which turns come does not end the connection, and what is left of a command before which they come does
--- not either.
+-- An item that waits for steps does not end the connection, and neither does what remains of a command that waits for them.
 pub record WaitingGoesOn : Type 0 where
   pub whole : (owned : UserState) (item : Item) → 0 < item_before owned item → is_ending item ≡ false
   pub left : (owned : UserState) (command : Order) → 0 < turns_before owned command
       → is_ending (Command (command_left command owned)) ≡ false
 
--- A line whose body found no memory is answered what it is answered where memory is refused to it.
+-- A line whose body found no memory gets the reply of a line that is refused memory.
 abbrev pub BodyMissingIsMarked : Type 0
 BodyMissingIsMarked = (user : User) (line body : List ℕ) (mark : Bool) → 0 < body_len_announced line
     → item_reply user (item_with line Lost) mark ≡ item_reply user (item_of line body) true
@@ -57,12 +56,12 @@ BodyIsBounded = (line : List ℕ) → body_len_announced line ≤ MAX_BODY_BYTES
 abbrev pub LinesAreTheText : Type 0
 LinesAreTheText = (user : User) (reply : Reply) → text user reply ≡ concat (reply_lines user reply)
 
--- Commands lead a user where they lead it as items.
+-- Answering commands as items leaves the user that the commands leave.
 abbrev pub CommandsAreItems : Type 0
 CommandsAreItems = (user : User) (commands : List Order) (marks : List Bool)
     → last_user user (map (λ command. Command command) commands) marks ≡ user_after user commands marks
 
--- The user is the last one of some items with marks, answered alone.
+-- Some items with marks, answered alone from the user without sessions, leave this user.
 pub record IsReachedAlone (user : User) : Type 0 where
   pub items : List Item
   pub marks : List Bool

@@ -1,4 +1,4 @@
--- The sizes of lines and bodies, and how many items a connection may bring.
+-- The limits of lines and bodies, and of the items of a connection.
 use Rattle.std.specs.Prelude.{◌≡◌, ◌^◌, refl}
 use Rattle.lj_wire.specs.declared.command_line.TheConstants.{MAX_COUNT_DIGITS}
 use Rattle.lj_wire.specs.declared.limits.TheConstants.{MAX_LINE_BYTES, LONG_LINE_BYTES, MAX_BODY_BYTES, MAX_ITEMS}

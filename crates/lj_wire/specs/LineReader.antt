@@ -1,4 +1,4 @@
--- How a reader of lines stands, and what each call for the next item does to that.
+-- The state of a line reader, and how each call for the next item changes it.
 use Rattle.std.specs.Prelude.{◌≡◌, ℕ, ◌+◌, ◌≤◌, Bool, true, List, [], ◌∷◌, ◌++◌, length, Option, Some, ◌⊎◌}
 use Rattle.std.specs.Prelude.{if◌then◌else◌}
 use Rattle.std.specs.Io.KnownBytes.{Consumes, IsAtEnd}
@@ -15,8 +15,8 @@ use Rattle.lj_session.specs.Users.{User}
 use Rattle.lj_wire.specs.Streams.{IsItem, IsPart, Splits}
 use Rattle.lj_wire.specs.Told.{item_reply}
 
--- How a reader stands. `left` has the bytes that are in no item yet, where the source tells them: `held`, which were
--- read ahead, and then `unread`, which the source still has. `errors` is the source's count of errors.
+-- The state of a reader. `left` has the bytes that are in no item yet, where they are known: `held`, which were read ahead, and
+-- then `unread`, which the source still has. `errors` is the source's count of errors.
 pub record LineReader : Type 0 where
   pub left : Option (List ℕ)
   pub held : List ℕ
@@ -25,20 +25,19 @@ pub record LineReader : Type 0 where
   pub items : ℕ
   pub phase : Phase
 
--- a load, and the same with the mark of lost memory in place of its body
+-- a load with its body, and the same load with its body lost for want of memory
 pub record IsLost (found item : Item) : Type 0 where
   pub load : LoadParts
   pub body : List ℕ
   pub found_is : found ≡ Command (Load (record load { body = Read body }))
   pub item_is : item ≡ Command (Load (record load { body = Lost }))
 
--- what is handed out for an item of the stream: that item, or where no memory was found for its body its load with the
--- mark
+-- what is handed out for an item of the stream: the item, or a load whose body was lost
 abbrev pub IsHandedOut : Item → Item → Type 0
 IsHandedOut found item = (item ≡ found) ⊎ IsLost found item
 
--- The next item of the stream was handed out, and the reader is over where it ends the connection. Nothing is read for
--- an item that is held already, nor for the last fault after a million items, which has no bytes.
+-- The next item of the stream was handed out, and the reader is over if that item ends the connection. No read is made for an
+-- item already held, nor for the last fault after a million items, which has no bytes.
 pub record HandsOut (old new : LineReader) (item : Item) : Type 0 where
   pub was_open : old.phase ≡ Open
   pub front : List ℕ
@@ -51,7 +50,7 @@ pub record HandsOut (old new : LineReader) (item : Item) : Type 0 where
   pub unread_is : length front ≤ length old.held → new.unread ≡ old.unread
   pub phase_is : new.phase ≡ (if is_ending item then Over else Open)
 
--- the input has ended in less than an item, which was taken
+-- the input ended before a whole item came; what came was taken
 pub record Ceases (old new : LineReader) : Type 0 where
   pub was_open : old.phase ≡ Open
   pub part : List ℕ
@@ -62,7 +61,7 @@ pub record Ceases (old new : LineReader) : Type 0 where
   pub errors_is : new.errors ≡ old.errors
   pub phase_is : new.phase ≡ Over
 
--- a read has failed in less than an item, which was taken: of the bytes read none is left
+-- a read failed before a whole item came; what came was taken, and no byte is held
 pub record Fails (old new : LineReader) : Type 0 where
   pub was_open : old.phase ≡ Open
   pub part : List ℕ
@@ -73,11 +72,11 @@ pub record Fails (old new : LineReader) : Type 0 where
   pub errors_rise : Rises old.errors new.errors
   pub phase_is : new.phase ≡ Failed
 
--- none comes: the reader was over already and nothing has changed, or the input has ended
+-- no item: the reader was over and is unchanged, or the input ended
 abbrev pub HandsNone : LineReader → LineReader → Type 0
 HandsNone old new = (old.phase ≡ Over) × (new ≡ old) ⊎ Ceases old new
 
--- a fault: the reader had failed already and nothing has changed, or a read has failed
+-- a fault: the reader had failed and is unchanged, or a read failed
 abbrev pub HasFailed : LineReader → LineReader → Type 0
 HasFailed old new = (old.phase ≡ Failed) × (new ≡ old) ⊎ Fails old new
 
@@ -93,20 +92,19 @@ AreHandedOut (found ∷ founds) (item ∷ items) = IsHandedOut found item × Are
 AreHandedOut [] (item ∷ items) = ⊥
 AreHandedOut (found ∷ founds) [] = ⊥
 
--- The items that are handed out one after the other are the first items of the bytes that are left, but that loads for
--- whose bodies no memory was found are marked.
+-- A reader hands out the first items of the bytes left, in order; a load whose body found no memory is marked as lost.
 abbrev pub HandedComeFirst : Type 0
 HandedComeFirst = (old new : LineReader) (bytes rest : List ℕ) (handed items : List Item)
     → old.left ≡ Some bytes → HandsAll old handed new → Splits old.items bytes items rest
     → (founds : List Item) × (others : List Item) × (items ≡ founds ++ others) × AreHandedOut founds handed
 
--- At the end of the input the items that were handed out are all items of the bytes that were left.
+-- At the end of the input a reader has handed out all items of the bytes that were left.
 abbrev pub HandedAreAll : Type 0
 HandedAreAll = (old last new : LineReader) (bytes rest : List ℕ) (handed items : List Item)
     → old.left ≡ Some bytes → HandsAll old handed last → Ceases last new → Splits old.items bytes items rest
     → AreHandedOut items handed
 
--- What is answered to a load whose body is lost is what is answered where memory is refused to the load.
+-- A load whose body is lost gets the reply of a load that is refused memory.
 abbrev pub LostIsMarked : Type 0
 LostIsMarked = (user : User) (found item : Item) (mark : Bool) → IsLost found item
     → item_reply user item mark ≡ item_reply user found true

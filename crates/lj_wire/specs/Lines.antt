@@ -10,14 +10,14 @@ use Rattle.lj_session.specs.declared.reply.Reply.TheVariants.{Dumped, Listed, Li
 abbrev pub blank_and : List ℕ → List ℕ
 blank_and word = 32 ∷ word
 
--- a reply is one line: DUMP and the two LISTs have more
+-- the reply is one line; those to DUMP and to both forms of LIST have more
 abbrev pub is_one_line : Reply → Bool
 is_one_line (Dumped name) = false
 is_one_line Listed = false
 is_one_line (ListedBranches name) = false
 is_one_line _ = true
 
--- the place of the session of which a reply has a line for each atom, or for each that is saved in it
+-- the index of the session that a reply lists: its atoms for DUMP, its branches for LIST of a session
 abbrev pub listed_session : UserState → Reply → Option ℕ
 listed_session owned (Dumped name) = position (bytes_eq name) (names owned)
 listed_session owned (ListedBranches name) = position (bytes_eq name) (names owned)

@@ -1,4 +1,4 @@
--- Streams worked out by computation: a stream given as lines with their bodies, and what is written for it.
+-- Streams worked out by computation: a stream given as lines with their bodies, and the replies to it.
 use Rattle.std.specs.Prelude.{◌≡◌, ℕ, zero, suc, ◌+◌, ◌<◌, ◌==◌, Bool, true, false, not, ◌&&◌, nat_lt}
 use Rattle.std.specs.Prelude.{List, [], ◌∷◌, ◌++◌, length, map, take, drop, if◌then◌else◌, refl}
 use Rattle.std.specs.List.{list_any, concat, before_first, after_first}
@@ -28,7 +28,7 @@ use Rattle.lj_wire.specs.Texts.{text}
 use Rattle.lj_wire.specs.Told.{item_text, texts, last_user}
 use Rattle.lj_wire.specs.Streams.{IsLine, IsLineItem, IsPart, Splits, AreMarks, Dialogue}
 
--- all that a worked stream computes by
+-- the definitions that a worked stream unfolds
 unfoldable pub computed : Unit {0}
 unfolding digits decimal_of nano_of number_of millionths push_entry energy_entry push force lines_of words_of
     atoms.row_of_four atoms.row_of head_in behind_comment next_row rows_in frame_in reading name_of command_result
@@ -39,12 +39,11 @@ computed = tt
 abbrev pub Piece : Type 0
 Piece = List ℕ × List ℕ
 
--- the item that it is
+-- the item of a piece
 abbrev pub piece_item : Piece → Item
 piece_item piece = item_of piece.0 piece.1
 
--- What stands after the pieces: nothing, a line that is cut short, a line whose body is, or whatever is not read any
--- more.
+-- What follows the pieces: nothing, a line cut short, a line with its body cut short, or bytes that are not read any more.
 pub data Rest : Type 0 where
   nothing : Rest
   open_line : List ℕ → Rest
@@ -67,27 +66,27 @@ stream_of (piece ∷ pieces) rest = (piece.0 ++ 10 ∷ piece.1) ++ stream_of pie
 abbrev pub items_of : List Piece → List Item
 items_of pieces = map piece_item pieces
 
--- a line, by a test
+-- a test for a line
 abbrev pub is_line : List ℕ → Bool
 is_line line = not (list_any is_line_feed line) && nat_lt (length line) LONG_LINE_BYTES
 
--- a line with the body that it announces, by a test
+-- a test for a line with the body that it announces
 abbrev pub is_piece : Piece → Bool
 is_piece piece = is_line piece.0 && length piece.1 == body_len_announced piece.0
 
--- less than an item, by a test
+-- a test for less than an item
 abbrev pub is_part : Rest → Bool
 is_part nothing = true
 is_part (open_line line) = is_line line
 is_part (short line body) = is_line line && nat_lt (length body) (body_len_announced line)
 is_part (unread bytes) = false
 
--- nothing follows
+-- no piece follows
 abbrev pub is_last : List Piece → Bool
 is_last [] = true
 is_last (piece ∷ pieces) = false
 
--- the pieces are items from number n on, and what follows is less than one, unless the last piece ends the connection
+-- the pieces are items from number n on; less than an item follows them, or anything after one that ends the connection
 abbrev pub are_pieces : ℕ → List Piece → Rest → Bool
 are_pieces n [] rest = nat_lt n MAX_ITEMS && is_part rest
 are_pieces n (piece ∷ pieces) rest =
@@ -162,7 +161,7 @@ Splits-from_test n (piece ∷ pieces) rest h =
       (λ e. Splits-from_test (n + 1) pieces rest (not_chosen ending (is_last pieces) next e p.1)),
     )
 
--- no mark is set
+-- marks for these items, none of them set
 abbrev pub unset : List Item → List Bool
 unset items = map (λ item. false) items
 
@@ -175,15 +174,15 @@ AreMarks-unset : (user : User) (items : List Item) → AreMarks (unset items) (t
 AreMarks-unset user [] = tt
 AreMarks-unset user (item ∷ items) = ((λ e. cc), AreMarks-unset (item_text user item false).1 items)
 
--- a quota of so many sessions, atoms and saved simulations
+-- a quota by its numbers of sessions, atoms and saved simulations
 abbrev pub quota : ℕ → ℕ → ℕ → Quota
 quota sessions atoms branches = record { sessions = sessions; atoms = atoms; branches = branches }
 
--- what a new user with this quota is written for bytes, where memory is there
+-- what is written in reply to these bytes from a new user with this quota
 abbrev pub IsWritten : Quota → List ℕ → List ℕ → Type 0
 IsWritten quota bytes written = (next : User) × Dialogue (fresh_user quota) bytes written next
 
--- The first items of a stream, so many of them, as lines with the bodies that they announce.
+-- The first n items of a stream, as lines with the bodies that they announce.
 abbrev pub cut : ℕ → List ℕ → List Piece
 cut zero bytes = []
 cut (suc n) bytes =
@@ -191,7 +190,7 @@ cut (suc n) bytes =
     let behind = after_first is_line_feed bytes in
     (line, take (body_len_announced line) behind) ∷ cut n (drop (body_len_announced line) behind)
 
--- so many items are cut off the stream, and a rest is left; what is written for them follows by computation
+-- the stream is cut into `count` items and a rest; the replies to them follow by computation
 pub played : (allowed : Quota) (count : ℕ) (rest : Rest) (bytes written : List ℕ)
     → bytes ≡ stream_of (cut count bytes) (rest_bytes rest) → are_pieces 0 (cut count bytes) rest ≡ true
     → written ≡ concat (texts (fresh_user allowed) (items_of (cut count bytes)) []) → IsWritten allowed bytes written

@@ -1,4 +1,4 @@
--- A dialogue that is not at its end: the first items of a stream are answered, and the rest is still to come.
+-- An unfinished dialogue: the first items of a stream are answered, and the rest is still to come.
 use Rattle.std.specs.Prelude.{◌≡◌, ℕ, ◌+◌, Bool, false, List, [], ◌∷◌, ◌++◌, length}
 use Rattle.std.specs.List.{concat}
 use Rattle.lj_session.specs.Users.{User}
@@ -7,15 +7,15 @@ use Rattle.lj_wire.specs.Items.{is_ending}
 use Rattle.lj_wire.specs.Told.{texts, last_user}
 use Rattle.lj_wire.specs.Streams.{IsItem, AreMarks}
 
--- The bytes begin with these items, from number n on, of which none ends the connection; the others are left.
+-- The bytes begin with these items, numbered from n on, and none of them ends the connection; `left` follows.
 abbrev pub Takes : ℕ → List ℕ → List Item → List ℕ → Type 0
 Takes n bytes [] left = bytes ≡ left
 Takes n bytes (item ∷ items) left =
     (front : List ℕ) × (behind : List ℕ) × (bytes ≡ front ++ behind) × IsItem n front item
     × (is_ending item ≡ false) × Takes (n + 1) behind items left
 
--- So many items of the bytes are answered, from a user on, by what is written; the other bytes are left, and the next
--- user.
+-- The first `count` items of the bytes, sent by `user`, are answered with `written`; the bytes `left` remain, and the user is
+-- then `next`.
 pub record Progress (user : User) (bytes : List ℕ) (count : ℕ) (written left : List ℕ) (next : User) : Type 0 where
   pub items : List Item
   pub marks : List Bool

@@ -1,11 +1,10 @@
--- Items that wait: how many turns come before an item is answered.
+-- Items that wait: how many steps are made before an item is answered.
 use Rattle.std.specs.Prelude.{ℕ}
 use Rattle.lj_session.specs.UserState.{UserState, turns_before}
 use Rattle.lj_wire.specs.declared.item.Item.{Item}
 use Rattle.lj_wire.specs.declared.item.Item.TheVariants.{Command, Bad, Last}
 
--- how many turns come before an item is answered: the steps that are owed to the session that it waits for, and those of
--- its own
+-- the number of steps before an item is answered: those owed to the session it waits for, and its own
 abbrev pub item_before : UserState → Item → ℕ
 item_before owned (Command command) = turns_before owned command
 item_before owned (Bad fault) = 0

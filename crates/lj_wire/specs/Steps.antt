@@ -16,19 +16,19 @@ use Rattle.lj_wire.specs.Items.{with_body}
 use Rattle.lj_wire.specs.Streams.{LacksLineFeed, IsLine, IsLineItem, IsLongItem, IsOpenBody}
 use Rattle.lj_wire.specs.LineReader.{IsHandedOut}
 
--- what stands first is found; at the end of the input the unfinished line is taken
+-- a whole line or an overlong one is found, and stays; at the end of the input the unfinished line is taken
 abbrev pub Finds : Input → Front → Input → Type 0
 Finds old (front.Line count) new = Keeps (bytes_untaken old) (bytes_untaken new) × HoldsLine new count
 Finds old front.Long new = Keeps (bytes_untaken old) (bytes_untaken new) × HoldsNoFeed new
 Finds old front.End new = TakesPart old new × IsAtEnd (bytes_untaken new)
 
--- nothing was read for a line that is held already; and what was held stays
+-- a line already held changes nothing; for an overlong one no byte held is given up
 abbrev pub SearchesFor : Input → Front → Input → Type 0
 SearchesFor old (front.Line count) new = count < length old.held → new ≡ old
 SearchesFor old front.Long new = length old.held ≤ length new.held
 SearchesFor old front.End new = Unit {0}
 
--- a line of more than 256 bytes was taken, with its line feed, of which all that was held is a part
+-- a line of more than 256 bytes was taken with its line feed; all bytes held belong to it
 pub record TakesLongLine (old new : Input) : Type 0 where
   pub line : List ℕ
   pub taken : Takes old new (line ++ 10 ∷ [])
@@ -36,56 +36,56 @@ pub record TakesLongLine (old new : Input) : Type 0 where
   pub long : MAX_LINE_BYTES < length line
   pub beyond : length old.held ≤ length line
 
--- as many bytes without a line feed as no line has were taken
+-- 65,536 bytes without a line feed were taken
 pub record TakesLong (old new : Input) : Type 0 where
   pub bytes : List ℕ
   pub taken : Takes old new bytes
   pub one_line : LacksLineFeed bytes
   pub long : length bytes ≡ LONG_LINE_BYTES
 
--- a line of more than 256 bytes was passed over, or what is too long for a line, or the unfinished line at the end
+-- skipped: a line of more than 256 bytes, 65,536 bytes without a line feed, or the unfinished line at the end
 abbrev pub Passes : Input → Passed → Input → Type 0
 Passes old passed.Line new = TakesLongLine old new
 Passes old passed.Long new = TakesLong old new
 Passes old passed.End new = TakesPart old new × IsAtEnd (bytes_untaken new)
 
--- fewer bytes than so many were taken
+-- fewer than `count` bytes were taken
 pub record TakesFewer (old new : Input) (count : ℕ) : Type 0 where
   pub part : List ℕ
   pub taken : Takes old new part
   pub fewer : length part < count
 
--- so many bytes were taken
+-- `count` bytes were taken
 pub record TakesCount (old new : Input) (count : ℕ) : Type 0 where
   pub bytes : List ℕ
   pub taken : Takes old new bytes
   pub counted : length bytes ≡ count
 
--- a room was filled, or the input has ended before
+-- `room` was filled, or the input ended before
 abbrev pub Fills : Input → Bool → List ℕ → Input → Type 0
 Fills old true room new = Takes old new room
 Fills old false room new = TakesFewer old new (length room) × IsAtEnd (bytes_untaken new)
 
--- so many bytes were passed over, or the input has ended before
+-- `count` bytes were skipped, or the input ended before
 abbrev pub PassesCount : Input → Bool → ℕ → Input → Type 0
 PassesCount old true count new = TakesCount old new count
 PassesCount old false count new = TakesFewer old new count × IsAtEnd (bytes_untaken new)
 
--- a body of so many bytes was read, or no memory was found for it and it was passed over, or the input has ended before
+-- a body of `count` bytes was read, or skipped for want of memory, or the input ended before
 abbrev pub ReadsBody : Input → Option LoadBody → ℕ → Input → Type 0
 ReadsBody old (Some (Read body)) count new = Takes old new body × (length body ≡ count)
 ReadsBody old (Some Lost) count new = TakesCount old new count
 ReadsBody old (Some Unread) count new = ⊥
 ReadsBody old None count new = TakesFewer old new count × IsAtEnd (bytes_untaken new)
 
--- the body after a line was taken, and is in the item if that is a load
+-- the body after a line was taken, and put into the item if that is a load; for want of memory it is lost
 pub record TakesRest (old new : Input) (item : Item) (count : ℕ) (handed : Item) : Type 0 where
   pub body : List ℕ
   pub taken : Takes old new body
   pub counted : length body ≡ count
   pub is_handed : IsHandedOut (with_body item (Read body)) handed
 
--- the item of a line was finished, or the input has ended before
+-- the item of a line got its body, or the input ended before
 abbrev pub Finishes : Input → Item → ℕ → Option Item → Input → Type 0
 Finishes old item count (Some handed) new = TakesRest old new item count handed
 Finishes old item count None new = TakesFewer old new count × IsAtEnd (bytes_untaken new)
@@ -105,12 +105,12 @@ pub record TakesNoItem (old new : Input) : Type 0 where
   pub taken : Takes old new part
   pub is_part : IsLine part ⊎ IsOpenBody part
 
--- an item was taken, or the input has ended in less than one
+-- an item was taken, or the input ended before a whole one came
 abbrev pub ReadsItem : Input → Option Item → Input → Type 0
 ReadsItem old (Some handed) new = TakesItem old new handed
 ReadsItem old None new = TakesNoItem old new × IsAtEnd (bytes_untaken new)
 
--- whether a body can be put into an item
+-- an item that can take a body: a load
 abbrev pub may_take_body : Item → Bool
 may_take_body (Command (Load load)) = true
 may_take_body (Command _) = false

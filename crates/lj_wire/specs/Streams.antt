@@ -1,4 +1,4 @@
--- The items of a stream of bytes, and the dialogue that a stream is answered.
+-- The items of a stream of bytes, and the dialogue of a stream and its replies.
 use Rattle.std.specs.Prelude.{◌≡◌, ℕ, ◌+◌, ◌<◌, Bool, true, false, List, [], ◌∷◌, ◌++◌, length, ◌⊎◌}
 use Rattle.std.specs.List.{list_any, concat}
 use Rattle.lj_xyz.specs.Lines.{is_line_feed}
@@ -29,14 +29,14 @@ pub record IsLineItem (bytes : List ℕ) (item : Item) : Type 0 where
   pub announces : length body ≡ body_len_announced line
   pub means : item ≡ item_of line body
 
--- as many bytes without a line feed as no line has
+-- 65,536 bytes without a line feed: an item that ends the connection
 pub record IsLongItem (bytes : List ℕ) (item : Item) : Type 0 where
   pub one_line : LacksLineFeed bytes
   pub long : length bytes ≡ LONG_LINE_BYTES
   pub means : item ≡ Last Long
 
--- The bytes of item number n, counted from 0: a line with its body, or a line too long. After a million items there is
--- the last fault, of no bytes.
+-- The bytes of item n, counted from 0: a line with its body, or an overlong line. After a million items comes the last fault,
+-- which has no bytes.
 abbrev pub IsItem : ℕ → List ℕ → Item → Type 0
 IsItem n bytes item =
     (n < MAX_ITEMS) × (IsLineItem bytes item ⊎ IsLongItem bytes item)
@@ -54,8 +54,8 @@ pub record IsOpenBody (bytes : List ℕ) : Type 0 where
 abbrev pub IsPart : ℕ → List ℕ → Type 0
 IsPart n bytes = (n < MAX_ITEMS) × (IsLine bytes ⊎ IsOpenBody bytes)
 
--- The bytes are these items, from number n on, and then a rest that is less than an item. None follows one that ends
--- the connection, after which the rest may be anything.
+-- The bytes are these items, numbered from n on, and then less than an item. An item that ends the connection is the last one,
+-- and any bytes may follow it.
 abbrev pub Splits : ℕ → List ℕ → List Item → List ℕ → Type 0
 Splits n bytes [] rest = (bytes ≡ rest) × IsPart n rest
 Splits n bytes (item ∷ items) rest =
@@ -70,7 +70,7 @@ AreMarks (mark ∷ marks) (text ∷ texts) = (mark ≡ true → is_memory text �
 AreMarks [] (text ∷ texts) = ⊥
 AreMarks (mark ∷ marks) [] = ⊥
 
--- The dialogue: from a user on, these bytes are answered by what is written, which leaves the next user.
+-- A dialogue: the bytes, sent by `user`, are answered with `written`, and the user is then `next`.
 pub record Dialogue (user : User) (bytes written : List ℕ) (next : User) : Type 0 where
   pub items : List Item
   pub rest : List ℕ

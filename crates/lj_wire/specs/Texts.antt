@@ -18,7 +18,7 @@ use Rattle.lj_session.specs.Refusals.{refusal_text}
 use Rattle.lj_branch.specs.Named.{value_named}
 use Rattle.lj_session.specs.Users.{Session, User, atoms_of}
 
--- a line of a text
+-- a line with its line feed
 abbrev pub ended_line : List ℕ → List ℕ
 ended_line line = line ++ 10 ∷ []
 
@@ -30,14 +30,14 @@ line_of words = ended_line (join_with_byte 32 words)
 abbrev pub ok_line : List (List ℕ) → List ℕ
 ok_line words = line_of (codes "OK" ∷ words)
 
--- the line of a session in a list: its name, its step, how many atoms it has and how much is saved in it
+-- the line of a session in a list: its name, its step, its number of atoms and its number of branches
 abbrev pub session_line : List ℕ × Session → List ℕ
 session_line entry =
     let session = entry.1 in
     line_of (entry.0 ∷ signed_decimal session.sim.step ∷ decimal (atoms_of session)
     ∷ decimal (length session.saved) ∷ [])
 
--- the line of what is saved: its name and its step
+-- the line of a branch in a list: its name and its step
 abbrev pub branch_line : List ℕ × Simulation → List ℕ
 branch_line entry = line_of (entry.0 ∷ signed_decimal entry.1.step ∷ [])
 
@@ -69,7 +69,7 @@ dump_lines name None = []
 abbrev pub session_lines : User → List (List ℕ)
 session_lines user = ok_line (codes "LIST" ∷ decimal (length user.sessions) ∷ []) ∷ map session_line user.sessions
 
--- `OK LIST`, and a line for each that is saved in the session
+-- `OK LIST`, and a line for each branch of the session
 abbrev pub branch_lines : List ℕ → Option Session → List (List ℕ)
 branch_lines name (Some session) =
     ok_line (codes "LIST" ∷ name ∷ decimal (length session.saved) ∷ []) ∷ map branch_line session.saved
@@ -99,17 +99,17 @@ text user (Unloaded name) = ok_line (codes "DROP" ∷ name ∷ [])
 text user Bye = ok_line (codes "BYE" ∷ [])
 text user (Refused refusal) = ended_line (refusal_text refusal)
 
--- the lines of a reply: DUMP and LIST have many, any other one
+-- the lines of a reply: several for DUMP and LIST, one for any other
 unfoldable pub reply_lines : User → Reply → List (List ℕ)
 reply_lines user (Dumped name) = dump_lines name (value_named name user.sessions)
 reply_lines user Listed = session_lines user
 reply_lines user (ListedBranches name) = branch_lines name (value_named name user.sessions)
 reply_lines user reply = text user reply ∷ []
 
--- the text that tells want of memory
+-- the text of the memory refusal
 abbrev pub memory_text : List ℕ
 memory_text = ended_line (refusal_text Memory)
 
--- whether a text is the memory refusal
+-- a text is the memory refusal
 abbrev pub is_memory : List ℕ → Bool
 is_memory text = bytes_eq text memory_text

@@ -1,4 +1,4 @@
--- What a user is told: the texts of the answers to items, one after the other.
+-- The texts that answer a user's items, one after the other.
 use Rattle.std.specs.Prelude.{ℕ, Bool, false, List, [], ◌∷◌}
 use Rattle.lj_session.specs.declared.reply.Reply.{Reply}
 use Rattle.lj_session.specs.declared.reply.Reply.TheVariants.{Refused}
@@ -16,11 +16,11 @@ item_reply user (Command command) mark = answer user command mark
 item_reply user (Bad fault) mark = (Refused (refusal_of fault), user)
 item_reply user (Last fault) mark = (Refused (refusal_of fault), user)
 
--- the text that an item is answered, and the user after it
+-- the text that answers an item, and the user after it
 abbrev pub item_text : User → Item → Bool → List ℕ × User
 item_text user item mark = let a = item_reply user item mark in (text a.1 a.0, a.1)
 
--- a mark says that memory was refused to an item, and a missing one that it was not
+-- the mark of the first item: memory was refused to it; a missing mark counts as not set
 abbrev pub first_mark : List Bool → Bool
 first_mark [] = false
 first_mark (mark ∷ marks) = mark
@@ -41,6 +41,6 @@ abbrev pub last_user : User → List Item → List Bool → User
 last_user user [] marks = user
 last_user user (item ∷ items) marks = last_user (item_text user item (first_mark marks)).1 items (other_marks marks)
 
--- A user's items answered alone, from the user without sessions: the texts, and the last user.
+-- A user's items answered alone, starting without sessions: the texts, and the last user.
 abbrev pub alone : Quota → List Item → List Bool → List (List ℕ) × User
 alone quota items marks = (texts (fresh_user quota) items marks, last_user (fresh_user quota) items marks)

@@ -25,21 +25,21 @@ verbs =
     ∷ (codes "BYE", verb.Bye)
     ∷ []
 
--- the first word that a word is, if it is one
+-- the verb that a word spells, if any
 abbrev pub verb_of : List ℕ → Option Verb
 verb_of word = lookup (bytes_eq word) verbs
 
--- whether a body follows the line of a command: the loads have one
+-- a body follows the line of a load, and of no other command
 abbrev pub has_body : Verb → Bool
 has_body verb.Load = true
 has_body verb.LoadMix = true
 has_body _ = false
 
--- the same of the command that begins with a word, if one does
+-- the verb, if there is one, is that of a load
 abbrev pub is_load_verb : Option Verb → Bool
 is_load_verb None = false
 is_load_verb (Some verb) = has_body verb
 
--- whether a word is the first one of the line of a load
+-- a word is the verb of a load
 abbrev pub is_load : List ℕ → Bool
 is_load word = is_load_verb (verb_of word)

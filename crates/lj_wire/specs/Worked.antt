@@ -3,7 +3,7 @@ use Rattle.std.specs.Prelude.{◌++◌, codes, refl}
 use Rattle.lj_wire.specs.Played.{IsWritten, computed, nothing, played, quota, short, unread}
 use Rattle.lj_quota.specs.declared.TheConstants.Quota.{USUAL}
 
--- two atoms: their steps, measures and frame; turned back, the frames come again, and past the opening too
+-- two atoms: their steps, measures and frame; reversed, they pass the same frames again, and go on past step 0
 pub there_and_back : IsWritten USUAL
     (codes "LOAD a 256 1 131072 rest 28\n2\ndimer\nAr 0 0 0\nAr 1.5 0 0\nADVANCE a 1\nSHOW a 0\nSHOW a 1\n"
     ++ (codes "ADVANCE a 1\nSHOW a 0\nSHOW a 1\nMEASURE a\nDUMP a\nREVERSE a\nSHOW a 0\nADVANCE a 1\nSHOW a 0\n"
@@ -16,7 +16,7 @@ pub there_and_back : IsWritten USUAL
 unfolding computed
 there_and_back = played USUAL 17 nothing _ _ refl refl refl
 
--- two frames give an atom its motion: its places one step before the opening and at it
+-- a body of two frames gives an atom its motion: its positions one step before step 0, and at it
 pub two_frames : IsWritten USUAL
     (codes "LOAD b 256 1 1 pair 44\n1\np\nH -0.0000003 0 0\n1\nc\nH -0.000000001 0 0\nSHOW b 0\nADVANCE b 1\n"
     ++ codes "SHOW b 0\nMEASURE b\n")
@@ -25,7 +25,7 @@ pub two_frames : IsWritten USUAL
 unfolding computed
 two_frames = played USUAL 5 nothing _ _ refl refl refl
 
--- a saved simulation is a copy, which a tug does not change, and stays when it is restored; the quota allows one
+-- a branch is a copy: a tug does not change it, a restore does not remove it; the quota allows one
 pub one_branch : IsWritten (quota 8 16384 1)
     (codes "LOAD a 256 1 131072 rest 28\n2\ndimer\nAr 0 0 0\nAr 1.5 0 0\nADVANCE a 1\nBRANCH a k\nMEASURE a\n"
     ++ (codes "TUG a 0 5 0 0\nADVANCE a 1\nSHOW a 0\nRESTORE a k\nMEASURE a\nBRANCH a m\nRESTORE a k\nADVANCE a 0\n"
@@ -37,7 +37,7 @@ pub one_branch : IsWritten (quota 8 16384 1)
 unfolding computed
 one_branch = played (quota 8 16384 1) 15 nothing _ _ refl refl refl
 
--- two sessions are started, and what asks for one of them is answered as it will be; LIST tells where they are going
+-- two started sessions: commands are answered as of after the steps owed; LIST shows the steps that they go to
 pub two_started : IsWritten USUAL
     (codes "LOAD a 256 1 131072 rest 28\n2\ndimer\nAr 0 0 0\nAr 1.5 0 0\n"
     ++ (codes "LOAD b 256 1 131072 rest 28\n2\ndimer\nAr 0 0 0\nAr 1.5 0 0\nSTART a 2\nSTART b 1\nSHOW b 0\nSHOW a 0\n"
@@ -48,7 +48,7 @@ pub two_started : IsWritten USUAL
 unfolding computed
 two_started = played USUAL 14 nothing _ _ refl refl refl
 
--- carriage returns, a column that is not used and a last line without line feed; and bodies that are cut short
+-- carriage returns, an unused column, a last line without line feed, and bodies that are cut short
 pub short_bodies : IsWritten USUAL
     (codes "LOAD g 256 1 1 rest 35\n2\r\nc\r\nNa 0 0 0 1.0\r\nCl 1.5 0 0 -1.0LOAD k 256 1 1 rest 13\n2\nc\n"
     ++ codes "Na 0 0 0\nLOAD k 256 1 1 rest 4\n0\nc\nLOAD k 256 1 1 rest 0\n")
@@ -56,7 +56,7 @@ pub short_bodies : IsWritten USUAL
 unfolding computed
 short_bodies = played USUAL 4 nothing _ _ refl refl refl
 
--- a LOAD line with a count has its body read, whatever else is wrong with it
+-- the body of a LOAD line with a count is read, whatever else is wrong with the line
 pub wrong_load : IsWritten USUAL
     (codes "LOAD 5\n12345LOAD a 256 1 1 move 3\nLI\nLOAD a! 256 1 1 rest 3\nLI\nLOAD a 256 1 1 rest 3 3\nLI\n"
     ++ codes "LOAD a 0.0009 x 0 rest 3\nLI\nLIST\n")
@@ -72,7 +72,7 @@ pub two_species : IsWritten USUAL
 unfolding computed
 two_species = played USUAL 4 nothing _ _ refl refl refl
 
--- a weight of 1 leaves a 256th of the energy, toward zero, and the whole push
+-- a weight of 1 leaves 1/256 of the energy, rounded toward zero, and the whole push
 pub light_pair : IsWritten USUAL
     (codes "LOADMIX m 256 Na Cl 1 131072 256 1 131072 1 1 131072 256 rest 26\n2\nmix\nNa 0 0 0\nCl 1.5 0 0\n"
     ++ codes "MEASURE m\nADVANCE m 1\nSHOW m 0\n")
@@ -80,7 +80,7 @@ pub light_pair : IsWritten USUAL
 unfolding computed
 light_pair = played USUAL 4 nothing _ _ refl refl refl
 
--- a symbol twice, a weight of nothing, and an atom of another species
+-- a symbol given twice, a weight of 0, and an atom of a third species
 pub wrong_mixture : IsWritten USUAL
     (codes "LOADMIX m 256 Na Na 1 131072 256 1 131072 256 1 131072 256 rest 2\n1\nLOADMIX m 256 Na Cl 1 131072 256 1 131072 0 1 131072 256 rest 2\n1\n"
     ++ codes "LOADMIX m 256 Na Cl 1 131072 256 1 131072 256 1 131072 256 rest 26\n2\nmix\nNa 0 0 0\nAr 1.5 0 0\n")
@@ -88,7 +88,7 @@ pub wrong_mixture : IsWritten USUAL
 unfolding computed
 wrong_mixture = played USUAL 3 nothing _ _ refl refl refl
 
--- a body that is cut short is no item
+-- a load whose body is cut short is no item
 pub cut_body : IsWritten USUAL
     (codes "LIST\nLOAD a 256 1 1 rest 28\n2\ndimer\n")
     (codes "OK LIST 0\n")

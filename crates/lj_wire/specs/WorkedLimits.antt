@@ -44,13 +44,13 @@ pub great_displacement : displacement_of (codes "2147483648") ≡ None
 unfolding computed
 great_displacement = refl
 
--- where memory is refused to a LOAD its body is not looked at
+-- the body of a LOAD that is refused memory is not parsed
 pub load_without_memory : (item_text (fresh_user USUAL) (item_of (codes "LOAD a 256 1 1 rest 2") (codes "9\n")) true).0
     ≡ codes "ERR 90 MEMORY\n"
 unfolding computed
 load_without_memory = refl
 
--- but what its line is refused for comes first
+-- a wrong word of its line is answered first
 pub sigma_without_memory : (item_text (fresh_user USUAL) (item_of (codes "LOAD a 256 99 1 rest 2") (codes "9\n")) true).0
     ≡ codes "ERR 37 SIGMA\n"
 unfolding computed
@@ -60,6 +60,6 @@ sigma_without_memory = refl
 pub long_item : IsItem 0 (replicate 65536 120) (Last Long)
 long_item = inl (ltb-true 0 1000000 refl, inr (record { one_line = refl; long = refl; means = refl }))
 
--- after a million items there is no other than the last fault, which takes no byte
+-- after a million items comes the last fault, and nothing else; it takes no byte
 pub last_item : IsItem 1000000 [] (Last Enough)
 last_item = inr (refl, refl, refl)

@@ -1,4 +1,4 @@
-//! Readers and writers as they are asked: one call after the other, each of them counted.
+//! Readers and writers whose calls are counted.
 ghost use Rattle.std.specs.Prelude.{◌≡◌, ℕ, ◌≤◌, List, Option, length, IfOk};
 ghost use Rattle.std.specs.Io.KnownBytes.{Keeps, ReadConsumes, WriteAppends};
 ghost use Rattle.lj_wire.specs.Ends.{one_more};
@@ -6,12 +6,12 @@ ghost use Rattle.lj_wire.specs.Ends.{one_more};
 use std::io;
 use std::io::{Read, Write};
 
-/// What is read from, call by call.
+/// A reader whose calls are counted.
 pub trait Reads {
-    // The bytes that reads will give from here on, where they are known.
+    // The bytes still to be read, where they are known.
     ghost remaining: { Self → Option (List ℕ) };
 
-    // How many reads it was asked for, up to the last value of a count.
+    // The number of reads it was asked for, up to `u64::MAX`.
     ghost asked: { Self → ℕ };
 
     /// Asks for one read, as std's `Read::read`.
@@ -21,12 +21,12 @@ pub trait Reads {
         ensures once { asked self.new ≡ one_more (asked self.old) };
 }
 
-/// What is written to, call by call.
+/// A writer whose calls are counted.
 pub trait Writes {
-    // The bytes that have gone there, where they are known.
+    // The bytes written so far, where they are known.
     ghost contents: { Self → Option (List ℕ) };
 
-    // How many writes and flushes it was asked for, up to the last value of a count.
+    // The number of writes and flushes it was asked for, up to `u64::MAX`.
     ghost asked: { Self → ℕ };
 
     /// Asks for one write, as std's `Write::write`.
@@ -41,8 +41,7 @@ pub trait Writes {
         ensures once { asked self.new ≡ one_more (asked self.old) };
 }
 
-/// A reader or a writer of std. No clause tells how often std's own calls are made, so that each call below makes one is
-/// seen from its two lines alone.
+/// A reader or a writer of std. No clause of std counts its calls, so only the bodies below show that each of them makes one.
 #[derive(Drop)]
 pub struct Asked<T> {
     inner: T,
@@ -57,7 +56,7 @@ impl<T> Asked<T> {
 }
 
 impl<R: Read> Asked<R> {
-    /// A reader, of which nothing was asked.
+    /// Wraps a reader, with no call counted yet.
     pub fn reader(inner: R) -> Self
         ensures { ⟦<Asked<R> as Reads>⟧.remaining result ≡ R.remaining inner }
     {
@@ -66,7 +65,7 @@ impl<R: Read> Asked<R> {
 }
 
 impl<W: Write> Asked<W> {
-    /// A writer, of which nothing was asked.
+    /// Wraps a writer, with no call counted yet.
     pub fn writer(inner: W) -> Self
         ensures { ⟦<Asked<W> as Writes>⟧.contents result ≡ W.contents inner }
     {

@@ -1,4 +1,4 @@
-//! Commands as the words that say them.
+//! Parsing commands from their words.
 ghost use Rattle.std.specs.Prelude.{◌≡◌, [], ◌∷◌, option_map};
 ghost use Rattle.lj_session.specs.declared.body.LoadBody.TheVariants.{Unread};
 ghost use Rattle.lj_session.specs.declared.command.Command.TheVariants as command;
@@ -20,7 +20,7 @@ use lj_xyz::{Symbol, SymbolPair};
 /// The most digits of the count of a load.
 const MAX_COUNT_DIGITS: usize = 7;
 
-// The count that a word says: 1 to 7 digits, at most 1,048,576.
+// Parses the count of a load: 1 to 7 digits, at most 1,048,576.
 #[tactic(auto, unfolding(crate::specs::Commands::count_of))]
 pub(crate) fn parse_count(word: &[u8]) -> Option<usize>
     ensures { result ≡ count_of word.now }
@@ -32,7 +32,7 @@ pub(crate) fn parse_count(word: &[u8]) -> Option<usize>
     Some(count as usize)
 }
 
-// The command that a first word and those after it say. The body of a load is not read yet.
+// Parses a command from its verb and the words after it. The body of a load is not read yet.
 pub(crate) fn parse_words(verb: Verb, words: Words) -> Option<Command>
     ensures { result ≡ verb_command verb Unread words.entry }
 {
@@ -58,8 +58,8 @@ pub(crate) fn parse_words(verb: Verb, words: Words) -> Option<Command>
     }
 }
 
-// Puts the SHOW that the words after SHOW say in the place of what `item` holds; None where they say none. SHOW is the command
-// that comes most often, and is put where it stays: no command is moved.
+// Parses the words after SHOW into `item`; returns None where they are wrong. SHOW is the most frequent command, so it is built
+// in place and never moved.
 pub(crate) fn put_show(words: Words, item: &mut Item) -> Option<()>
     ensures { option_map (λ _. item.new) result
         ≡ option_map items.Command (number_command command.Show words.entry) }
@@ -95,7 +95,7 @@ fn name_and_number(mut words: Words) -> Option<(Name, u64)>
     Some((Name::parse(name)?, parse_number(number)?))
 }
 
-// The words after LOAD: a name, three numbers of any shape, the mode and the count.
+// Parses the words after LOAD: a name, three words of any form, the mode and the count.
 fn parse_load(mut words: Words) -> Option<Command>
     ensures { result ≡ load_command Unread (load_of words.entry) }
 {
@@ -111,7 +111,7 @@ fn parse_load(mut words: Words) -> Option<Command>
     parse_load_from(name, edge, substance, mode)
 }
 
-// The words after LOADMIX: a name, the edge, two symbols, three classes, the mode and the count.
+// Parses the words after LOADMIX: a name, the edge, two symbols, three classes, the mode and the count.
 fn parse_load_mix(mut words: Words) -> Option<Command>
     ensures { result ≡ load_command Unread (load_mix_of words.entry) }
 {
@@ -130,7 +130,7 @@ fn parse_load_mix(mut words: Words) -> Option<Command>
     parse_load_from(name, edge, substance, mode)
 }
 
-// The mode before the count, which are the last words of a load.
+// Takes the last two words of a load, its mode and its count, and returns the mode.
 fn parse_end<'a>(mut words: Words<'a>) -> Option<&'a [u8]>
     ensures { option_map (λ mode. mode.now) result ≡ mode_and_count words.entry }
 {
@@ -158,7 +158,7 @@ fn parse_symbols(first: &[u8], second: &[u8]) -> Option<SymbolPair>
     SymbolPair::new(Symbol::new(first)?, Symbol::new(second)?)
 }
 
-// The class that the next three words say, which may be any words.
+// Takes the next three words as a class; they may be any words.
 fn next_class(words: &mut Words) -> Option<ClassNumbers>
     ensures { option_map (λ class. (class, words.new)) result ≡ class_in words.old }
 {
@@ -182,7 +182,7 @@ fn parse_mode(word: &[u8]) -> Option<Mode>
     }
 }
 
-// The words after TUG: a name, an atom, and a displacement along each axis.
+// Parses the words after TUG: a name, an atom, and a displacement along each axis.
 fn parse_tug(mut words: Words) -> Option<Command>
     ensures { result ≡ tug_command words.entry }
 {

@@ -1,4 +1,4 @@
-//! Ends of a stream: where bytes come from, and where they go. An end may count its errors.
+//! Ends of a stream: the source and the sink of its bytes, which may count their errors.
 ghost use Rattle.std.specs.Prelude.{◌≡◌, ℕ, ◌<◌, ◌≤◌, List, Option, Some, None, length, IfOk, OnOk, OnErr};
 ghost use Rattle.std.specs.Io.KnownBytes.{Keeps, ReadConsumes, WriteAppends};
 ghost use Rattle.lj_wire.specs.Ends.{Rises, one_more};
@@ -8,7 +8,7 @@ use std::fmt;
 use std::io::{Read, Write};
 use thiserror::Error;
 
-/// A read that answered an error.
+/// A read that returned an error.
 #[derive(Clone, Copy, Debug, PartialEq, Eq, Error)]
 pub struct ReadFault;
 
@@ -22,7 +22,7 @@ impl fmt::Display for ReadFault {
     }
 }
 
-/// A write that answered an error, or took none of its bytes.
+/// A write that returned an error, or took none of its bytes.
 #[derive(Clone, Copy, Debug, PartialEq, Eq, Error)]
 pub struct WriteFault;
 
@@ -36,16 +36,16 @@ impl fmt::Display for WriteFault {
     }
 }
 
-/// Where bytes come from.
+/// A source of bytes.
 pub trait Source {
-    // The bytes that reads will give from here on, where they are known.
+    // The bytes still to be read, where they are known.
     ghost remaining: { Self → Option (List ℕ) };
 
-    // How many reads have answered an error, where they are counted.
+    // The number of reads that returned an error, where they are counted.
     ghost errors: { Self → Option ℕ };
 
-    /// Reads some bytes into the front of `buf`, and answers how many: 0 only at the end of the
-    /// input, or where `buf` has no room. Each error is a fault, an interrupted read too.
+    /// Reads some bytes into the front of `buf`, and returns how many: 0 only at the end of the input, or where `buf` is empty.
+    /// Each error is a fault, an interrupted read too.
     fn read(&mut self, buf: &mut [u8]) -> Result<usize, ReadFault>
         ensures bound { IfOk result (λ n. n ≤ length buf.new) }
         ensures bytes { ReadConsumes (remaining self.old) (remaining self.new) result buf.new }
@@ -53,16 +53,16 @@ pub trait Source {
         ensures risen { OnErr result (Rises (errors self.old) (errors self.new)) };
 }
 
-/// Where bytes go.
+/// A sink of bytes.
 pub trait Sink {
-    // The bytes that have gone there, where they are known.
+    // The bytes written so far, where they are known.
     ghost contents: { Self → Option (List ℕ) };
 
-    // How many writes have answered an error or taken nothing, and flushes an error, where they are counted.
+    // The number of writes that returned an error or took nothing, and of flushes that returned an error, where they are counted.
     ghost faults: { Self → Option ℕ };
 
-    /// Writes some bytes of the front of `bytes`, and answers how many. Each error is a fault, an
-    /// interrupted write too, and so is a write that takes none of some bytes.
+    /// Writes some bytes from the front of `bytes`, and returns how many. Each error is a fault, an interrupted write too, and so
+    /// is a write that takes nothing where `bytes` is not empty.
     fn write(&mut self, bytes: &[u8]) -> Result<usize, WriteFault>
         ensures bound { IfOk result (λ n. n ≤ length bytes.now) }
         ensures some { IfOk result (λ n. 0 < length bytes.now → 0 < n) }
@@ -70,7 +70,7 @@ pub trait Sink {
         ensures counted { OnOk result (faults self.new ≡ faults self.old) }
         ensures risen { OnErr result (Rises (faults self.old) (faults self.new)) };
 
-    /// Sends what was written. An error is a fault, of which bytes that were written may be lost.
+    /// Flushes what was written. An error is a fault, after which written bytes may be lost.
     fn flush(&mut self) -> Result<(), WriteFault>
         ensures kept { Keeps (contents self.old) (contents self.new) }
         ensures counted { OnOk result (faults self.new ≡ faults self.old) }
@@ -84,7 +84,7 @@ pub struct Reading<R> {
 }
 
 impl<R: Read> Reading<R> {
-    /// Reads nothing.
+    /// Wraps `reader`, and reads nothing.
     pub fn new(reader: R) -> Self
         ensures { ⟦<Reading<R> as Source>⟧.remaining result ≡ R.remaining reader }
     {
@@ -112,7 +112,7 @@ impl<R: Read> Source for Reading<R> {
     }
 }
 
-/// A reader whose errors are counted, up to `u64::MAX`. For each read it asks once.
+/// A reader whose errors are counted, up to `u64::MAX`. Each read makes one call.
 #[derive(Drop)]
 pub struct CountedReading<R> {
     reader: R,
@@ -120,7 +120,7 @@ pub struct CountedReading<R> {
 }
 
 impl<R: Reads> CountedReading<R> {
-    /// Reads nothing.
+    /// Wraps `reader`, and reads nothing.
     pub fn new(reader: R) -> Self
         ensures remaining { ⟦<CountedReading<R> as Source>⟧.remaining result ≡ R.remaining reader }
         ensures errors { ⟦<CountedReading<R> as Source>⟧.errors result ≡ Some 0 }
@@ -128,7 +128,7 @@ impl<R: Reads> CountedReading<R> {
         CountedReading { reader, errors: 0 }
     }
 
-    /// How many reads have answered an error, at most `u64::MAX`.
+    /// Returns the number of reads that returned an error, at most `u64::MAX`.
     pub fn errors(&self) -> u64
         ensures { ⟦<CountedReading<R> as Source>⟧.errors self.now ≡ Some result }
     {
@@ -183,7 +183,7 @@ pub struct Writing<W> {
 }
 
 impl<W: Write> Writing<W> {
-    /// Writes nothing.
+    /// Wraps `writer`, and writes nothing.
     pub fn new(writer: W) -> Self
         ensures { ⟦<Writing<W> as Sink>⟧.contents result ≡ W.contents writer }
     {
@@ -219,7 +219,7 @@ impl<W: Write> Sink for Writing<W> {
     }
 }
 
-/// A writer whose faults are counted, up to `u64::MAX`. For each write and flush it asks once.
+/// A writer whose faults are counted, up to `u64::MAX`. Each write and each flush makes one call.
 #[derive(Drop)]
 pub struct CountedWriting<W> {
     writer: W,
@@ -227,7 +227,7 @@ pub struct CountedWriting<W> {
 }
 
 impl<W: Writes> CountedWriting<W> {
-    /// Writes nothing.
+    /// Wraps `writer`, and writes nothing.
     pub fn new(writer: W) -> Self
         ensures contents { ⟦<CountedWriting<W> as Sink>⟧.contents result ≡ W.contents writer }
         ensures faults { ⟦<CountedWriting<W> as Sink>⟧.faults result ≡ Some 0 }
@@ -235,7 +235,8 @@ impl<W: Writes> CountedWriting<W> {
         CountedWriting { writer, faults: 0 }
     }
 
-    /// How many writes have answered an error or taken nothing, or flushes an error; at most `u64::MAX`.
+    /// Returns the number of writes that returned an error or took nothing, and of flushes that returned an error; at most
+    /// `u64::MAX`.
     pub fn faults(&self) -> u64
         ensures { ⟦<CountedWriting<W> as Sink>⟧.faults self.now ≡ Some result }
     {

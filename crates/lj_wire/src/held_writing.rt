@@ -1,4 +1,4 @@
-//! A writer of replies that are held back until they are flushed, or until there are many.
+//! A writer that holds replies back until it is flushed, or its buffer is full.
 ghost use Rattle.std.specs.Prelude.{◌≡◌, ◌<◌, ◌≤◌, Some, [], length, take, vec_len, vec_capacity, IfOk, OnOk, OnErr};
 ghost use Rattle.std.specs.Io.KnownBytes.{Appends, Keeps};
 ghost use Rattle.lj_wire.specs.Ends.{Rises};
@@ -11,8 +11,8 @@ use std::alloc::{AllocError, Global};
 /// The most bytes of replies that are held back.
 const MAX_HELD_BYTES: usize = 65_536;
 
-/// A counted writer, and the bytes that are held back from it. The first `sent` of them have gone there; the others stay held
-/// after a fault, so that what was handed over is known.
+/// A counted writer, and the bytes held back from it. The first `sent` of them were written; after a fault the others stay held,
+/// so that it is known what was handed over.
 #[derive(Drop)]
 pub struct HeldWriting<W> {
     outlet: CountedWriting<W>,
@@ -24,7 +24,7 @@ pub struct HeldWriting<W> {
 }
 
 impl<W: Writes> HeldWriting<W> {
-    /// Writes nothing.
+    /// Wraps `writer`, and writes nothing.
     ///
     /// # Errors
     /// Out of memory for the bytes that are held back.
@@ -43,7 +43,7 @@ impl<W: Writes> HeldWriting<W> {
         })
     }
 
-    // Sends what is held back. What a fault leaves is held back still.
+    // Writes the bytes held back. After a fault those not written stay held back.
     fn send(&mut self) -> Result<(), WriteFault>
         ensures kept { let handed = ⟦<HeldWriting<W> as Sink>⟧.contents in
             Keeps (handed self.old) (handed self.new) }
@@ -62,7 +62,7 @@ impl<W: Writes> HeldWriting<W> {
         Ok(())
     }
 
-    // Sends what is held back where there is no room for more.
+    // Writes the bytes held back if the buffer is full.
     fn make_room(&mut self) -> Result<(), WriteFault>
         ensures kept { let handed = ⟦<HeldWriting<W> as Sink>⟧.contents in
             Keeps (handed self.old) (handed self.new) }
@@ -78,7 +78,7 @@ impl<W: Writes> HeldWriting<W> {
         self.send()
     }
 
-    // Holds back as many of the bytes as there is room for, and answers how many.
+    // Holds back as many of the bytes as there is room for, and returns how many.
     fn hold(&mut self, bytes: &[u8]) -> usize
         requires room { vec_len self.old.bytes < MAX_HELD_BYTES }
         ensures bound { result ≤ length bytes.now }
@@ -101,7 +101,7 @@ impl<W: Writes> Sink for HeldWriting<W> {
     ghost use Rattle.std.specs.Prelude.{drop};
     ghost use Rattle.std.specs.Io.KnownBytes.{append_known};
 
-    // What was handed over: what has gone, and what is held back.
+    // The bytes handed over: those written, and those held back.
     ghost contents = { λ held. append_known (⟦<CountedWriting<W> as Sink>⟧.contents held.outlet)
         (drop held.sent held.bytes.items) };
 

@@ -1,4 +1,4 @@
-//! The first line of a connection: who asks for its state.
+//! The first line of a connection, with the name and the token of its user.
 ghost use Rattle.std.specs.Prelude.{◌≡◌};
 ghost use Rattle.lj_wire.specs.Greetings.{hello_asked, greeting, hello_of};
 
@@ -14,7 +14,7 @@ pub enum Hello {
     Other,
 }
 
-/// What a first line says, which is given without its line feed.
+/// Parses a first line, given without its line feed.
 pub(crate) fn parse_hello(line: &[u8]) -> Hello
     ensures { result ≡ hello_of line.now }
 {
@@ -34,7 +34,7 @@ fn greeting(mut words: Words) -> Option<Hello>
     asked(words)
 }
 
-// The words after HELLO: a name and a token.
+// Parses the words after HELLO: a name and a token.
 fn asked(mut words: Words) -> Option<Hello>
     ensures { result ≡ hello_asked words.entry }
 {

@@ -11,7 +11,7 @@ use lj_session::{Command, LoadBody, Refusal};
 pub enum Fault {
     /// A line of more than 256 and at most 65,535 bytes.
     Line,
-    /// A line without a word, a wrong number of words, or a word not of its shape.
+    /// A line without a word, a wrong number of words, or a word of the wrong form.
     Syntax,
     /// The line of a load without a count.
     Body,
@@ -49,7 +49,7 @@ impl From<Fault> for Refusal {
 }
 
 impl Item {
-    /// Whether the connection ends with this item.
+    /// Returns whether the connection ends with this item.
     pub fn ends(&self) -> bool
         ensures { result ≡ is_ending self.now }
     {
@@ -59,7 +59,7 @@ impl Item {
         }
     }
 
-    /// Puts this body into the item, where it is a load.
+    /// Puts this body into the item if it is a load.
     pub(crate) fn put_body(&mut self, body: LoadBody)
         ensures value { self.new ≡ with_body self.old body }
     {
@@ -68,7 +68,7 @@ impl Item {
         }
     }
 
-    /// The item with this body, where it is a load.
+    /// Returns a load with this body, and any other item unchanged.
     pub fn with_body(self, body: LoadBody) -> Item
         ensures value { result ≡ with_body self body }
         ensures whole { (line : List ℕ) → self ≡ item_with line Unread → result ≡ item_with line body }

@@ -1,4 +1,4 @@
-//! Laws of streams and of answers: functions that do nothing of their own, whose contracts are the laws.
+//! Laws of streams and of answers: the contracts of functions with empty bodies.
 ghost use Rattle.lj_session.specs.UserState.{user_of};
 ghost use Rattle.lj_wire.specs.Laws.{OneSplitting, SomeSplitting, MarkIsTold, AlikeIsTold, WaitingGoesOn};
 ghost use Rattle.lj_wire.specs.Laws.{BodyMissingIsMarked, BodyIsBounded, LinesAreTheText, CommandsAreItems};
@@ -6,32 +6,32 @@ ghost use Rattle.lj_wire.specs.Laws.{IsReachedAlone};
 
 use lj_session::UserState;
 
-/// Promise: a stream has one splitting into items and a rest.
+/// Promise: a stream splits into items and a rest in one way only.
 pub fn one_splitting()
     ensures { OneSplitting }
 {}
 
-/// Promise: each stream has a splitting into items and a rest.
+/// Promise: each stream splits into items and a rest.
 pub fn some_splitting()
     ensures { SomeSplitting }
 {}
 
-/// Promise: that memory ran out may be read off the text of the answer.
+/// Promise: the text of an answer shows whether memory ran out.
 pub fn mark_is_told()
     ensures { MarkIsTold }
 {}
 
-/// Where two commands are answered alike, the same is told.
+/// Two commands that are answered alike get the same text.
 pub fn alike_is_told()
     ensures { AlikeIsTold }
 {}
 
-/// An item that has to wait does not end the connection, and neither does what is left of it.
+/// An item that waits for steps does not end the connection, and neither does what remains of it.
 pub fn waiting_goes_on()
     ensures { WaitingGoesOn }
 {}
 
-/// A line whose body found no memory is answered what it is answered where memory is refused to it.
+/// A line whose body found no memory gets the reply of a line that is refused memory.
 pub fn body_missing_is_marked()
     ensures { BodyMissingIsMarked }
 {}
@@ -46,12 +46,12 @@ pub fn lines_are_the_text()
     ensures { LinesAreTheText }
 {}
 
-/// Commands lead a user where they lead it as items.
+/// Answering commands as items leaves the user that the commands leave.
 pub fn commands_are_items()
     ensures { CommandsAreItems }
 {}
 
-/// Promise: the user of every state is the last one of some items with marks, answered alone.
+/// Promise: the user of every state is the one that some items with marks, answered alone, leave.
 pub fn state_is_reached_alone(state: &UserState)
     ensures { IsReachedAlone (user_of state.now) }
 {

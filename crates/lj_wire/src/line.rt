@@ -7,8 +7,7 @@ use crate::limits::MAX_LINE_BYTES;
 use bstr::ByteSlice;
 use lj_base::{Words, without_return};
 
-/// The first line of `stream` without its line feed, and what follows that line feed. `None` where
-/// `stream` has no line feed.
+/// Returns the first line of `stream` without its line feed, and what follows the line feed; `None` where there is no line feed.
 pub fn split_line(stream: &[u8]) -> Option<(&[u8], &[u8])>
     ensures { MatchOption result (LacksLineFeed stream.now)
         (λ p. (stream.now ≡ p.0.now ++ 10 ∷ p.1.now) × LacksLineFeed p.0.now) }
@@ -18,14 +17,14 @@ pub fn split_line(stream: &[u8]) -> Option<(&[u8], &[u8])>
     Some((line, &rest[1..]))
 }
 
-/// Whether a line has too many bytes to be a command.
+/// Returns whether a line has more bytes than a command may have.
 pub(crate) fn is_over(line: &[u8]) -> bool
     ensures { result ≡ is_over line.now }
 {
     line.len() > MAX_LINE_BYTES
 }
 
-/// The words of a line, of which a carriage return at its end is no part.
+/// Returns the words of a line, without a carriage return at its end.
 pub(crate) fn words_in(line: &[u8]) -> Words<'_>
     ensures { result ≡ words_in line.now }
 {

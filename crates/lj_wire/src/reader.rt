@@ -25,9 +25,8 @@ use source_input::Input;
 use std::alloc::Global;
 use std::marker::Model;
 
-/// Reads the items of a stream, whatever pieces its bytes come in. Only the body of a load takes
-/// memory: the bytes that are read ahead stand in a buffer of fixed size, and of a line that is too
-/// long for a command they are only counted.
+/// A reader of the items of a stream, whatever pieces its bytes come in. Only the body of a load takes memory: bytes read ahead
+/// stand in a buffer of fixed size, and those of a line too long for a command are only counted.
 #[derive(Drop)]
 pub struct LineReader<S: Source> {
     alloc: Global,
@@ -61,7 +60,7 @@ impl<S: Source> LineReader<S> {
     ghost use Rattle.lj_wire.specs.LineReader.{HandsOut, HandsNone, HasFailed};
     ghost use Rattle.lj_wire.specs.Greetings.{Greets, GreetsNone, HasFailedEarly};
 
-    /// A reader of `source` that has read nothing.
+    /// Makes a reader of `source` that has read nothing.
     pub fn new(alloc: Global, source: S) -> Self
         ensures left { result.left ≡ S.remaining source }
         ensures held { result.held ≡ [] }
@@ -78,8 +77,8 @@ impl<S: Source> LineReader<S> {
         }
     }
 
-    /// The next item. `None` where the input has ended in less than an item, or after an item that
-    /// ends the connection; nothing is read after that, nor after a fault.
+    /// Returns the next item; `None` where the input ended before a whole one came, or after an item that ends the connection.
+    /// After `None` or a fault nothing more is read.
     pub fn next(&mut self) -> Result<Option<Item>, ReadFault>
         ensures item { IfOk result (λ item. IfSome item (HandsOut self.old self.new)) }
         ensures none { IfOk result (λ item. IfNone item (HandsNone self.old self.new)) }
@@ -89,7 +88,7 @@ impl<S: Source> LineReader<S> {
         Ok(self.next_in(&mut item)?.then_some(item))
     }
 
-    /// Puts the item that `next` returns in the place of what `item` holds. Answers false where there is none.
+    /// Puts the item that `next` would return into `item`; returns false where there is none.
     pub fn next_in(&mut self, item: &mut Item) -> Result<bool, ReadFault>
         ensures item { IfOk result (λ some. some ≡ true → HandsOut self.old self.new item.new) }
         ensures none { IfOk result (λ some. some ≡ false → HandsNone self.old self.new) }
@@ -126,8 +125,8 @@ impl<S: Source> LineReader<S> {
         }
     }
 
-    /// What the next line says as the first one of a connection. It is no item. `None` where the input
-    /// has ended in less than a line; nothing is read after that, nor after a fault.
+    /// Reads the next line as the first one of a connection; it counts as no item. `None` where the input ended before a whole
+    /// line came. After `None` or a fault nothing more is read.
     pub fn hello(&mut self) -> Result<Option<Hello>, ReadFault>
         ensures hello { IfOk result (λ hello. IfSome hello (Greets self.old self.new)) }
         ensures none { IfOk result (λ hello. IfNone hello (GreetsNone self.old self.new)) }
@@ -148,15 +147,14 @@ impl<S: Source> LineReader<S> {
         }
     }
 
-    /// Whether bytes were read that are in no item yet.
+    /// Returns whether bytes were read that are in no item yet.
     pub fn holds_bytes(&self) -> bool
         ensures { result ≡ false ↔ (self.now.held ≡ []) }
     {
         !self.input.held().is_empty()
     }
 
-    /// Whether the next item is among the bytes that are held: they have a whole line, of which no body follows. Of a LOAD the answer
-    /// is false.
+    /// Returns whether the next item is among the bytes held: a whole line that no body follows. False for a load.
     pub fn holds_item(&self) -> bool {
         let held = self.input.held();
         if begins_no_load(held) {
@@ -171,7 +169,7 @@ impl<S: Source> LineReader<S> {
         }
     }
 
-    /// The source. What was read ahead is given up.
+    /// Returns the source. Bytes read ahead are dropped.
     pub fn into_source(self) -> S
         ensures remaining { S.remaining result ≡ self.unread }
         ensures ahead { self.left ≡ prepend_known self.held self.unread }
@@ -187,7 +185,7 @@ impl<S: Source> LineReader<S> {
     }
 }
 
-/// Whether the first letter of a stream tells that it does not begin with a load. It is false of some others that do not.
+/// Returns true if the first letter of a stream rules out a load. Some other streams that begin with no load give false too.
 #[inline]
 fn begins_no_load(stream: &[u8]) -> bool {
     matches!(stream.first(), Some(b'A'..=b'K' | b'M'..=b'Z'))

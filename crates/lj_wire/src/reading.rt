@@ -1,4 +1,4 @@
-//! What a line says: its item, and the body that follows it.
+//! Parsing a line: its item, and how many bytes of body follow it.
 ghost use Rattle.std.specs.Prelude.{◌≡◌, Some, unwrap_or};
 ghost use Rattle.lj_session.specs.declared.body.LoadBody.TheVariants.{Unread};
 ghost use Rattle.lj_wire.specs.Commands.{body_len_announced, item_with, last_count, verb_command};
@@ -12,17 +12,16 @@ use crate::line::{is_over, words_in};
 use crate::verb::Verb;
 use lj_base::Words;
 
-/// What a line says.
+/// A parsed line.
 #[derive(Debug, Drop)]
 pub struct LineReading {
     /// The item of the line. The body of a load is not read yet.
     pub item: Item,
-    /// How many bytes of body follow the line: those that the line of a load counts, at most 1,048,576, and none after
-    /// another.
+    /// The number of bytes of body after the line: the count of a load, at most 1,048,576, else 0.
     pub body: usize,
 }
 
-/// Reads a line, which is given without its line feed.
+/// Parses a line, given without its line feed.
 pub fn read_line(line: &[u8]) -> LineReading
     ensures item { result.item ≡ item_with line.now Unread }
     ensures body { result.body ≡ body_len_announced line.now }
@@ -32,7 +31,7 @@ pub fn read_line(line: &[u8]) -> LineReading
     LineReading { item, body }
 }
 
-/// Puts the item that `read_line` returns in the place of what `item` holds, and answers how many bytes of body follow the line.
+/// Puts the item that `read_line` would return into `item`, and returns the number of bytes of body after the line.
 pub(crate) fn read_line_in(line: &[u8], item: &mut Item) -> usize
     ensures item { item.new ≡ item_with line.now Unread }
     ensures body { result ≡ body_len_announced line.now }
@@ -55,7 +54,7 @@ pub(crate) fn read_line_in(line: &[u8], item: &mut Item) -> usize
     }
 }
 
-/// The item of a line, which is given without its line feed. The body of a load is not read yet.
+/// Parses a line, given without its line feed. The body of a load is not read yet.
 ///
 /// Promise: the result is the item of the line: the command that its words say, or what is wrong with it.
 pub fn parse_command(line: &[u8]) -> Item
@@ -64,7 +63,7 @@ pub fn parse_command(line: &[u8]) -> Item
     read_line(line).item
 }
 
-// Puts a fault that the connection goes on after.
+// Puts a fault after which the connection goes on.
 #[cold]
 #[inline(never)]
 fn put_bad(fault: Fault, item: &mut Item)
@@ -86,7 +85,7 @@ fn put_over(line: &[u8], item: &mut Item)
     };
 }
 
-// Puts what the line of a command says, by its first word and those after it, and answers how many bytes of body follow.
+// Puts the item of a line, by its verb and the words after it, and returns the number of bytes of body after the line.
 fn read_command(verb: Verb, words: Words, item: &mut Item) -> usize
     ensures item { item.new ≡ verb_item (Some verb) words.entry Unread }
     ensures body { result ≡ verb_body_len (Some verb) words.entry }
@@ -98,7 +97,7 @@ fn read_command(verb: Verb, words: Words, item: &mut Item) -> usize
     0
 }
 
-// Puts the command of words that say one, and a fault where they say none.
+// Puts the command in the words, or a syntax fault.
 fn put_command(verb: Verb, words: Words, item: &mut Item)
     ensures { item.new ≡ item_or_syntax (verb_command verb Unread words.entry) }
 {
@@ -112,7 +111,7 @@ fn put_command(verb: Verb, words: Words, item: &mut Item)
     }
 }
 
-// Puts what the line of a load says.
+// Puts the item of the line of a load, and returns its count, or 0 where it has none.
 fn read_load(verb: Verb, words: Words, item: &mut Item) -> usize
     ensures item { item.new
         ≡ counted_item (last_count words.entry) (verb_command verb Unread words.entry) }
@@ -130,7 +129,7 @@ fn read_load(verb: Verb, words: Words, item: &mut Item) -> usize
     }
 }
 
-// Puts what `put_command` does, of any verb. It is kept out of line, so that `put_command` is short for SHOW.
+// Does the same as `put_command`, for any verb. It is not inlined, so that `put_command` stays short for SHOW.
 #[inline(never)]
 fn put_words(verb: Verb, words: Words, item: &mut Item)
     ensures { item.new ≡ item_or_syntax (verb_command verb Unread words.entry) }
@@ -141,7 +140,7 @@ fn put_words(verb: Verb, words: Words, item: &mut Item)
     };
 }
 
-// The count of the line of a load: its last word, and not its first one.
+// Parses the count in the line of a load: the last word after the verb.
 fn last_count(words: Words) -> Option<usize>
     ensures { result ≡ last_count words.entry }
 {

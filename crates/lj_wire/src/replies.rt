@@ -76,7 +76,7 @@ fn end(line: &mut Line)
     line.push(b'\n');
 }
 
-/// `OK`, the word of a load, a session, its step 0 and how many atoms it has.
+/// Writes `OK`, the verb of a load, a session, its step 0 and its number of atoms.
 fn loaded_line(line: &mut Line, verb: &[u8], name: &Name, atoms: usize)
     requires { length verb.now ≤ 16 }
     ensures { line.new.items ≡ ok_line (verb.now ∷ name.now ∷ codes "0" ∷ decimal atoms ∷ []) }
@@ -88,7 +88,7 @@ fn loaded_line(line: &mut Line, verb: &[u8], name: &Name, atoms: usize)
     end(line);
 }
 
-/// `OK`, the word of a command, a session and a number.
+/// Writes `OK`, a verb, a session and a number.
 fn number_line<I: Integer>(line: &mut Line, verb: &[u8], name: &Name, number: I)
     requires word { length verb.now ≤ 16 }
     requires number { I.MAX_STR_LEN ≤ 40 }
@@ -100,7 +100,7 @@ fn number_line<I: Integer>(line: &mut Line, verb: &[u8], name: &Name, number: I)
     end(line);
 }
 
-/// The same with two numbers.
+/// Writes the same with two numbers.
 fn numbers_line<I: Integer, J: Integer>(
     line: &mut Line,
     verb: &[u8],
@@ -120,7 +120,7 @@ fn numbers_line<I: Integer, J: Integer>(
     end(line);
 }
 
-/// `OK`, the word of a command, and a session.
+/// Writes `OK`, a verb and a session.
 fn name_line(line: &mut Line, verb: &[u8], name: &Name)
     requires { length verb.now ≤ 16 }
     ensures { line.new.items ≡ ok_line (verb.now ∷ name.now ∷ []) }
@@ -130,14 +130,14 @@ fn name_line(line: &mut Line, verb: &[u8], name: &Name)
     end(line);
 }
 
-/// `OK HELLO name`: the user of this name is let in.
+/// Writes `OK HELLO name`: the user of this name is let in.
 pub fn put_welcome_line(line: &mut Line, name: &Name)
     ensures { line.new.items ≡ ok_line (codes "HELLO" ∷ name.now ∷ []) }
 {
     name_line(line, b"HELLO", name);
 }
 
-/// `OK`, the word of a command, a session, and a name under which something is saved in it.
+/// Writes `OK`, a verb, a session and a branch.
 fn names_line(line: &mut Line, verb: &[u8], name: &Name, branch: &Name)
     requires { length verb.now ≤ 16 }
     ensures { line.new.items ≡ ok_line (verb.now ∷ name.now ∷ branch.now ∷ []) }
@@ -148,7 +148,7 @@ fn names_line(line: &mut Line, verb: &[u8], name: &Name, branch: &Name)
     end(line);
 }
 
-/// The same with a step number.
+/// Writes the same with a step number.
 fn names_and_step_line(line: &mut Line, verb: &[u8], name: &Name, branch: &Name, step: i64)
     requires { length verb.now ≤ 16 }
     ensures { line.new.items ≡ ok_line (verb.now ∷ name.now ∷ branch.now ∷ signed_decimal step ∷ []) }
@@ -160,7 +160,7 @@ fn names_and_step_line(line: &mut Line, verb: &[u8], name: &Name, branch: &Name,
     end(line);
 }
 
-/// `OK BYE`.
+/// Writes `OK BYE`.
 fn bye_line(line: &mut Line)
     ensures { line.new.items ≡ ok_line (codes "BYE" ∷ []) }
 {
@@ -168,7 +168,7 @@ fn bye_line(line: &mut Line)
     end(line);
 }
 
-/// `OK SHOW s step i x y z`.
+/// Writes `OK SHOW s step i x y z`.
 fn shown_line(line: &mut Line, name: &Name, step: i64, atom: u64, place: &Place)
     ensures { line.new.items ≡ ok_line (codes "SHOW" ∷ name.now ∷ signed_decimal step ∷ decimal atom
         ∷ decimal place.now.x ∷ decimal place.now.y ∷ decimal place.now.z ∷ []) }
@@ -183,7 +183,7 @@ fn shown_line(line: &mut Line, name: &Name, step: i64, atom: u64, place: &Place)
     end(line);
 }
 
-/// `OK MEASURE s step atoms`, the head of the reply to MEASURE.
+/// Writes `OK MEASURE s step atoms`, the head of the reply to MEASURE.
 fn begin_measured(line: &mut Line, name: &Name, step: i64, atoms: usize)
     ensures text { line.new.items ≡ codes "OK" ++ blank_and (codes "MEASURE") ++ blank_and name.now
         ++ blank_and (signed_decimal step) ++ blank_and (decimal atoms) }
@@ -195,7 +195,7 @@ fn begin_measured(line: &mut Line, name: &Name, step: i64, atoms: usize)
     push_number(line, atoms);
 }
 
-/// Appends the three sums of a momentum.
+/// Appends the three components of a momentum.
 fn push_momentum(line: &mut Line, momentum: &[i64; 3])
     requires { array_vec_len line.old + 63 ≤ MAX_REPLY_LINE_BYTES }
     ensures text { line.new.items ≡ line.old.items ++ flat_map blank_and (map signed_decimal momentum.now) }
@@ -207,7 +207,7 @@ fn push_momentum(line: &mut Line, momentum: &[i64; 3])
     push_number(line, *z);
 }
 
-/// A line of a frame with its line feed.
+/// Writes a line of a frame with its line feed.
 fn frame_line(line: &mut Line, text: &FrameLine)
     ensures { line.new.items ≡ ended_line text.now.items }
 {
@@ -216,7 +216,7 @@ fn frame_line(line: &mut Line, text: &FrameLine)
     end(line);
 }
 
-/// The line of a refusal.
+/// Writes the line of a refusal.
 pub fn put_refusal_line(line: &mut Line, refusal: Refusal)
     ensures { line.new.items ≡ ended_line (refusal_text refusal) }
 {
@@ -233,7 +233,7 @@ pub fn put_refusal_line(line: &mut Line, refusal: Refusal)
     end(line);
 }
 
-/// `OK MEASURE s step atoms mx my mz kinetic potential`.
+/// Writes `OK MEASURE s step atoms mx my mz kinetic potential`.
 fn measured_line(
     line: &mut Line,
     name: &Name,
@@ -253,7 +253,7 @@ fn measured_line(
     end(line);
 }
 
-/// `OK LIST k`.
+/// Writes `OK LIST k`.
 fn listed_line(line: &mut Line, sessions: usize)
     ensures { line.new.items ≡ ok_line (codes "LIST" ∷ decimal sessions ∷ []) }
 {
@@ -262,8 +262,7 @@ fn listed_line(line: &mut Line, sessions: usize)
     end(line);
 }
 
-/// The line of a session in a list: its name, the step that it is going to, how many atoms it has and how much is saved in
-/// it.
+/// Writes the line of a session in a list: its name, the step that it goes to, its number of atoms and its number of branches.
 fn entry_line(line: &mut Line, name: &Name, step: i64, atoms: usize, branches: usize)
     ensures { line.new.items
         ≡ line_of (name.now ∷ signed_decimal step ∷ decimal atoms ∷ decimal branches ∷ []) }
@@ -276,7 +275,7 @@ fn entry_line(line: &mut Line, name: &Name, step: i64, atoms: usize, branches: u
     end(line);
 }
 
-/// The line of the i-th session in a list.
+/// Writes the line of the i-th session in a list.
 fn session_line(line: &mut Line, state: &UserState, i: usize)
     requires { i < length state.now.sessions }
     ensures { Some line.new.items ≡ option_map session_line (slice_get (user_of state.now).sessions i) }
@@ -292,7 +291,7 @@ fn session_line(line: &mut Line, state: &UserState, i: usize)
     );
 }
 
-/// The line of the i-th that is saved in a session.
+/// Writes the line of the i-th branch of a session.
 fn branch_line(line: &mut Line, branches: &Branches, i: usize)
     requires { i < length branches.now }
     ensures { Some line.new.items ≡ option_map branch_line (slice_get branches.now i) }
@@ -303,7 +302,7 @@ fn branch_line(line: &mut Line, branches: &Branches, i: usize)
     end(line);
 }
 
-/// The line of an atom in a frame of the i-th session.
+/// Writes the line of an atom in a frame of the i-th session.
 fn atom_line(line: &mut Line, state: &UserState, i: usize, atom: usize)
     requires session { i < length state.now.sessions }
     requires atom { ForSome (held_session_at state.now i) (λ held. atom < length held.live.sim.cur) }
@@ -325,7 +324,7 @@ fn atom_line(line: &mut Line, state: &UserState, i: usize, atom: usize)
     end(line);
 }
 
-/// The line of a reply that has one alone.
+/// Writes the line of a reply that has only one.
 #[tactic(auto, unfolding(crate::specs::Texts::reply_lines, crate::specs::Texts::text))]
 fn only_line(line: &mut Line, reply: &Reply)
     requires { is_one_line reply.now ≡ true }
@@ -366,7 +365,7 @@ fn only_line(line: &mut Line, reply: &Reply)
     }
 }
 
-/// Line k of the reply to LIST. None past the last line.
+/// Writes line k of the reply to LIST. None past the last line.
 fn list_line(line: &mut Line, state: &UserState, k: usize) -> Option<()>
     ensures text { option_map (λ _. line.new.items) result ≡ slice_get (session_lines (user_of state.now)) k }
     ensures unchanged { IfNone result (line.new ≡ line.old) }
@@ -383,7 +382,7 @@ fn list_line(line: &mut Line, state: &UserState, k: usize) -> Option<()>
     Some(())
 }
 
-/// Line k of the reply to LIST of the i-th session, which has this name. None past the last line.
+/// Writes line k of the reply to LIST of the i-th session, which has this name. None past the last line.
 fn branches_line(line: &mut Line, state: &UserState, i: usize, name: &Name, k: usize) -> Option<()>
     requires { i < length state.now.sessions }
     ensures text { IfSome (held_session_at state.now i) (λ held.
@@ -404,8 +403,7 @@ fn branches_line(line: &mut Line, state: &UserState, i: usize, name: &Name, k: u
     Some(())
 }
 
-/// Line k of the reply to DUMP of the i-th session, which has this name, and to which no step is owed. None past the last
-/// line.
+/// Writes line k of the reply to DUMP of the i-th session, which has this name and is owed no step. None past the last line.
 fn dump_line(line: &mut Line, state: &UserState, i: usize, name: &Name, k: usize) -> Option<()>
     requires session { i < length state.now.sessions }
     requires settled { ForSome (held_session_at state.now i) (λ held. held.owed ≡ 0) }
@@ -426,9 +424,9 @@ fn dump_line(line: &mut Line, state: &UserState, i: usize, name: &Name, k: usize
     Some(())
 }
 
-/// Line k of a reply, counted from 0, with the state of the user after the command. None past the last line.
+/// Returns line k of a reply, counted from 0, with the state of the user after the command; None past the last line.
 ///
-/// Promise: line k is that of the reply as the definition says it, and there is none past the last one.
+/// Promise: line k of a reply is the one that the definition gives, and there is none past the last one.
 pub fn reply_line(state: &UserState, reply: &Reply, k: usize) -> Option<Line>
     requires settled { IsSettled state.now reply.now }
     ensures { option_map (λ line. line.items) result
@@ -439,8 +437,8 @@ pub fn reply_line(state: &UserState, reply: &Reply, k: usize) -> Option<Line>
     Some(line)
 }
 
-/// Puts line k of a reply, counted from 0, in the place of what `line` holds, with the state of the user after the
-/// command. None past the last line; `line` is as before then.
+/// Writes line k of a reply, counted from 0, into `line`, with the state of the user after the command. Past the last line it
+/// returns None and leaves `line` as it was.
 pub fn put_reply_line(line: &mut Line, state: &UserState, reply: &Reply, k: usize) -> Option<()>
     requires settled { IsSettled state.now reply.now }
     ensures text { option_map (λ _. line.new.items) result
@@ -450,8 +448,8 @@ pub fn put_reply_line(line: &mut Line, state: &UserState, reply: &Reply, k: usiz
     put_line_at(line, state, reply, listed_session(state, reply), k)
 }
 
-/// The index of the session of which a reply has a line for each atom or for each that is saved in it. None where the reply
-/// has no such lines, or no session has the name.
+/// Returns the index of the session whose atoms or branches a reply lists. None where the reply lists neither, or no session has
+/// the name.
 pub fn listed_session(state: &UserState, reply: &Reply) -> Option<usize>
     ensures { result ≡ listed_session state.now reply.now }
 {
@@ -461,8 +459,8 @@ pub fn listed_session(state: &UserState, reply: &Reply) -> Option<usize>
     }
 }
 
-/// The same as `put_reply_line`, where `session` is what `listed_session` answers: a caller that puts all lines of a reply
-/// looks its session up once.
+/// Does the same as `put_reply_line`, given the result of `listed_session`: a caller that writes all lines of a reply looks its
+/// session up once.
 #[tactic(auto, unfolding(crate::specs::Texts::reply_lines))]
 pub fn put_line_at(
     line: &mut Line,
@@ -495,7 +493,8 @@ pub fn put_line_at(
     }
 }
 
-/// No line of a reply comes after the one of this number, counted from 0, with the state of the user after the command.
+/// Returns an upper bound of the number of the last line of a reply, counted from 0, with the state of the user after the
+/// command.
 #[tactic(auto, using(crate::proofs::ReplyLines::index_within))]
 pub fn last_line(state: &UserState, reply: &Reply) -> usize
     ensures { length (reply_lines (user_of state.now) reply.now) ≤ result + 1 }

@@ -23,7 +23,7 @@ pub(crate) enum Verb {
 }
 
 impl Verb {
-    /// The first word that `word` is, if it is one.
+    /// Returns the verb that `word` spells, if any.
     pub fn parse(word: &[u8]) -> Option<Verb>
         ensures { result ≡ verb_of word.now }
     {
@@ -48,7 +48,7 @@ impl Verb {
         Some(verb)
     }
 
-    /// Whether a body follows the line of the command.
+    /// Returns whether a body follows the line of the command.
     pub fn has_body(self) -> bool
         ensures { result ≡ has_body self }
     {
@@ -56,7 +56,7 @@ impl Verb {
     }
 }
 
-/// Whether a word is the first one of a load, LOAD or LOADMIX, whose last word counts the bytes of a body.
+/// Returns whether a word is the verb of a load, LOAD or LOADMIX; the last word of such a line counts the bytes of a body.
 pub fn is_load(word: &[u8]) -> bool
     ensures { result ≡ is_load word.now }
 {

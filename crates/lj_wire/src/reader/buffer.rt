@@ -1,4 +1,4 @@
-//! The bytes that have been read and are not yet taken.
+//! The buffer of bytes that were read and are not yet taken.
 ghost use Rattle.std.specs.Prelude.{◌≡◌, ℕ, ◌+◌, ◌-◌, ◌<◌, ◌≤◌, List, [], ◌++◌, length, take, drop, slice_range, IfOk};
 ghost use Rattle.std.specs.Prelude.{OnOk, OnErr};
 ghost use Rattle.std.specs.Io.KnownBytes.{Consumes, Keeps, IsAtEnd};
@@ -10,7 +10,7 @@ use std::marker::Model;
 /// The most bytes that a reader holds ahead.
 pub(crate) const MAX_HELD_BYTES: usize = 8192;
 
-/// The bytes from `start` to `end`.
+/// A buffer that holds the bytes from `start` to `end`.
 #[derive(Drop)]
 pub(crate) struct Buffer {
     bytes: [u8; MAX_HELD_BYTES],
@@ -63,8 +63,7 @@ impl Buffer {
         self.end = 0;
     }
 
-    /// Reads some bytes after those that are held, and answers how many: 0 only at the end of the
-    /// input.
+    /// Reads some bytes after those held, and returns how many: 0 only at the end of the input.
     pub(crate) fn read_from<S: Source>(&mut self, source: &mut S) -> Result<usize, ReadFault>
         requires { length self.old < MAX_HELD_BYTES }
         ensures more { IfOk result (λ n. (more : List ℕ) × (length more ≡ n) × (self.new ≡ self.old ++ more)

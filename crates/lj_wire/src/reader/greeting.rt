@@ -8,7 +8,7 @@ use super::source_input::{Front, Input, Passed};
 use crate::ends::{ReadFault, Source};
 use crate::hello::{Hello, parse_hello};
 
-/// Reads the first line, whatever its length. `None` where the input ends in less than one.
+/// Reads the first line, whatever its length. `None` where the input ends before a whole line came.
 pub(crate) fn read_hello<S: Source>(input: &mut Input<S>) -> Result<Option<Hello>, ReadFault>
     ensures hello { IfOk result (λ hello. ReadsHello input.old hello input.new) }
     ensures counted { OnOk result (input.new.errors ≡ input.old.errors) }

@@ -12,7 +12,7 @@ use crate::reading::read_line_in;
 use lj_session::Command;
 use std::alloc::Global;
 
-/// Reads an item in the place of what `item` holds. Answers false where the input ends in less than one.
+/// Reads an item into `item`; returns false where the input ends before a whole one came.
 pub(crate) fn read_item<S: Source>(
     alloc: Global,
     input: &mut Input<S>,
@@ -46,8 +46,8 @@ pub(crate) fn read_item<S: Source>(
     }
 }
 
-// Reads the body of `count` bytes after a line, and puts it into the item of the line if that is a load. Answers false where
-// the input ends before.
+// Reads the body of `count` bytes after a line, and puts it into the item if that is a load. Returns false where the input ends
+// before.
 fn finish<S: Source>(
     alloc: Global,
     input: &mut Input<S>,

@@ -1,4 +1,4 @@
-//! Bytes that are read by their count, and bodies.
+//! Reading bodies, and taking or skipping a number of bytes.
 ghost use Rattle.std.specs.Prelude.{◌≡◌, ℕ, ◌≤◌, ◌<◌, [], length, take, drop, min, IfOk, OnOk, OnErr};
 ghost use Rattle.std.specs.Io.KnownBytes.{Keeps, IsAtEnd};
 ghost use Rattle.lj_wire.specs.Input.{bytes_untaken, Takes, ReadsFor};
@@ -10,8 +10,7 @@ use crate::ends::{ReadFault, Source};
 use lj_session::{Body, LoadBody};
 use std::alloc::Global;
 
-/// Reads a body of `count` bytes. Where no memory is found for it it is passed over, and lost. `None`
-/// where the input ends before.
+/// Reads a body of `count` bytes; where memory is refused, skips it and returns it as lost. `None` where the input ends before.
 pub(crate) fn read_body<S: Source>(
     alloc: Global,
     input: &mut Input<S>,
@@ -34,7 +33,7 @@ pub(crate) fn read_body<S: Source>(
     Ok(Some(LoadBody::Read(Body::new(bytes))))
 }
 
-/// Fills `room`. Answers false where the input ends before.
+/// Fills `room`. Returns false where the input ends before.
 pub(crate) fn fill<S: Source>(input: &mut Input<S>, room: &mut [u8]) -> Result<bool, ReadFault>
     ensures filled { IfOk result (λ filled. Fills input.old filled room.new input.new) }
     ensures counted { OnOk result (input.new.errors ≡ input.old.errors) }
@@ -54,7 +53,7 @@ pub(crate) fn fill<S: Source>(input: &mut Input<S>, room: &mut [u8]) -> Result<b
     Ok(true)
 }
 
-// Copies what is held, as far as there is room, and takes it.
+// Copies held bytes into `room` and takes them, and returns how many.
 fn copy_held<S: Source>(input: &mut Input<S>, room: &mut [u8]) -> usize
     ensures count { result ≡ min (length input.old.held) (length room.new) }
     ensures copied { take result room.new ≡ take result input.old.held }
@@ -67,7 +66,7 @@ fn copy_held<S: Source>(input: &mut Input<S>, room: &mut [u8]) -> usize
     count
 }
 
-/// Takes `count` bytes. Answers false where the input ends before.
+/// Takes `count` bytes. Returns false where the input ends before.
 pub(crate) fn pass<S: Source>(input: &mut Input<S>, count: usize) -> Result<bool, ReadFault>
     ensures passed { IfOk result (λ passed. PassesCount input.old passed count input.new) }
     ensures counted { OnOk result (input.new.errors ≡ input.old.errors) }
@@ -86,7 +85,7 @@ pub(crate) fn pass<S: Source>(input: &mut Input<S>, count: usize) -> Result<bool
     Ok(true)
 }
 
-// Takes what is held, but no more than `most` bytes, and answers how many.
+// Takes at most `most` of the held bytes, and returns how many.
 fn take_held<S: Source>(input: &mut Input<S>, most: usize) -> usize
     ensures count { result ≡ min (length input.old.held) most }
     ensures taken { input.new ≡ record input.old { held = drop result input.old.held } }

@@ -1,11 +1,11 @@
-//! Whether a reader goes on.
+//! The phase of a reader.
 
-/// Whether a reader of lines goes on.
+/// The phase of a reader of lines.
 #[derive(Clone, Copy, Debug, PartialEq, Eq)]
 pub enum Phase {
     /// The next item may come.
     Open,
-    /// None comes: an item that ends the connection was handed out, or the input has ended.
+    /// No item comes: one that ends the connection was handed out, or the input has ended.
     Over,
     /// A read has failed.
     Failed,

@@ -1,4 +1,4 @@
-//! What is read, line by line.
+//! The input of a reader, read line by line.
 ghost use Rattle.std.specs.Prelude.{◌≡◌, ℕ, ◌≤◌, ◌<◌, [], length, take, drop, IfOk, OnOk, OnErr};
 ghost use Rattle.lj_wire.specs.Input.{bytes_untaken, Grows, Takes, HoldsNoFeed, TakesPart};
 ghost use Rattle.std.specs.Io.KnownBytes.{Keeps, IsAtEnd};
@@ -18,23 +18,23 @@ pub(crate) struct Input<S: Source> {
     source: S,
 }
 
-/// What stands first in the input.
+/// What the input begins with.
 pub(crate) enum Front {
-    /// A line of so many bytes, and its line feed: they are held.
+    /// A line of this many bytes and its line feed, all of them held.
     Line(usize),
-    /// More bytes than a command has.
+    /// More bytes than a command may have, without a line feed.
     Long,
-    /// Less than a line, and the input ends.
+    /// Less than a line, at the end of the input.
     End,
 }
 
-/// What was passed over.
+/// What was skipped.
 pub(crate) enum Passed {
     /// A line of more than 256 bytes.
     Line,
     /// 65,536 bytes without a line feed.
     Long,
-    /// Less than a line, and the input ends.
+    /// Less than a line, at the end of the input.
     End,
 }
 
@@ -51,7 +51,7 @@ impl<S: Source> Model for Input<S> {
 }
 
 impl<S: Source> Input<S> {
-    /// Reads nothing.
+    /// Wraps `source`, and reads nothing.
     pub(crate) fn new(source: S) -> Self
         ensures held { result.held ≡ [] }
         ensures unread { result.unread ≡ S.remaining source }
@@ -71,7 +71,7 @@ impl<S: Source> Input<S> {
         source
     }
 
-    /// The bytes that are held.
+    /// Returns the bytes held.
     pub(crate) fn held(&self) -> &[u8]
         ensures value { result.now ≡ self.now.held }
         ensures bounded { length result.now ≤ MAX_HELD_BYTES }
@@ -94,8 +94,7 @@ impl<S: Source> Input<S> {
         self.buffer.clear();
     }
 
-    /// Reads some bytes after those that are held, and answers how many: 0 only at the end of the
-    /// input.
+    /// Reads some bytes after those held, and returns how many: 0 only at the end of the input.
     pub(crate) fn read_more(&mut self) -> Result<usize, ReadFault>
         requires { length self.old.held < MAX_HELD_BYTES }
         ensures grown { IfOk result (Grows self.old self.new) }
@@ -107,8 +106,8 @@ impl<S: Source> Input<S> {
         self.buffer.read_from(&mut self.source)
     }
 
-    /// Reads some bytes into `room` and takes them, where none are held. Answers how many: 0 only at
-    /// the end of the input, or where there is no room.
+    /// Reads some bytes into `room` and takes them; before this no byte is held. Returns how many: 0 only at the end of the
+    /// input, or where `room` is empty.
     pub(crate) fn read_into(&mut self, room: &mut [u8]) -> Result<usize, ReadFault>
         requires { self.old.held ≡ [] }
         ensures held { self.new.held ≡ [] }
@@ -123,8 +122,8 @@ impl<S: Source> Input<S> {
     }
 
     #[tactic(auto, using(crate::proofs::Passing::searched_more, crate::proofs::Passing::searched_long))]
-    /// Reads until the first line is held, or more bytes than a command has, or the input ends.
-    /// What is held when it ends, or at a fault, is taken.
+    /// Reads until a whole line is held, or more bytes than a command may have, or the input ends. The bytes held at the end, or
+    /// at a fault, are taken.
     pub(crate) fn find_line(&mut self) -> Result<Front, ReadFault>
         ensures found { IfOk result (λ front. Finds self.old front self.new) }
         ensures searched { IfOk result (λ front. SearchesFor self.old front self.new) }
@@ -154,8 +153,7 @@ impl<S: Source> Input<S> {
         }
     }
 
-    /// Takes a line of which more bytes than a command has are held, with its line feed. Its bytes
-    /// are only counted.
+    /// Skips an overlong line with its line feed; its bytes are only counted. More of them are held than a command may have.
     pub(crate) fn pass_line(&mut self) -> Result<Passed, ReadFault>
         requires { HoldsNoFeed self.old }
         ensures passed { IfOk result (λ passed. Passes self.old passed self.new) }
