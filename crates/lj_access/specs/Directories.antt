@@ -1,4 +1,4 @@
--- What a directory always keeps.
+-- The invariant of a directory.
 use Rattle.std.specs.Prelude.{◌≤◌, List, length, map}
 use Rattle.std.specs.List.{IsDistinct}
 use Rattle.std.specs.Str.{bytes_eq}

@@ -1,4 +1,4 @@
--- How many users there may be, and how many tickets one has.
+-- The limits of users and of tickets.
 use Rattle.std.specs.Prelude.{◌≡◌, ◌^◌, refl}
 use Rattle.lj_access.specs.declared.directory.TheConstants.{MAX_USERS}
 use Rattle.lj_access.specs.declared.user_row.TheConstants.{MAX_TICKETS}

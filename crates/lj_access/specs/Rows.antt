@@ -1,4 +1,4 @@
--- The directory as a list of rows, numbered from 0: what is known of each user, and the state while nobody has it.
+-- The directory as a list of rows, numbered from 0: each user's name, token and tickets, and the state while it is not lent.
 use Rattle.std.specs.Prelude.{◌≡◌, ℕ, ◌+◌, ◌<◌, Bool, ◌&&◌, List, slice_get, slice_set, position, Option, Some, None, IsSome}
 use Rattle.std.specs.Option.{option_map, option_and_then}
 use Rattle.std.specs.Str.{bytes_eq}
@@ -6,8 +6,8 @@ use Rattle.lj_session.specs.UserState.{UserState, empty_state}
 use Rattle.lj_access.specs.declared.user.User.{User}
 use Rattle.lj_access.specs.declared.user_row.TheConstants.{MAX_TICKETS}
 
--- A user: the name, the token, how many tickets were granted, how many of them have left, and the state while it is at
--- home. The tickets of a user are numbered from 0 in the order in which they were granted.
+-- A user: name, token, the number of tickets granted and of those that have left, and the state while it is at home. The tickets
+-- of a user are numbered from 0 in the order in which they were granted.
 pub record Row : Type 0 where
   pub name : List ℕ
   pub token : List ℕ
@@ -24,7 +24,7 @@ pub record Ticket : Type 0 where
 abbrev pub first_row : User → Row
 first_row user = record { name = user.name; token = user.token; granted = 0; past = 0; home = Some (empty_state user.quota) }
 
--- whether the row is that of a user with this name and this token
+-- the row is that of a user with this name and this token
 abbrev pub is_of : List ℕ → List ℕ → Row → Bool
 is_of name token row = bytes_eq row.name name && bytes_eq row.token token
 
@@ -32,7 +32,7 @@ is_of name token row = bytes_eq row.name name && bytes_eq row.token token
 abbrev pub user_with : List Row → List ℕ → List ℕ → Option ℕ
 user_with rows name token = position (is_of name token) rows
 
--- not all tickets of the user are granted
+-- another ticket can be granted: not all 2^32 of the user are
 abbrev pub HasTicketLeft : Row → Type 0
 HasTicketLeft row = row.granted < MAX_TICKETS
 
@@ -44,7 +44,7 @@ next_number rows user = option_map (λ row. row.granted) (slice_get rows user)
 abbrev pub home_of : List Row → ℕ → Option UserState
 home_of rows user = option_and_then (λ row. row.home) (slice_get rows user)
 
--- of the granted tickets that have not left, the one of this number is the first
+-- the ticket of this number is the first granted one that has not left
 pub record IsFirst (number : ℕ) (row : Row) : Type 0 where
   pub granted : number < row.granted
   pub past : row.past ≡ number
@@ -59,7 +59,7 @@ pub record HasEntered (number : ℕ) (row : Row) : Type 0 where
   pub first : IsFirst number row
   pub lent : row.home ≡ None
 
--- one ticket more is granted
+-- one more ticket is granted
 abbrev pub with_ticket : Row → Row
 with_ticket row = record row { granted = row.granted + 1 }
 
@@ -67,7 +67,7 @@ with_ticket row = record row { granted = row.granted + 1 }
 abbrev pub without_home : Row → Row
 without_home row = record row { home = None }
 
--- one ticket more has left, and this state is at home
+-- one more ticket has left, and this state is at home
 abbrev pub with_home : UserState → Row → Row
 with_home state row = record row { past = row.past + 1; home = Some state }
 
@@ -75,6 +75,6 @@ abbrev pub with_row_changed_to : ℕ → (Row → Row) → Option Row → List R
 with_row_changed_to user change None rows = rows
 with_row_changed_to user change (Some row) rows = slice_set rows user (change row)
 
--- with the row of a user changed, and every other as it was
+-- with the row of a user changed, and every other unchanged
 abbrev pub with_row_changed : ℕ → (Row → Row) → List Row → List Row
 with_row_changed user change rows = with_row_changed_to user change (slice_get rows user) rows

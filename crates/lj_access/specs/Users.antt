@@ -1,7 +1,7 @@
--- Users, as a list.
+-- Lists of users.
 use Rattle.std.specs.Prelude.{ℕ, List, map}
 use Rattle.lj_access.specs.declared.user.User.{User}
 
--- their names
+-- the names of users
 abbrev pub names : List User → List (List ℕ)
 names users = map (λ user. user.name) users

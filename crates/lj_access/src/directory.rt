@@ -1,4 +1,4 @@
-//! The directory: users with their tickets, and the states that no ticket has.
+//! The directory: users with their tickets, and the states that are at home.
 ghost use Rattle.std.specs.Prelude.{◌≡◌, ◌↔◌, ◌<◌, ◌≤◌, length, map, slice_get, Some, IsOk, IsTrue, IsSome, IfOk, IfSome, IfNone, IfErr, IsSomeAnd, OnOk, OnSome, OnErr};
 ghost use Rattle.std.specs.List.{IsDistinct};
 ghost use Rattle.std.specs.Option.{ForSome, option_map, option_copied};
@@ -38,7 +38,7 @@ impl Model for Directory {
 }
 
 impl Directory {
-    /// The directory of these users: each has a state without sessions, which is at home, and no ticket is granted.
+    /// Makes the directory of these users: each has a state without sessions, which is at home, and no ticket.
     ///
     /// # Errors
     /// Out of memory. No other call takes any.
@@ -52,7 +52,7 @@ impl Directory {
         Ok(Directory { rows })
     }
 
-    /// How many users there are.
+    /// Returns the number of users, 1 to 64.
     pub fn count(&self) -> usize
         ensures value { result ≡ length self.now }
         ensures some { 1 ≤ result }
@@ -62,7 +62,7 @@ impl Directory {
         self.rows.len()
     }
 
-    /// The name of a user; None where there is no user of this number.
+    /// Returns the name of a user; None where no user has this number.
     pub fn name_at(&self, user: u8) -> Option<&Name>
         ensures { option_copied result ≡ option_map (λ row. row.name) (slice_get self.now user) }
     {
@@ -74,8 +74,8 @@ impl Directory {
     /// # Errors
     /// No user has both, or all tickets of this user are granted. Nothing has changed then.
     ///
-    /// Promise: only who shows the name and the token of a user gets a ticket, which is that user's next one; a HELLO
-    /// that is denied changes nothing.
+    /// Promise: only a HELLO with the name and the token of a user gets a ticket, which is that user's next one; a HELLO that is
+    /// denied changes nothing.
     pub fn hello(&mut self, name: &[u8], token: &[u8]) -> Result<Ticket, Denied>
         ensures granted { IsOk result
             ↔ IsSomeAnd (user_with self.old name.now token.now)
@@ -94,8 +94,8 @@ impl Directory {
         Ok(Ticket::new(user as u8, number))
     }
 
-    /// The state of the ticket's user, where the ticket is the user's first one that has not left and the state is at
-    /// home. The state is then lent to this ticket.
+    /// Lends the state of the ticket's user to this ticket, if it is the user's first one that has not left and the state is at
+    /// home; else returns None.
     ///
     /// Promise: a state is lent exactly to its user's first ticket that has not left, and exactly while it is at home.
     pub fn try_enter(&mut self, ticket: &Ticket) -> Option<UserState>
@@ -118,8 +118,8 @@ impl Directory {
     /// # Errors
     /// The ticket has not entered, or has already left. Both are handed back, and nothing has changed.
     ///
-    /// Promise: a state comes home exactly from the ticket that it was lent to; any other ticket is handed back with
-    /// its state, and nothing has changed.
+    /// Promise: a state is taken home exactly from the ticket that it was lent to; any other ticket is handed back with its
+    /// state, and nothing changes.
     pub fn leave(&mut self, ticket: Ticket, state: UserState) -> Result<(), NotEntered>
         ensures entered { IsOk result
             ↔ IsSomeAnd (slice_get self.old ticket.user) (HasEntered ticket.number) }
@@ -142,7 +142,7 @@ impl Directory {
         self.rows.iter().position(|row| row.is_of(name, token))
     }
 
-    /// Whether the ticket may enter now.
+    /// Returns whether the ticket may enter now.
     pub(crate) fn can_enter(&self, ticket: &Ticket) -> bool
         ensures { IsTrue result
             ↔ IsSomeAnd (slice_get self.now ticket.now.user) (CanEnter ticket.now.number) }

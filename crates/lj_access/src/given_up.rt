@@ -1,4 +1,4 @@
-//! Tickets that were given up while they waited: each is passed over once its turn has come.
+//! Tickets that were given up while they waited: each is passed over when its turn comes.
 ghost use Rattle.std.specs.Prelude.{◌≡◌, ◌↔◌, [], ◌∷◌, ◌++◌, IsTrue, IfErr, IfNone, IfSome, IsSomeAnd, OnErr, OnOk, slice_get};
 ghost use Rattle.std.specs.List.{All};
 ghost use Rattle.std.specs.List.Sorted.{IsPermutation};
@@ -26,7 +26,7 @@ impl Model for GivenUp {
 }
 
 impl GivenUp {
-    /// No ticket is given up.
+    /// Makes a list without tickets.
     pub fn new(alloc: Global) -> GivenUp
         ensures { result ≡ [] }
     {
@@ -50,11 +50,11 @@ impl GivenUp {
         }
     }
 
-    /// Passes over the kept tickets of a user whose turn has come, one after the other. Each of them enters and leaves
-    /// at once, and is kept no longer.
+    /// Passes over the kept tickets of a user whose turn has come, one after the other: each enters, leaves at once, and is no
+    /// longer kept.
     ///
-    /// Promise: of the directory nothing changes but that tickets of this user have left, and none of the user's that
-    /// are still kept may enter.
+    /// Promise: in the directory only tickets of this user have left, and none of the user's tickets that are still kept may
+    /// enter.
     pub fn pass(&mut self, directory: &mut Directory, user: u8)
         ensures passed { PassesOver user directory.old directory.new }
         ensures kept { IsPermutation self.old (self.new ++ tickets_passed user directory.old directory.new) }
@@ -66,7 +66,7 @@ impl GivenUp {
         }
     }
 
-    /// The place of a kept ticket of this user that may enter now.
+    /// Returns the index of a kept ticket of this user that may enter now.
     fn next_of(&self, directory: &Directory, user: u8) -> Option<usize>
         ensures next { IfSome result (λ at. IsSomeAnd (slice_get self.now at) (IsNext directory.now user)) }
         ensures none { IfNone result (All (λ ticket. ¬ IsNext directory.now user ticket) self.now) }
@@ -77,14 +77,14 @@ impl GivenUp {
     }
 }
 
-/// Whether the ticket is one of this user that may enter now.
+/// Returns whether the ticket is one of this user that may enter now.
 fn is_next(directory: &Directory, ticket: &Ticket, user: u8) -> bool
     ensures { IsTrue result ↔ IsNext directory.now user ticket.now }
 {
     ticket.user() == user && directory.can_enter(ticket)
 }
 
-/// Lets a ticket that may enter now enter and leave at once. The state is at home then as it was.
+/// Lets a ticket that may enter now enter and leave at once. The state is home again, unchanged.
 fn pass_over(directory: &mut Directory, ticket: Ticket)
     requires { IsSomeAnd (slice_get directory.old ticket.user) (CanEnter ticket.number) }
     ensures { directory.new ≡ with_row_changed ticket.user passed_over directory.old }

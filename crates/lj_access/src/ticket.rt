@@ -1,4 +1,4 @@
-//! Tickets, and why one is refused.
+//! Tickets, and the errors for those that are refused.
 ghost use Rattle.std.specs.Prelude.{◌≡◌};
 
 use lj_session::UserState;
@@ -6,7 +6,7 @@ use std::fmt;
 use std::marker::Model;
 use thiserror::Error;
 
-/// A place in a user's line. A user's tickets enter one after the other, in the order in which they were granted.
+/// A place in a user's queue. A user's tickets enter one after the other, in the order in which they were granted.
 #[derive(Debug, Drop)]
 pub struct Ticket {
     user: u8,
@@ -29,14 +29,14 @@ impl Ticket {
         Ticket { user, number }
     }
 
-    /// The number of its user. Users are numbered from 0.
+    /// Returns the number of its user. Users are numbered from 0.
     pub fn user(&self) -> u8
         ensures { result ≡ self.now.user }
     {
         self.user
     }
 
-    /// Its number among the tickets of its user, from 0.
+    /// Returns its number among the tickets of its user, from 0.
     pub fn number(&self) -> u32
         ensures { result ≡ self.now.number }
     {
@@ -44,7 +44,7 @@ impl Ticket {
     }
 }
 
-/// A HELLO that was denied. It does not tell whether the name or the token was wrong, or whether no ticket is left.
+/// A HELLO that was denied. It does not say whether the name or the token was wrong, or whether no ticket is left.
 #[derive(Clone, Copy, PartialEq, Eq, Debug, Error)]
 #[error("denied")]
 pub struct Denied;

@@ -6,7 +6,7 @@ ghost use Rattle.std.specs.Str.{bytes_eq};
 use lj_base::{Name, Token};
 use lj_quota::Quota;
 
-/// Who may have a state, and how much it may hold.
+/// A user, with the quota of the user's state.
 #[derive(Debug, Drop)]
 pub struct User {
     pub name: Name,
@@ -14,7 +14,7 @@ pub struct User {
     pub quota: Quota,
 }
 
-/// Whether one of these users has this name.
+/// Returns whether one of these users has this name.
 pub fn is_named(users: &[User], name: &Name) -> bool
     ensures { result ≡ list_any (λ user. bytes_eq name.now user.name) users.now }
 {

@@ -1,4 +1,4 @@
-//! What the directory keeps of a user.
+//! The row of a user in the directory.
 ghost use Rattle.std.specs.Prelude.{◌≡◌, ◌↔◌, ◌<◌, IsTrue, IsSome, Some, None};
 ghost use Rattle.lj_access.specs.Rows.{first_row, is_of, HasTicketLeft, IsFirst, CanEnter, HasEntered, with_ticket, without_home, with_home};
 ghost use Rattle.lj_session.specs.UserState.{Reached};
@@ -12,7 +12,7 @@ use std::marker::Model;
 /// The most tickets of one user.
 pub const MAX_TICKETS: u64 = 4_294_967_296;
 
-/// A user: its tickets that were granted, how many of them have left, and its state while no ticket has it.
+/// A user: the number of tickets granted and of those that have left, and the state while it is at home.
 #[derive(Drop)]
 pub(crate) struct Row {
     name: Name,
@@ -31,7 +31,7 @@ impl Model for Row {
 }
 
 impl Row {
-    /// A user without tickets, whose state has no sessions.
+    /// Makes the row of a user without tickets, whose state has no sessions.
     pub(crate) fn new(alloc: Global, user: User) -> Row
         ensures { result ≡ first_row user }
     {
@@ -50,21 +50,21 @@ impl Row {
         &self.name
     }
 
-    /// Whether the user has this name and this token.
+    /// Returns whether the user has this name and this token.
     pub(crate) fn is_of(&self, name: &[u8], token: &[u8]) -> bool
         ensures { result ≡ is_of name.now token.now self.now }
     {
         (self.name.as_bytes() == name) & self.token.is(token)
     }
 
-    /// Whether a ticket more may be granted.
+    /// Returns whether another ticket may be granted.
     pub(crate) fn has_ticket_left(&self) -> bool
         ensures { IsTrue result ↔ HasTicketLeft self.now }
     {
         self.granted < MAX_TICKETS
     }
 
-    /// Grants the next ticket, and answers its number.
+    /// Grants the next ticket, and returns its number.
     pub(crate) fn grant(&mut self) -> u32
         requires { HasTicketLeft self.old }
         ensures number { result ≡ self.old.granted }
@@ -75,14 +75,14 @@ impl Row {
         granted as u32
     }
 
-    /// Whether the ticket of this number may enter.
+    /// Returns whether the ticket of this number may enter.
     pub(crate) fn can_enter(&self, number: u32) -> bool
         ensures { IsTrue result ↔ CanEnter number self.now }
     {
         self.is_first(number) && self.home.is_some()
     }
 
-    /// Whether the ticket of this number has entered and has not left.
+    /// Returns whether the ticket of this number has entered and has not left.
     pub(crate) fn has_entered(&self, number: u32) -> bool
         ensures { IsTrue result ↔ HasEntered number self.now }
     {
@@ -95,7 +95,7 @@ impl Row {
         u64::from(number) < self.granted && self.past == u64::from(number)
     }
 
-    /// The state, which is then not at home.
+    /// Lends the state, which is then not at home.
     pub(crate) fn lend(&mut self) -> UserState
         requires { IsSome self.old.home }
         ensures state { self.old.home ≡ Some result }
@@ -107,7 +107,7 @@ impl Row {
         state
     }
 
-    /// Puts the state home, and one ticket more has left.
+    /// Takes the state home, and counts one more ticket that has left.
     pub(crate) fn take_home(&mut self, number: u32, state: UserState)
         requires { HasEntered number self.old }
         ensures { self.new ≡ with_home state self.old }

@@ -4,7 +4,7 @@ use Rattle.std.specs.List.{list_all}
 use Rattle.std.specs.Char.{is_ascii_alphanumeric}
 use Rattle.lj_base.specs.declared.tokens.TheConstants.{TOKEN_BYTES}
 
--- 32 letters or digits
+-- 32 ASCII letters or digits
 abbrev pub is_token : List ℕ → Bool
 is_token word = length word == TOKEN_BYTES && list_all is_ascii_alphanumeric word
 
@@ -12,6 +12,6 @@ is_token word = length word == TOKEN_BYTES && list_all is_ascii_alphanumeric wor
 abbrev pub IsToken : List ℕ → Type 0
 IsToken word = is_token word ≡ true
 
--- the token that a word is
+-- a word as a token, if it is one
 abbrev pub token_of : List ℕ → Option (List ℕ)
 token_of word = if is_token word then Some word else None

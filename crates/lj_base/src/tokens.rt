@@ -1,4 +1,4 @@
-//! What a user shows to be let in.
+//! Tokens: the secrets that admit users.
 ghost use Rattle.std.specs.Prelude.{◌≡◌, Some, codes};
 ghost use Rattle.std.specs.List.{list_all};
 ghost use Rattle.std.specs.Char.{is_ascii_alphanumeric};
@@ -8,10 +8,10 @@ ghost use Rattle.lj_base.specs.Tokens.{is_token, token_of};
 use std::fmt;
 use std::marker::Model;
 
-/// How many bytes a token has.
+/// The number of bytes in a token.
 pub const TOKEN_BYTES: usize = 32;
 
-/// What a user shows to be let in: exactly 32 letters or digits. It is never printed.
+/// The secret that admits a user: exactly 32 ASCII letters or digits. It is never printed.
 #[derive(Drop)]
 pub struct Token {
     bytes: [u8; TOKEN_BYTES],
@@ -29,7 +29,7 @@ impl Model for Token {
 }
 
 impl Token {
-    /// The token that `word` is, if it is one.
+    /// Returns `word` as a token, if it is one.
     pub fn parse(word: &[u8]) -> Option<Token>
         ensures { result ≡ token_of word.now }
     {
@@ -41,14 +41,14 @@ impl Token {
         Some(Token { bytes })
     }
 
-    /// Its bytes.
+    /// Returns the bytes.
     pub fn as_bytes(&self) -> &[u8]
         ensures { result.now ≡ self.now }
     {
         &self.bytes
     }
 
-    /// Whether `word` is this token.
+    /// Returns whether `word` is this token.
     pub fn is(&self, word: &[u8]) -> bool
         ensures { result ≡ bytes_eq self.now word.now }
     {
@@ -68,7 +68,7 @@ fn all_alphanumeric(word: &[u8]) -> bool
     word.iter().all(|byte| byte.is_ascii_alphanumeric())
 }
 
-// All bytes are compared, so that the time that it takes does not tell how many of them are right.
+// Compares all bytes, so that the time it takes does not reveal how many of them are right.
 fn is_same(bytes: &[u8], word: &[u8]) -> bool
     ensures { result ≡ bytes_eq bytes.now word.now }
 {

@@ -1,14 +1,14 @@
--- What happens in a visit, besides what is read and written: who is let in, whose state goes out and comes home, and which end
--- of the pool is made.
+-- The events of a visit besides reads and writes: who is let in, whose state is lent and taken home, and which end of the pool is
+-- made.
 use Rattle.std.specs.Prelude.{◌≡◌, ℕ, List, ◌++◌, Option, Some, None, ⊤}
 use Rattle.lj_session.specs.UserState.{UserState}
 use Rattle.lj_access.specs.Rows.{Ticket}
 use Rattle.lj_pool.specs.Seen.{Seen}
 use Rattle.lj_visit.specs.declared.backend.Shut.{Shut}
 
--- a ticket is granted to a name and a token, or none is; the ticket enters, and its user's state is lent to it, or it does not; an
--- end is made for a user, and taken back with what it has seen and how often it was asked for others, when what the pool has of
--- the user is dropped; a state comes home from a ticket; all is closed
+-- A ticket is granted to a name and a token, or denied; it enters, and its user's state is lent to it, or it does not. An end is
+-- made for a user; later it is taken back, with what it has seen and how often it was asked for others, and what the pool has of
+-- the user is dropped. A state comes home from a ticket. All is closed.
 pub data Event : Type 0 where
   granted : List ℕ → List ℕ → Ticket → Event
   denied : List ℕ → List ℕ → Event
@@ -19,7 +19,7 @@ pub data Event : Type 0 where
   left : Ticket → UserState → Event
   closed : Event
 
--- what has happened goes on by these events, where it is known
+-- these events are appended to those that have happened, where they are known
 abbrev pub Happens : Option (List Event) → Option (List Event) → List Event → Type 0
 Happens None after events = ⊤
 Happens (Some before) None events = ⊥

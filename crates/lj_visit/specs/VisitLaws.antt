@@ -1,4 +1,4 @@
--- Visits of one user, one after the other: what they say together.
+-- Laws of the visits of one user, one after the other.
 use Rattle.std.specs.Prelude.{◌≡◌, ◌≢◌, ℕ, Bool, List, [], ◌∷◌, ◌++◌, map, Some, ◌⊎◌}
 use Rattle.std.specs.List.{concat}
 use Rattle.lj_quota.specs.declared.Quota.{Quota}
@@ -11,8 +11,8 @@ use Rattle.lj_pool.specs.declared.engine.served.Served.TheVariants.{WriteFault}
 use Rattle.lj_pool.specs.Seen.{Seen, nothing_seen}
 use Rattle.lj_pool.specs.Served.{BreaksOff, IsServed}
 
--- A visit whose state came home: how it ended, the state that was lent, what was read behind the first line and written behind
--- OK HELLO, what its end of the pool has seen, and the state that came home.
+-- A visit whose state came home: how it ended, the state that was lent, the bytes read after the first line and written after OK
+-- HELLO, what its end of the pool has seen, and the state that came home.
 pub record Attendance : Type 0 where
   pub served : Served
   pub state : UserState
@@ -21,7 +21,7 @@ pub record Attendance : Type 0 where
   pub seen : Seen
   pub next : UserState
 
--- it was served so
+-- the visit was served as its fields say
 abbrev pub IsAttendance : Attendance → Type 0
 IsAttendance visit = IsServed visit.served visit.state visit.read visit.written nothing_seen visit.seen (Some visit.next)
 
@@ -33,12 +33,12 @@ IsWhole visit = Dialogue (user_of visit.state) visit.read visit.written (user_of
 abbrev pub IsBroken : Attendance → Type 0
 IsBroken visit = BreaksOff (user_of visit.state) visit.read visit.written (user_of visit.next)
 
--- Each visit is a whole dialogue, or one that a failed write has broken off.
+-- Each visit is a whole dialogue, or one broken off by a failed write.
 abbrev pub AttendedIsAnswered : Type 0
 AttendedIsAnswered = (visit : Attendance) → IsAttendance visit
     → (visit.served ≢ WriteFault × IsWhole visit) ⊎ ((visit.served ≡ WriteFault) × IsBroken visit)
 
--- the items of a visit's lines that were answered, with their marks; the last one too where a write failed within its text
+-- the answered items of a visit, with their marks; the last one too if a write failed within its text
 abbrev pub AnswersItems : Attendance → List Item → List Bool → Type 0
 AnswersItems visit items marks =
     ((whole : IsWhole visit) × (visit.served ≢ WriteFault) × (items ≡ whole.items) × (marks ≡ whole.marks))
@@ -46,7 +46,7 @@ AnswersItems visit items marks =
     × (items ≡ broken.reaches.progress.items ++ broken.item ∷ [])
     × (marks ≡ broken.reaches.progress.marks ++ broken.mark ∷ []))
 
--- the items of all visits that were answered, with their marks
+-- the answered items of all visits, with their marks
 abbrev pub AnswersAll : List Attendance → List Item → List Bool → Type 0
 AnswersAll [] items marks = (items ≡ []) × (marks ≡ [])
 AnswersAll (visit ∷ visits) items marks =
@@ -54,7 +54,7 @@ AnswersAll (visit ∷ visits) items marks =
     × (items ≡ own ++ others) × (marks ≡ own_marks ++ other_marks)
     × AnswersItems visit own own_marks × AnswersAll visits others other_marks
 
--- from a state on, each state that is lent is the one that came home last, and this is the last of all
+-- from a state on, each visit is lent the state that came home before it, and `last` comes home last
 abbrev pub Follow : UserState → List Attendance → UserState → Type 0
 Follow state [] last = state ≡ last
 Follow state (visit ∷ visits) last = (visit.state ≡ state) × IsAttendance visit × Follow visit.next visits last
@@ -68,8 +68,8 @@ NoneFails (visit ∷ visits) = (visit.served ≢ WriteFault) × NoneFails visits
 abbrev pub all_written : List Attendance → List ℕ
 all_written visits = concat (map (λ (visit : Attendance). visit.written) visits)
 
--- The visits of a user, from its opening state on, lead to the state that all items answered lead to, folded alone. Where no
--- write fails, what was written in all of them is what these items are answered alone.
+-- The visits of a user, from the state without sessions on, end with the state that all items answered, folded alone, lead to.
+-- Where no write fails, what was written in all of them is the replies to these items alone.
 pub record IsOneFold (quota : Quota) (visits : List Attendance) (last : UserState) : Type 0 where
   pub items : List Item
   pub marks : List Bool

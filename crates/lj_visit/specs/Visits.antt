@@ -24,7 +24,7 @@ use Rattle.lj_visit.specs.declared.visiting.Visited.TheVariants.{NoLine, Denied,
 use Rattle.lj_visit.specs.Events.{Event, Happens}
 use Rattle.lj_visit.specs.Events.Event.{granted, denied, entered, shut_out, opened, withdrawn, left, closed}
 
--- how a writer stands: what was written, and its count of faults, where they are known
+-- the state of a writer: the bytes written, and its count of faults, where they are known
 pub record Writer : Type 0 where
   pub contents : Option (List ℕ)
   pub faults : Option ℕ
@@ -48,7 +48,7 @@ pub record Tells (line : List ℕ) (old new : Writer) : Type 0 where
 abbrev pub IsUnasked : LineReader → LineReader → Type 0
 IsUnasked first last = GreetsNone first last ⊎ HasFailedEarly first last
 
--- what happens where a first line is denied: nothing is asked for where it is no HELLO
+-- the events of a denied first line: none if it is no HELLO
 abbrev pub events_denied : Hello → List Event
 events_denied Other = []
 events_denied (Asked name token) = denied name token ∷ []
@@ -81,7 +81,7 @@ pub record IsNotWelcomed (first last : LineReader) (old new : Writer) (before af
   pub fault : Rises old.faults new.faults
   pub happens : Happens before after (granted name token ticket ∷ entered ticket state ∷ left ticket state ∷ [])
 
--- the state comes home that serving has handed back, if it has
+-- the state that serving has handed back, if any, comes home
 abbrev pub events_leaving : Ticket → Option UserState → List Event
 events_leaving ticket (Some state) = left ticket state ∷ []
 events_leaving ticket None = []
@@ -92,7 +92,7 @@ events_closing TooManyStrays = closed ∷ []
 events_closing served = []
 
 -- A state that was lent is served over an end that was made for the ticket's user and asked for no other. Then what the pool has
--- of the user is dropped, and after that the state comes home that serving has handed back.
+-- of the user is dropped, and after that the state that serving has handed back, if any, comes home.
 pub record IsServing (served : Served) (ticket : Ticket) (state : UserState) (first last : LineReader) (old new : Writer)
     (before after : Option (List Event)) : Type 0 where
   pub seen : Seen
@@ -109,8 +109,7 @@ pub record IsServing (served : Served) (ticket : Ticket) (state : UserState) (fi
   pub happens : Happens before after (opened ticket.user ∷ withdrawn ticket.user seen 0
       ∷ (events_leaving ticket next ++ events_closing served))
 
--- The ticket entered, OK HELLO was written, and then the dialogue of the lines that follow, from the state that was lent, which
--- comes home.
+-- The ticket entered, OK HELLO was written, and the lines that follow were served from the state that was lent.
 pub record IsAttended (served : Served) (first last : LineReader) (old new : Writer) (before after : Option (List Event)) :
     Type 0 where
   pub name : List ℕ
@@ -127,7 +126,7 @@ pub record IsAttended (served : Served) (first last : LineReader) (old new : Wri
   pub serving :
       IsServing served ticket state lines last (record { contents = welcomed; faults = old.faults }) new lent after
 
--- what a visit that ends so reads, writes and does
+-- what a visit reads, writes and does, by how it ends
 abbrev pub IsVisit : Visited → LineReader → LineReader → Writer → Writer → Option (List Event) → Option (List Event) → Type 0
 IsVisit NoLine first last old new before after = IsUnasked first last × (new ≡ old) × (after ≡ before)
 IsVisit Denied first last old new before after = IsDenied first last old new before after

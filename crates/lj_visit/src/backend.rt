@@ -1,4 +1,4 @@
-//! What a visit is lent: who lets its user in, and the user's end of a pool.
+//! The backend of a visit: it lets the user in, and makes the user's end of a pool.
 ghost use Rattle.std.specs.Prelude.{◌≡◌, ◌∷◌, [], ℕ, List, Option, IfOk, IfErr, OnErr};
 ghost use Rattle.lj_session.specs.UserState.{Reached};
 ghost use Rattle.lj_pool.specs.Seen.{nothing_seen};
@@ -10,7 +10,7 @@ use lj_base::{Name, Token};
 use lj_pool::Pool;
 use lj_session::UserState;
 
-/// A user's state while a ticket has it.
+/// A user's state, lent to a ticket.
 #[derive(Drop)]
 pub struct Lent {
     pub ticket: Ticket,
@@ -33,12 +33,12 @@ pub enum Shut {
     Gone,
 }
 
-/// What stands behind a connection, as one visit is lent it.
+/// The backend of a connection, as it is lent to one visit.
 pub trait Backend {
-    /// The pool of an end.
+    /// The end of a pool.
     type End: Pool;
 
-    // What has happened here, in order, where it is known.
+    // The events so far, in order, where they are known.
     ghost events: { Self → Option (List Event) };
 
     /// Grants a ticket to the user with this name and this token.
@@ -77,11 +77,11 @@ pub trait Backend {
             (⟦<<Self as Backend>::End as Pool>⟧.seen end.pool)
             (⟦<<Self as Backend>::End as Pool>⟧.for_others end.pool end.user) ∷ []) };
 
-    /// Takes a state home from the ticket that it was lent to, whose user's next ticket may then enter.
+    /// Takes a state home from the ticket that it was lent to. The user's next ticket may then enter.
     fn leave(&mut self, lent: Lent)
         ensures { Happens (events self.old) (events self.new) (left lent.ticket lent.state ∷ []) };
 
-    /// From now on no ticket enters, and no task is computed.
+    /// Closes the backend: from now on no ticket enters, and no task is computed.
     fn close(&mut self)
         ensures { Happens (events self.old) (events self.new) (closed ∷ []) };
 }

@@ -1,5 +1,5 @@
-//! A connection of a user, from its first line to its end, as a function of what it is lent: who lets users in, a pool, a
-//! reader of lines and a writer.
+//! A connection of a user, from its first line to its end, over a backend that lets users in and has a pool, a reader of lines
+//! and a writer.
 #![tactic(auto)]
 
 mod backend;

@@ -1,8 +1,8 @@
-//! Laws of visits: functions that do nothing of their own, whose contracts are the laws.
+//! Laws of visits: the contracts of functions with empty bodies.
 ghost use Rattle.lj_visit.specs.VisitLaws.{AttendedIsAnswered, VisitsAreOneFold};
 
-/// Promise: what is written to a user behind OK HELLO is the dialogue of its lines, from the state that it was lent:
-/// whole, or where a write failed a front that ends within the last item that was answered.
+/// Promise: what is written to a user after OK HELLO is the dialogue of its lines, from the state that it was lent: whole, or
+/// where a write failed a front that ends within the reply to the last item answered.
 pub fn attended_is_answered()
     ensures { AttendedIsAnswered }
 {}

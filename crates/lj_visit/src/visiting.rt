@@ -25,17 +25,16 @@ pub enum Visited {
     Denied,
     /// The ticket did not enter.
     ShutOut(Shut),
-    /// The user was gone before it was let in.
+    /// The ticket entered, but OK HELLO could not be written.
     NotWelcomed,
     /// The user's commands were answered.
     Attended(Served),
 }
 
-/// Answers a connection: reads its first line, lets in whom that names, answers the lines that follow, and brings the user's
+/// Serves a connection: reads its first line, lets in the user named there, answers the lines that follow, and takes the user's
 /// state home.
 ///
-/// Promise: by how the visit ends: what was read, what was written, and which events came at the backend, in which
-/// order.
+/// Promise: for each way in which the visit ends, what was read, what was written, and which events the backend had, in order.
 pub fn visit<B: Backend, S: Source, W: Sink>(
     backend: &mut B,
     lines: &mut LineReader<S>,
@@ -59,7 +58,7 @@ pub fn visit<B: Backend, S: Source, W: Sink>(
     }
 }
 
-/// Lets in the user of this name whose ticket this is, once it enters.
+/// Waits until the ticket enters, lets its user in by this name, and answers the user's lines.
 fn admit<B: Backend, S: Source, W: Sink>(
     backend: &mut B,
     name: &Name,
@@ -85,7 +84,7 @@ fn admit<B: Backend, S: Source, W: Sink>(
     Visited::Attended(attend(backend, lent, lines, writer))
 }
 
-/// Answers the lines of a user to whom its state was lent, over an end of its own, and brings the state home.
+/// Answers the lines of a user whose state was lent, over an end of the user's own, and takes the state home.
 fn attend<B: Backend, S: Source, W: Sink>(
     backend: &mut B,
     lent: Lent,
@@ -108,7 +107,7 @@ fn attend<B: Backend, S: Source, W: Sink>(
     served
 }
 
-/// Brings a state home from the ticket that it was lent to, if there is one.
+/// Takes the state home, if there is one, from the ticket that it was lent to.
 fn bring_home<B: Backend>(backend: &mut B, ticket: Ticket, state: Option<UserState>)
     ensures { Happens (B.events backend.old) (B.events backend.new) (events_leaving ticket state) }
 {
@@ -117,7 +116,7 @@ fn bring_home<B: Backend>(backend: &mut B, ticket: Ticket, state: Option<UserSta
     }
 }
 
-/// Closes all after too many strays.
+/// Closes the backend if serving ended with too many strays.
 fn close_after<B: Backend>(backend: &mut B, served: Served)
     ensures { Happens (B.events backend.old) (B.events backend.new) (events_closing served) }
 {
@@ -126,7 +125,7 @@ fn close_after<B: Backend>(backend: &mut B, served: Served)
     }
 }
 
-/// Tells a connection that it is let in as this user.
+/// Writes OK HELLO with the user's name, and flushes it.
 fn welcome<W: Sink>(writer: &mut W, name: &Name) -> Result<(), WriteFault>
     ensures written { OnOk result
         (Appends (W.contents writer.old) (W.contents writer.new) (welcome_line name.now)) }
@@ -140,7 +139,7 @@ fn welcome<W: Sink>(writer: &mut W, name: &Name) -> Result<(), WriteFault>
     tell(writer, &line)
 }
 
-/// Tells a connection that it is not let in.
+/// Writes the refusal DENIED, and returns how the visit has ended.
 fn deny<W: Sink>(writer: &mut W) -> Visited
     ensures denied { result ≡ Denied }
     ensures told { Tells denied_line
@@ -153,7 +152,7 @@ fn deny<W: Sink>(writer: &mut W) -> Visited
     Visited::Denied
 }
 
-/// Writes a line and sends it. After a fault the first bytes of it may have been written.
+/// Writes a line and flushes it. After a fault the first bytes of it may have been written.
 fn tell<W: Sink>(writer: &mut W, line: &Line) -> Result<(), WriteFault>
     ensures written { OnOk result (Appends (W.contents writer.old) (W.contents writer.new) line.now.items) }
     ensures counted { OnOk result (W.faults writer.new ≡ W.faults writer.old) }
