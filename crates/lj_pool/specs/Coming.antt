@@ -1,4 +1,4 @@
--- What is still to come of what is owed to the sessions and of what waits: turns, tiles, and posts.
+-- The work still to come for the steps owed to sessions and for the pending command: turns, tiles, and posts.
 use Rattle.std.specs.Prelude.{◌≡◌, ◌≤◌, ℕ, ◌+◌, ◌-◌, true, false, nat_lt, List, Option, Some, None, if◌then◌else◌}
 use Rattle.std.specs.Option.{option_map_or}
 use Rattle.lj_step.specs.Motion.{next_simulation}
@@ -11,20 +11,20 @@ use Rattle.lj_pool.specs.Seen.{Seen}
 use Rattle.lj_pool.specs.Gathering.{Gathers, tiles_left_in}
 use Rattle.lj_pool.specs.Counting.{steps_tiles, command_tiles, sum_over, CountsRise, HandedWithin}
 
--- how many tiles the steps of a session have that are owed after the open one
+-- the number of tiles of the steps owed to a session after the open one
 abbrev pub tiles_after : HeldSession → ℕ
 tiles_after held =
     steps_tiles held.live.composition (held.owed - 1) (next_simulation held.live.composition held.live.sim)
 
--- how many tiles of a session are still to come in
+-- the number of tiles of a session whose results are still to come
 abbrev pub tiles_of_session : HeldSession → ℕ
 tiles_of_session held = tiles_left_in held.live.part + tiles_after held
 
--- how many tiles of a session still come after the last one that was posted
+-- the number of tiles of a session after the last one that was posted
 abbrev pub posts_of_session : HeldSession → ℕ
 posts_of_session held = (tiles_of held.live - held.passed) + tiles_after held
 
--- the tiles of what waits for steps that are owed, and so has none of its own among these yet
+-- the tiles of the pending command's own steps, while it waits for steps owed before it
 abbrev pub waiting_tiles_of : Owner → Option Command → ℕ
 waiting_tiles_of owner None = 0
 waiting_tiles_of owner (Some command) =
@@ -33,33 +33,33 @@ waiting_tiles_of owner (Some command) =
 abbrev pub waiting_tiles : Owner → ℕ
 waiting_tiles owner = waiting_tiles_of owner owner.waiting
 
--- how many turns are to come
+-- the number of turns to come
 abbrev pub turns_coming : Owner → ℕ
 turns_coming owner =
     sum_over (λ held. held.owed) owner.state + option_map_or (turns (user_in owner)) owner.waiting 0
 
--- how many tiles are to come in of what is owed
+-- the number of tiles to come of the steps owed
 abbrev pub tiles_to_come : UserState → ℕ
 tiles_to_come owned = sum_over tiles_of_session owned
 
--- how many tiles are to come in of what is owed and of what waits
+-- the number of tiles to come of the steps owed and of the pending command
 abbrev pub tiles_coming : Owner → ℕ
 tiles_coming owner = tiles_to_come owner.state + waiting_tiles owner
 
--- how many tiles are to be posted, those included that come in before their turn
+-- the number of tiles to be posted, or to be skipped because their results come before
 abbrev pub posts_coming : Owner → ℕ
 posts_coming owner = sum_over posts_of_session owner.state + waiting_tiles owner
 
--- No session is owed more steps than before, but the one that is waited for.
+-- No session is owed more steps than before, except the one that the pending command waits for.
 abbrev pub OwesNoMore : Owner → UserState → Type 0
 OwesNoMore old new = (name : List ℕ) → is_waited_for old.waiting name ≡ false → owed_in new name ≤ owed_in old.state name
 
--- No step is owed to the session that was waited for.
+-- No step is owed to the session that the pending command waited for.
 abbrev pub OwesNoneWhereWaited : Owner → UserState → Type 0
 OwesNoneWhereWaited old new = (name : List ℕ) → is_waited_for old.waiting name ≡ true → owed_in new name ≡ 0
 
--- The work goes on: what will be answered stays, each tile that came in was counted, each result that was handed out and owed
--- was of such a tile, and no session is owed more steps but the one that is waited for, which stays the same.
+-- The work goes on: the replies to come stay the same, each tile that came in was counted, each owed result handed out was of one
+-- of these, and no session is owed more steps except the one that is waited for, which stays the same.
 pub record GoesOn (old : Owner) (before : Seen) (new : Owner) (after : Seen) : Type 0 where
   pub gathers : Gathers new after.owed
   pub alike : WaitsAlike old new

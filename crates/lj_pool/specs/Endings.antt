@@ -1,4 +1,4 @@
--- How serving ends with an item, or with a command that is given up.
+-- How serving ends: with an item, or with a command that is given up.
 use Rattle.std.specs.Prelude.{Option, Some, None}
 use Rattle.lj_session.specs.declared.command.Command.TheVariants.{Bye as ByeCommand}
 use Rattle.lj_wire.specs.declared.item.Item.{Item}
@@ -8,7 +8,7 @@ use Rattle.lj_pool.specs.declared.engine.running.Halt.TheVariants as halt
 use Rattle.lj_pool.specs.declared.engine.served.Served.{Served}
 use Rattle.lj_pool.specs.declared.engine.served.Served.TheVariants.{Bye, Ended, PoolClosed, TooManyStrays}
 
--- why serving ends where a command is given up
+-- how serving ends where a command is given up
 abbrev pub served_of : Halt → Served
 served_of halt.PoolClosed = PoolClosed
 served_of halt.TooManyStrays = TooManyStrays

@@ -1,4 +1,4 @@
--- The open steps whose tasks a pool computes: which tasks are owed, and that each tile still awaited is one of its cover.
+-- The open steps whose tasks a pool computes: which tasks are owed, and that each tile still awaited is one of the step's cover.
 use Rattle.std.specs.Prelude.{◌≡◌, ◌≤◌, ℕ, Bool, true, false, List, [], length, map, take, count_by, slice_index_or, nat_eq}
 use Rattle.std.specs.Prelude.{Option, Some, None, IfSome, IsSome, IsSomeAnd}
 use Rattle.std.specs.List.{filter, IsDistinct}
@@ -12,7 +12,7 @@ use Rattle.lj_session.specs.Turns.{waits_for}
 use Rattle.lj_session.specs.UserState.{HeldSession, UserState, IsAtWork, held_session, owed_in, names}
 use Rattle.lj_session.specs.Owner.{Owner, label_of}
 
--- how often a number stands in a list
+-- how often a number occurs in a list
 abbrev pub times : ℕ → List ℕ → ℕ
 times k numbers = count_by (λ j. nat_eq j k) numbers
 
@@ -20,27 +20,27 @@ times k numbers = count_by (λ j. nat_eq j k) numbers
 abbrev pub is_awaited : List Bool → ℕ → Bool
 is_awaited flags k = slice_index_or flags k false
 
--- the numbers of the first tiles of a cover that are awaited
+-- the numbers of the awaited tiles among the first `passed` of a cover
 abbrev pub posted_tiles : List Bool → ℕ → List ℕ → List ℕ
 posted_tiles flags passed tiles = filter (is_awaited flags) (take passed tiles)
 
--- the tasks of an open step that are among the first so many of its cover and not in, in order of the cover
+-- the tasks of an open step among the first `passed` of its cover whose results are not in, in order of the cover
 abbrev pub tasks_posted_in : Label → Sim → ℕ → Option OpenStep → List Task
 tasks_posted_in label live passed None = []
 tasks_posted_in label live passed (Some step) =
     map (task_of live label step.kind) (posted_tiles step.awaited passed (cover live.composition live.sim.cur))
 
--- the tasks of a session that are posted and not in
+-- the tasks of a session that are posted and whose results are not in
 abbrev pub tasks_posted_of : Label → Option HeldSession → List Task
 tasks_posted_of label None = []
 tasks_posted_of label (Some held) = tasks_posted_in label held.live held.passed held.live.part
 
--- how many tiles an open step awaits
+-- the number of tiles that an open step awaits
 abbrev pub tiles_left_in : Option OpenStep → ℕ
 tiles_left_in None = 0
 tiles_left_in (Some step) = tiles_left step
 
--- Each tile that the open step of a session awaits stands in its cover once, so there are no more than that has.
+-- Each tile that the open step of a session awaits is in its cover once, and it awaits no more tiles than the cover has.
 pub record IsGathered (held : HeldSession) : Type 0 where
   pub once : (step : OpenStep) (k : ℕ) → held.live.part ≡ Some step → is_awaited step.awaited k ≡ true
       → times k (cover held.live.composition held.live.sim.cur) ≡ 1
@@ -50,13 +50,13 @@ pub record IsGathered (held : HeldSession) : Type 0 where
 abbrev pub is_of : List ℕ → Task → Bool
 is_of name work = bytes_eq name work.name.label.session
 
--- a step is open in the session that what waits, waits for
+-- a step is open in the session that the pending command waits for
 abbrev pub IsOpenFor : UserState → Command → Type 0
 IsOpenFor owned command = IsSomeAnd (waits_for command)
     (λ name. IsSomeAnd (held_session owned name) (λ held. IsSome held.live.part))
 
--- What is owed are, of each session, the tasks of its open step that are posted and not in, and nothing else. A step is open in
--- each session that owes one, and in that which a command waits for.
+-- The tasks owed are, for each session, those of its open step that are posted and whose results are not in, and no others. A
+-- step is open in each session to which steps are owed, and in the one that a command waits for.
 pub record Gathers (owner : Owner) (owed : List Task) : Type 0 where
   pub at_work : IsAtWork owner.waiting owner.state
   pub waits : IfSome owner.waiting (IsOpenFor owner.state)
@@ -66,6 +66,6 @@ pub record Gathers (owner : Owner) (owed : List Task) : Type 0 where
   pub each : (name : List ℕ)
       → filter (is_of name) owed ≡ tasks_posted_of (label_of owner name) (held_session owner.state name)
 
--- no step is owed to a session
+-- no step is owed to any session
 abbrev pub NoneOwed : UserState → Type 0
 NoneOwed owned = (name : List ℕ) → owed_in owned name ≡ 0

@@ -11,7 +11,7 @@ most_owed = refl
 most_ahead : MAX_AHEAD ≡ 15
 most_ahead = refl
 
--- where 63 ends await their next command, a book has room for all that may be owed to one more
+-- a book has room for 63 ends that await their next command, and for all that may be owed to one more
 room_for_one_more : nat_le (63 * MAX_AHEAD + MAX_OWED) MAX_ENTRIES ≡ true
 room_for_one_more = refl
 

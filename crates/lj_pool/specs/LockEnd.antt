@@ -3,8 +3,7 @@ use Rattle.std.specs.Prelude.{ℕ, List}
 use Rattle.lj_tile.specs.Task.{Task}
 use Rattle.lj_pool.specs.Seen.{Seen}
 
--- what the end has seen, the task of the result that it was handed last, those of the results that it has in hand, and how
--- many of its boxes are spare
+-- what the end has seen, the task of the result handed out last, those of the results in hand, and the number of spare boxes
 pub record LockEnd : Type 0 where
   pub seen : Seen
   pub last : Task

@@ -1,5 +1,5 @@
--- The most steps that may be owed to a session after some items: what was owed before, and what each START that was granted
--- since then adds; none once an item has waited for the session.
+-- An upper bound of the steps owed to a session after some items: those owed before, and those of each START granted since then;
+-- 0 once an item has waited for the session.
 use Rattle.std.specs.Prelude.{◌+◌, ◌≤◌, ℕ, Bool, List, [], ◌∷◌, if◌then◌else◌, Some}
 use Rattle.std.specs.Str.{bytes_eq}
 use Rattle.lj_branch.specs.Named.{value_named}
@@ -13,33 +13,33 @@ use Rattle.lj_wire.specs.declared.item.Item.{Item}
 use Rattle.lj_wire.specs.declared.item.Item.TheVariants.{Command as Ordered, Bad, Last}
 use Rattle.lj_wire.specs.Told.{item_text, first_mark, other_marks}
 
--- how many steps a command owes to a session: a START of it as many as it asks for, if the session may go on by them
+-- the number of steps that a command adds to those owed to a session: those of its START, if the session may make them
 unfoldable pub steps_started : User → Command → List ℕ → ℕ
 steps_started user (Start session n) name =
     if bytes_eq session name then advance_turns (value_named session user.sessions) n else 0
 steps_started user _ name = 0
 
--- the most steps that may be owed to a session after an item, if so many may be before
+-- the bound after an item, from the bound n before it
 abbrev pub most_after : User → Item → List ℕ → ℕ → ℕ
 most_after user (Ordered command) name n =
     if is_waited_for (Some command) name then 0 else n + steps_started user command name
 most_after user (Bad fault) name n = n
 most_after user (Last fault) name n = n
 
--- so after items, each answered from the user that those before it leave
+-- the bound after items, each answered from the user that those before it leave
 abbrev pub most_after_all : User → List Item → List Bool → List ℕ → ℕ → ℕ
 most_after_all user [] marks name n = n
 most_after_all user (item ∷ items) marks name n =
     most_after_all (item_text user item (first_mark marks)).1 items (other_marks marks) name (most_after user item name n)
 
--- the most steps that may be owed to a session of the state after items
+-- the bound for a session of the state after items
 abbrev pub most_owed : UserState → List Item → List Bool → List ℕ → ℕ
 most_owed state items marks name = most_after_all (user_of state) items marks name (owed_in state name)
 
--- After an item no more steps are owed than may be.
+-- After an item no session is owed more steps than its bound.
 abbrev pub OwesAfter : UserState → Item → UserState → Type 0
 OwesAfter old item new = (name : List ℕ) → owed_in new name ≤ most_after (user_of old) item name (owed_in old name)
 
--- So after items.
+-- After items no session is owed more steps than its bound.
 abbrev pub OwesAfterAll : UserState → List Item → List Bool → UserState → Type 0
 OwesAfterAll old items marks new = (name : List ℕ) → owed_in new name ≤ most_owed old items marks name

@@ -1,11 +1,11 @@
--- What lies under the lock of a pool.
+-- The state under the lock of a pool.
 use Rattle.std.specs.Prelude.{◌≡◌, ℕ, ◌+◌, ◌-◌, ◌<◌, ◌≤◌, List, [], ◌∷◌, Option, Some, None}
 use Rattle.lj_tile.specs.Task.{Task}
 use Rattle.lj_book.specs.Book.{BookOf, Fetches}
 use Rattle.lj_book.specs.Boxes.{BoxBook, Numbered, PostsBox, Slip, boxes}
 use Rattle.lj_pool.specs.EndBoxes.{EndBoxes, TakesInHand, box_count}
 
--- a box can be posted: the one at hand if one is lent, else a spare one
+-- there is a box to post in: the one at hand if one is lent, else a spare one
 abbrev pub HasBox : BoxBook → Option Task → Type 0
 HasBox book None = 0 < book.spare
 HasBox book (Some task) = boxes book < book.made
@@ -15,7 +15,7 @@ abbrev pub lending : Option Task → BoxBook → BoxBook
 lending None book = record book { spare = book.spare - 1 }
 lending (Some task) book = book
 
--- A box is spare again, if it was lent.
+-- A box that was lent is spare again; where none was lent, nothing changes.
 pub record PutsBy (old new : BoxBook) : Type 0 where
   pub held : new.held ≡ old.held
   pub made : new.made ≡ old.made
@@ -28,21 +28,21 @@ FetchesEach [] old new = new ≡ old
 FetchesEach (done ∷ others) old new =
     (next : BookOf Numbered Slip) × ((key : ℕ) × Fetches old next done key) × FetchesEach others next new
 
--- The task stands in the book, in a box that was at hand or in one that was spare.
+-- The task was posted into the book, in the box at hand or in a spare one.
 abbrev pub HasPosted : Task → BoxBook → BoxBook → Type 0
 HasPosted work old new = (boxed : Option Task) × (key : ℕ) × PostsBox (lending boxed old) new work key
 
--- These tasks have come into the book, one after the other.
+-- These tasks were posted into the book, one after the other.
 abbrev pub PostsEach : List Task → BoxBook → BoxBook → Type 0
 PostsEach [] old new = new ≡ old
 PostsEach (work ∷ works) old new = (next : BoxBook) × HasPosted work old next × PostsEach works next new
 
--- Of the boxes of the book and of an end none is lost, if the end's were lent.
+-- No box of the book or of an end is lost, if those of the end were lent.
 abbrev pub NoneIsLost : BoxBook → EndBoxes → BoxBook → EndBoxes → Type 0
 NoneIsLost old own new others =
     boxes old + box_count own ≤ old.made → boxes new + box_count others ≡ boxes old + box_count own
 
--- The results that an end took in hand are those that left the book, and no others did.
+-- Exactly the results that an end took in hand have left the book.
 pub record FetchesInHand (user : ℕ) (old : BoxBook) (own : EndBoxes) (new : BoxBook) (others : EndBoxes) : Type 0 where
   pub takes : TakesInHand user own others
   pub fetches : FetchesEach (takes.first ∷ takes.others) old.held new.held

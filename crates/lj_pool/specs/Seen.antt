@@ -1,11 +1,10 @@
--- What an end of a pool has seen: the tasks that it is owed, how many results it was handed, and whether the pool is
--- closed.
+-- What an end of a pool has seen: the tasks that it is owed, the number of results it was handed, and whether the pool is closed.
 use Rattle.std.specs.Prelude.{◌≡◌, ℕ, ◌+◌, ◌-◌, ◌^◌, min, max, Bool, true, false, List, [], ◌∷◌, ◌++◌, ◌⊎◌}
 use Rattle.std.specs.List.{Contains}
 use Rattle.lj_tile.specs.Task.{Task}
 
--- the tasks that are owed, in the order of their posts; how many results were owed and how many were not, as far as
--- they are counted; and whether the pool was seen closed
+-- the tasks owed, in the order of their posts; the numbers of results that were owed and of strays, saturating; and whether the
+-- pool was seen closed
 pub record Seen : Type 0 where
   pub owed : List Task
   pub good : ℕ
@@ -20,11 +19,11 @@ nothing_seen = record { owed = []; good = 0; strays = 0; closed = false }
 abbrev pub last_count : ℕ
 last_count = 2 ^ 64 - 1
 
--- a count that goes up by one: it stays at its last value
+-- a count plus one, saturating at its last value
 abbrev pub one_more : ℕ → ℕ
 one_more n = max n (min (n + 1) last_count)
 
--- what was seen closed is closed from then on
+-- a pool that was seen closed stays closed
 abbrev pub StaysClosed : Seen → Seen → Type 0
 StaysClosed old new = old.closed ≡ true → new.closed ≡ true
 
@@ -46,7 +45,7 @@ pub record ArePosted (tasks : List Task) (old new : Seen) : Type 0 where
   pub good : new.good ≡ old.good
   pub strays : new.strays ≡ old.strays
 
--- The first task that is equal to this one is owed no more, and one result more that was owed is counted.
+-- The first owed task that is equal to this one is taken off, and one more result that was owed is counted.
 pub record TakesOff (task : Task) (old new : Seen) : Type 0 where
   pub front : List Task
   pub behind : List Task
@@ -56,7 +55,7 @@ pub record TakesOff (task : Task) (old new : Seen) : Type 0 where
   pub good : new.good ≡ one_more old.good
   pub strays : new.strays ≡ old.strays
 
--- The task is not owed, and one result more that was not is counted.
+-- The task is not owed, and one more stray is counted.
 pub record IsStray (task : Task) (old new : Seen) : Type 0 where
   pub absent : Contains old.owed task → ⊥
   pub owed : new.owed ≡ old.owed

@@ -37,8 +37,8 @@ EndsByBye items = (earlier : List Item) × (items ≡ earlier ++ Command ByeComm
 abbrev pub EndsByFault : List Item → Type 0
 EndsByFault items = (earlier : List Item) × (fault : Fault) × (items ≡ earlier ++ Last fault ∷ [])
 
--- The dialogue of what was read, whose items end so. The pool's counts have together risen by the tiles of the steps that the
--- items took and of those that were owed before, without those that are owed now, or one of them stands at its last value.
+-- What was read is answered, and its items end as `Ending` says. The pool's counts together rose by the tiles of the steps that
+-- the items took and of those owed before, less those owed now, unless one of them is saturated.
 pub record AnswersAll (Ending : List Item → Type 0) (state : UserState) (read written : List ℕ) (old new : Seen)
     (next : UserState) : Type 0 where
   pub dialogue : Dialogue (user_of state) read written (user_of next)
@@ -46,7 +46,7 @@ pub record AnswersAll (Ending : List Item → Type 0) (state : UserState) (read 
   pub counted : CountsRise
       (tiles (user_of state) dialogue.items dialogue.marks + tiles_owed state - tiles_owed next) old new
 
--- The items before an item of what was read are answered, and then this one comes.
+-- The items read before this one are answered, and this one comes next.
 pub record Reaches (user : User) (read written : List ℕ) (between : User) (item : Item) : Type 0 where
   pub count : ℕ
   pub left : List ℕ
@@ -56,7 +56,7 @@ pub record Reaches (user : User) (read written : List ℕ) (between : User) (ite
   pub goes_on : left ≡ front ++ behind
   pub is_item : IsItem count front item
 
--- The items of what was read are answered up to this one, of whose text only the first bytes are written.
+-- The items read are answered up to this one, and only the first bytes of its text are written.
 pub record BreaksOff (user : User) (read written : List ℕ) (next : User) : Type 0 where
   pub before : List ℕ
   pub between : User
@@ -76,8 +76,8 @@ MayWait state before marks user (Command command) = IsSomeAnd (waits_for command
 MayWait state before marks user (Bad fault) = ⊥
 MayWait state before marks user (Last fault) = ⊥
 
--- The items before one that waits are answered, and nothing is written for that. The pool has handed out fewer results that
--- were owed than there are tiles in the steps that were owed at first, that the items took, and that the last one takes.
+-- The items before a waiting one are answered, and nothing is written for that one. The pool handed out fewer owed results than
+-- there are tiles in the steps owed at first, in those of the answered items, and in those of the waiting one.
 pub record StopsAt (state : UserState) (read written : List ℕ) (old new : Seen) : Type 0 where
   pub between : User
   pub item : Item
@@ -86,7 +86,7 @@ pub record StopsAt (state : UserState) (read written : List ℕ) (old new : Seen
   pub missing : FallsShort
       (tiles (user_of state) reaches.progress.items reaches.progress.marks + tiles_owed state + item_tiles between item) old new
 
--- So many items of what was read are answered, and the pool owes more tasks than it may before the next item is, each of a
+-- The first `count` items read are answered, and the pool owes more tasks than it may before the next item is answered, each of a
 -- session to which steps may be owed then.
 pub record StopsBetween (state : UserState) (read written : List ℕ) (new : Seen) : Type 0 where
   pub count : ℕ
@@ -97,11 +97,11 @@ pub record StopsBetween (state : UserState) (read written : List ℕ) (new : See
       → 0 < most_owed state progress.items progress.marks task.name.label.session
   pub many : MAX_AHEAD < length new.owed
 
--- What is written where the pool was given up.
+-- What is written where the pool is given up.
 abbrev pub StopsShort : UserState → List ℕ → List ℕ → Seen → Seen → Type 0
 StopsShort state read written old new = StopsAt state read written old new ⊎ StopsBetween state read written new
 
--- What is written for what was read, and the state that is handed back.
+-- What is written for what was read, and the state that is handed back, for each way in which serving ends.
 abbrev pub IsServed : Served → UserState → List ℕ → List ℕ → Seen → Seen → Option UserState → Type 0
 IsServed End state read written old new (Some next) = AnswersAll NoneEnds state read written old new next
 IsServed Bye state read written old new (Some next) = AnswersAll EndsByBye state read written old new next
@@ -119,7 +119,7 @@ IsServed WriteFault state read written old new None = ⊥
 IsServed PoolClosed state read written old new (Some next) = ⊥
 IsServed TooManyStrays state read written old new (Some next) = ⊥
 
--- What was read of the bytes that were left, and what was written for it after the contents.
+-- What was read of the bytes left, and what was appended to the contents in reply.
 pub record Serves (served : Served) (state : UserState) (left rest was is : Option (List ℕ)) (old new : Seen)
     (next : Option UserState) : Type 0 where
   pub read : List ℕ

@@ -16,11 +16,11 @@ use Rattle.lj_pool.specs.Counting.{tiles, tiles_owed, CountsRise, HandedWithin}
 use Rattle.lj_pool.specs.Coming.{tiles_to_come}
 use Rattle.lj_pool.specs.Owing.{OwesAfterAll}
 
--- an item is answered by a reply, which leaves the next user, under some mark
+-- an item gets this reply, which leaves the next user, under some mark
 abbrev pub AnswersItem : User → Item → Reply → User → Type 0
 AnswersItem user item reply next = (mark : Bool) × (item_reply user item mark ≡ (reply, next))
 
--- The items that were handed out are answered, and what were read are their bytes.
+-- The items handed out so far are answered, and the bytes read are theirs.
 pub record Serving (start : UserState) (first now : LineReader) (was is : Option (List ℕ)) (old new : Seen)
     (owned : UserState) : Type 0 where
   pub read : List ℕ

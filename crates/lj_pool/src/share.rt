@@ -6,8 +6,8 @@ use std::alloc::{AllocError, Global};
 use std::marker::Model;
 use std::sync::ledger::{self, Book, Ledger};
 
-/// How many results of a worker were accepted. It has one part of the ledger whose book stands beside the count of all
-/// results: what all parts have is that count.
+/// The number of a worker's results that were accepted, with one part of a ledger. The amounts of all parts add up to the number
+/// of all results.
 #[derive(Drop)]
 pub struct Share<L: Ledger> {
     part: ledger::Share<L>,
@@ -25,7 +25,7 @@ impl<L: Ledger> Model for Share<L> {
 }
 
 impl<L: Ledger> Share<L> {
-    /// A share of one part, to which nothing is credited yet.
+    /// Makes a share of one part, to which nothing is credited yet.
     pub fn new(part: ledger::Share<L>) -> Share<L>
         requires one { part.parts ≡ 1 }
         requires nothing { part.amount ≡ 0 }
@@ -34,14 +34,14 @@ impl<L: Ledger> Share<L> {
         Share { part, count: 0 }
     }
 
-    /// How many results of its worker were accepted.
+    /// Returns the number of its worker's results that were accepted.
     pub fn count(&self) -> u64
         ensures { result ≡ self.now }
     {
         self.count
     }
 
-    /// Credits one result more, in the book of all results too.
+    /// Credits one more result, also in the book of all results.
     pub fn credit(&mut self, results: &mut Book<L>)
         requires { results.old.total < 2 ^ 64 - 1 }
         ensures credited { self.new ≡ self.old + 1 }
@@ -52,7 +52,7 @@ impl<L: Ledger> Share<L> {
         self.count += 1;
     }
 
-    /// Its part of the ledger.
+    /// Returns its part of the ledger.
     pub fn into_part(self) -> ledger::Share<L>
         ensures one { result.parts ≡ 1 }
         ensures amount { result.amount ≡ self }
@@ -61,7 +61,7 @@ impl<L: Ledger> Share<L> {
     }
 }
 
-/// The share of each of so many workers, to which nothing is credited yet.
+/// Makes a share for each worker, to which nothing is credited yet.
 ///
 /// # Errors
 /// Out of memory.
@@ -83,7 +83,7 @@ pub fn shares_of<L: Ledger>(
     Ok(shares)
 }
 
-/// The parts of all shares as one, whose amount is what was credited to all of them. None where there is no share.
+/// Joins the parts of all shares; the amount is what was credited to all of them. None where there is no share.
 pub fn merged<L: Ledger>(shares: Vec<Share<L>>) -> Option<ledger::Share<L>>
     ensures parts { IfSome result (λ all. all.parts ≡ vec_len shares) }
     ensures amount { IfSome result (λ all. all.amount ≡ sum shares.items) }

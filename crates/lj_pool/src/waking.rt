@@ -8,13 +8,13 @@ use std::mem;
 /// The number of queues in which ends wait for results. Users whose numbers are equal modulo this share one.
 pub const WAIT_QUEUES: usize = 64;
 
-/// An end that waits is woken once so many results of its user were given, or all that it is owed.
+/// The number of results given to a user after which a waiting end is woken; fewer where fewer are owed to it.
 pub const RESULTS_AT_ONCE: usize = 16;
 
-/// So many tasks are posted before workers that wait are woken for them, unless an end finds no result.
+/// The number of tasks posted before waiting workers are woken for them; sooner if an end finds no result.
 pub const TASKS_AT_ONCE: usize = 16;
 
-/// The wait queue of a user.
+/// Returns the wait queue of a user, 0 to 63.
 pub fn wait_queue_of(user: u8) -> usize
     ensures value { result ≡ wait_queue_of user }
     ensures within { result < WAIT_QUEUES }
@@ -22,7 +22,7 @@ pub fn wait_queue_of(user: u8) -> usize
     usize::from(user) % WAIT_QUEUES
 }
 
-/// After how many more results the ends of each wait queue are woken; 0 where none waits in it.
+/// For each wait queue, after how many further results its ends are woken; 0 where none waits in it.
 #[derive(Drop)]
 pub struct WaitQueues {
     due: [usize; WAIT_QUEUES],
@@ -37,7 +37,7 @@ impl Model for WaitQueues {
 }
 
 impl WaitQueues {
-    /// Nobody waits.
+    /// Makes wait queues in which no end waits.
     pub fn new() -> WaitQueues
         ensures { result ≡ replicate WAIT_QUEUES 0 }
     {
@@ -46,8 +46,8 @@ impl WaitQueues {
         }
     }
 
-    /// Notes that an end waits in the user's queue, to which so many results are owed. It is woken once all of them were
-    /// given, or the first 16; where another waits in it too, at the next result.
+    /// Notes that an end, to which `owed` results are owed, waits in the user's queue. It is woken once all of them or 16 were
+    /// given; where another end waits there too, at the next result.
     pub fn note_waiting(&mut self, user: u8, owed: usize)
         ensures { let old = due_at self.old user in
             self.new ≡ with_due self.old user (cond (nat_eq old 0) (max (min owed RESULTS_AT_ONCE) 1) 1) }
@@ -60,7 +60,7 @@ impl WaitQueues {
         };
     }
 
-    /// Counts a result that the user was given. Whether the ends that wait for it are to be woken now.
+    /// Counts a result given to the user. Returns whether the ends that wait for it are to be woken now.
     pub fn note_given(&mut self, user: u8) -> bool
         ensures wakes { IsTrue result ↔ (due_at self.old user ≡ 1) }
         ensures due { self.new ≡ with_due self.old user (due_at self.old user - 1) }
@@ -72,7 +72,7 @@ impl WaitQueues {
     }
 }
 
-/// How many tasks were posted since workers were last woken for some.
+/// The number of tasks posted since workers were last woken for some.
 #[derive(Drop)]
 pub struct UnsignalledPosts {
     tasks: usize,
@@ -87,14 +87,14 @@ impl Model for UnsignalledPosts {
 }
 
 impl UnsignalledPosts {
-    /// None.
+    /// Makes a count of 0.
     pub fn new() -> UnsignalledPosts
         ensures { result ≡ 0 }
     {
         UnsignalledPosts { tasks: 0 }
     }
 
-    /// Counts one more, up to `usize::MAX`.
+    /// Counts one more post, up to `usize::MAX`.
     pub fn note_posted(&mut self)
         ensures { self.new ≡ min (self.old + 1) (2 ^ 64 - 1) }
     {

@@ -1,4 +1,4 @@
-//! How serving a stream of commands comes to its end.
+//! How serving a stream of commands ends.
 ghost use Rattle.std.specs.Prelude.{◌≡◌};
 ghost use Rattle.lj_pool.specs.Endings.{served_of, ending_of};
 
@@ -19,9 +19,9 @@ pub enum Served {
     ReadFault,
     /// A write has failed, or took nothing.
     WriteFault,
-    /// The pool is closed, and a command waited, or more tasks were owed than may be before the next one.
+    /// The pool is closed while a command waited, or while more tasks were owed than may be before the next command.
     PoolClosed,
-    /// 4,096 results in a row were of no tile that was awaited, in the same cases.
+    /// 4,096 results in a row were of no awaited tile, in the same cases.
     TooManyStrays,
 }
 
@@ -36,7 +36,7 @@ impl From<Halt> for Served {
     }
 }
 
-/// How serving ends with an item, if it does.
+/// Returns how serving ends with an item, if it does.
 pub(crate) fn ending_of(item: &Item) -> Option<Served>
     ensures { result ≡ ending_of item.now }
 {

@@ -26,13 +26,13 @@ use lj_wire::{Fault, Item, Line, LineReader, ReadFault, Sink, Source, WriteFault
 use std::alloc::Global;
 use std::array;
 
-/// Serves a stream of commands from a user's state on, over a pool that owes nothing. What is written is the dialogue
-/// of what is read. The state is handed back, with the steps that are still owed to its sessions, but where the pool was
-/// given up; and the reader in any case. The pool is asked for no other user.
+/// Serves a stream of commands from a user's state on, over a pool that owes nothing, and writes the replies to what it reads.
+/// Returns the state, with the steps still owed to its sessions, unless the pool was given up; how serving ended; and the reader.
+/// The pool is asked for no other user.
 ///
-/// Promise: over any pool, what is written is the dialogue of what is read, or where a write failed a front of it, and
-/// the state that is handed back is that after the items answered. Where the pool was given up it is the replies
-/// before, and there is no state.
+/// Promise: over any pool, what is written is the dialogue of what is read, or a front of it where a write failed, and the state
+/// handed back is that after the items answered. Where the pool is given up, the replies before that are written, and no state is
+/// handed back.
 pub fn serve<R: Source, W: Sink, P: Pool>(
     alloc: Global,
     state: UserState,
@@ -59,9 +59,8 @@ pub fn serve<R: Source, W: Sink, P: Pool>(
     (state, served, lines.into_source())
 }
 
-/// Answers the items of a reader that has handed out none, over a pool that owes nothing, from a user's state on. The
-/// state is handed back but where the pool was given up. The writer is flushed before
-/// more input is waited for, and not after the last reply.
+/// Answers the items of a reader that has handed out none, over a pool that owes nothing, from a user's state on. Returns the
+/// state, unless the pool was given up. Flushes the writer before it waits for more input, and not after the last reply.
 pub fn serve_lines<R: Source, W: Sink, P: Pool>(
     state: UserState,
     user: u8,
@@ -116,7 +115,7 @@ pub fn serve_lines<R: Source, W: Sink, P: Pool>(
     }
 }
 
-/// How serving ends where the pool was given up. The state is not handed back.
+/// Returns how serving ends where the pool is given up, without the state.
 fn given_up(owner: Owner, halt: Halt) -> (Option<UserState>, Served)
     ensures none { result.0 ≡ None }
     ensures served { result.1 ≡ served_of halt }

@@ -9,8 +9,8 @@ ghost use Rattle.lj_wire.specs.Texts.{text};
 use lj_session::{Reply, UserState};
 use lj_wire::{Line, Sink, WriteFault, last_line, listed_session, put_all, put_line_at};
 
-/// Writes the lines of a reply, which tells of the state after its command, and flushes the writer where `flushes` is true. Each
-/// line is built in the room of `line`. After a fault the first bytes of them may have been written.
+/// Writes the lines of a reply, with the state after its command, and flushes the writer if `flushes` is true. Each line is built
+/// in `line`. After a fault the first bytes of them may have been written.
 pub(crate) fn put_reply<W: Sink>(
     writer: &mut W,
     line: &mut Line,
@@ -34,8 +34,7 @@ pub(crate) fn put_reply<W: Sink>(
     Ok(())
 }
 
-/// Writes the lines of a reply, whose session is looked up once. After a fault the first bytes of them may have been
-/// written.
+/// Writes the lines of a reply, and looks its session up once. After a fault the first bytes of them may have been written.
 fn put_lines<W: Sink>(
     writer: &mut W,
     line: &mut Line,

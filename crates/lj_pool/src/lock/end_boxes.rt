@@ -1,4 +1,4 @@
-//! The boxes that an end of a pool behind a lock has.
+//! The boxes of an end of a pool behind a lock.
 ghost use Rattle.std.specs.Prelude.{◌≡◌, ◌≢◌, ◌+◌, ◌<◌, ◌≤◌, ◌↔◌, ◌∷◌, [], ◌++◌, ℕ, Some, cond, count_by, is_some, length, slice_index_or, true, false, unwrap_or, IsTrue, IfNone, IfSome, OnSome};
 ghost use Rattle.std.specs.List.{All};
 ghost use Rattle.lj_book.specs.Book.{user_of};
@@ -18,13 +18,13 @@ pub const MAX_IN_HAND: usize = 16;
 /// The most results in hand and spare boxes of an end.
 pub const MAX_SPARE: usize = MAX_IN_HAND + 1;
 
-/// The most boxes that an end has: those, and that of the result that it handed out last.
+/// The most boxes of an end: those, and that of the result handed out last.
 pub const MAX_END_BOXES: usize = MAX_SPARE + 1;
 
 /// Copies of tasks that are to be posted, in their boxes. The place of a box that was posted is empty.
 pub(crate) type TaskCopies = ArrayVec<Option<TaskBox>, MAX_POSTS>;
 
-/// The result that an end handed out last, those that it hands out next, and boxes for tasks. It takes no memory.
+/// The result that an end handed out last, those in hand, and spare boxes for tasks. It takes no memory.
 #[derive(Drop)]
 pub(crate) struct EndBoxes {
     last: Option<DoneBox>,
@@ -44,7 +44,7 @@ impl Model for EndBoxes {
 }
 
 impl EndBoxes {
-    /// No boxes.
+    /// Makes it without boxes.
     pub(crate) fn new() -> EndBoxes
         ensures { result ≡ no_boxes }
     {
@@ -55,7 +55,7 @@ impl EndBoxes {
         }
     }
 
-    /// The result that was handed out last; a blank one where there is none.
+    /// Returns the result handed out last; a blank one where there is none.
     pub(crate) fn last_or<'a>(&'a self, blank: &'a Done) -> DoneRef<'a>
         ensures { result ≡ unwrap_or self.now.last blank.now }
     {
@@ -65,7 +65,7 @@ impl EndBoxes {
         }
     }
 
-    /// How many results are in hand.
+    /// Returns the number of results in hand, at most 16.
     pub(crate) fn in_hand(&self) -> usize
         ensures value { result ≡ length self.now.hand }
         ensures most { result ≤ MAX_IN_HAND }
@@ -73,14 +73,14 @@ impl EndBoxes {
         self.hand.len()
     }
 
-    /// Whether a box is spare.
+    /// Returns whether a box is spare.
     pub(crate) fn has_spare(&self) -> bool
         ensures { IsTrue result ↔ (0 < self.now.spare) }
     {
         !self.spare.is_empty()
     }
 
-    /// Takes a spare box off, if there is one.
+    /// Takes a spare box, if there is one.
     pub(crate) fn pop_spare(&mut self) -> Option<TaskBox>
         ensures some { OnSome result (self.old ≡ record self.new { spare = self.new.spare + 1 }) }
         ensures place { OnSome result (length self.new.hand + self.new.spare < MAX_SPARE) }
@@ -91,7 +91,7 @@ impl EndBoxes {
         self.spare.pop().flatten()
     }
 
-    /// Takes a spare box off, if there is one, for a copy of a task.
+    /// Takes a spare box, if there is one, and copies a task into it.
     pub(crate) fn copy_of(&mut self, task: &Task) -> Option<TaskBox>
         ensures copy { IfSome result (λ boxed. boxed ≡ task.now) }
         ensures some { OnSome result (self.old ≡ record self.new { spare = self.new.spare + 1 }) }
@@ -104,7 +104,7 @@ impl EndBoxes {
         Some(boxed)
     }
 
-    /// Takes spare boxes off, as far as there are some, for copies of tasks.
+    /// Takes spare boxes, as far as there are some, and copies tasks into them.
     #[tactic(auto, using(crate::proofs::Posts::are_copies))]
     pub(crate) fn copies_of(&mut self, tasks: &[Task]) -> TaskCopies
         requires few { length tasks.now ≤ MAX_POSTS }
@@ -138,7 +138,7 @@ impl EndBoxes {
         }
     }
 
-    /// Keeps a box for a task.
+    /// Keeps a spare box.
     pub(crate) fn push_spare(&mut self, spare: TaskBox)
         requires { length self.old.hand + self.old.spare < MAX_SPARE }
         ensures { self.new ≡ record self.old { spare = self.old.spare + 1 } }
@@ -155,7 +155,7 @@ impl EndBoxes {
         self.hand.push(Some(done));
     }
 
-    /// Hands out a result. The box of the one before it is spare.
+    /// Hands out a result. The box of the one before it becomes spare.
     pub(crate) fn show(&mut self, done: DoneBox)
         requires { length self.old.hand + self.old.spare < MAX_SPARE }
         ensures { self.new
@@ -166,7 +166,7 @@ impl EndBoxes {
         }
     }
 
-    /// Hands out the first result in hand of a user. False where there is none.
+    /// Hands out the first result of a user in hand. Returns false where there is none.
     pub(crate) fn hand_out(&mut self, user: u8) -> bool
         ensures some { result ≡ true → HandsOut user self.old self.new }
         ensures none { result ≡ false → All (λ done. user_of done ≢ user) self.old.hand }
@@ -195,14 +195,14 @@ impl EndBoxes {
         Some(last.into_task())
     }
 
-    /// There is a place for each box.
+    /// Shows that there is a place for each box.
     fn are_placed(&self)
         ensures { length self.now.hand + self.now.spare ≤ MAX_SPARE }
     {
         let _hand = self.hand.len();
     }
 
-    /// Where the first result in hand of a user lies.
+    /// Returns the index of the first result of a user in hand.
     fn find(&self, user: u8) -> Option<usize>
         ensures some { IfSome result (IsFirstOf self.now.hand user) }
         ensures none { IfNone result (All (λ done. user_of done ≢ user) self.now.hand) }
@@ -215,7 +215,7 @@ impl EndBoxes {
         None
     }
 
-    /// Whether the result that lies here is of this user.
+    /// Returns whether the result at this index is of this user.
     fn is_of(&self, here: usize, user: u8) -> bool
         requires { here < length self.now.hand }
         ensures { IsTrue result ↔ (user_of (slice_index_or self.now.hand here blank_task) ≡ user) }

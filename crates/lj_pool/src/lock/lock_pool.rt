@@ -22,7 +22,7 @@ use std::sync::atomic::{AtomicBool, Ordering};
 use std::sync::ledger::{self, Blank, Ledger};
 use std::sync::{Condvar, Mutex, MutexGuard, Wait};
 
-/// The most ends at once that a pool has boxes for. With more of them a post may be refused before the book is full.
+/// The most ends at once for which a pool has boxes. With more of them a post may be refused before the book is full.
 pub const MAX_ENDS: usize = 64;
 
 /// A book of tasks behind a lock. Its ends post tasks and fetch results, each from a thread of its own, and workers
@@ -30,21 +30,22 @@ pub const MAX_ENDS: usize = 64;
 #[derive(Drop)]
 pub struct LockPool<L: Ledger> {
     state: Mutex<PoolState<L>>,
-    /// A task was posted. Workers wait for it.
+    /// Signalled when a task is posted or the pool closes. Workers wait on it.
     not_empty: Condvar,
-    /// An entry left a full book, or a box was put by where none was spare. Ends that have a task to post wait for it.
+    /// Signalled when an entry leaves a full book, a box becomes spare where none was, or the pool closes. Ends that have a task
+    /// to post wait on it.
     not_full: Condvar,
-    /// Results were given, for each wait queue to the users who share it. Their ends wait for it.
+    /// Signalled when results are given or the pool closes, one for each wait queue. The ends of its users wait on it.
     results_ready: [Condvar; WAIT_QUEUES],
-    /// Whether the pool is closed, as its state says too.
+    /// Set once the pool is closed, as its state says too.
     closed: AtomicBool,
-    /// What an end shows that was handed no result yet.
+    /// The result that an end shows before it is handed one.
     blank: Done,
     ghost blank_is: { blank ≡ blank_task },
 }
 
 impl<L: Ledger> LockPool<L> {
-    /// An empty pool, with a share for each worker, and boxes for all entries, workers and ends.
+    /// Makes an empty pool, with a share for each worker, and boxes for all entries, workers and ends.
     ///
     /// # Errors
     /// Out of memory.
@@ -76,7 +77,7 @@ impl<L: Ledger> LockPool<L> {
         Ok((pool, shares))
     }
 
-    /// An end of the pool, to which nothing is owed.
+    /// Makes an end of the pool, to which nothing is owed.
     pub fn end<'p, R: Wait>(&'p self, rt: &'p R) -> LockEnd<'p, L, R>
         ensures seen { result.seen ≡ nothing_seen }
         ensures last { result.last ≡ blank_task }
@@ -95,9 +96,9 @@ impl<L: Ledger> LockPool<L> {
         }
     }
 
-    /// The counts of the book. What was posted has been fetched or withdrawn, or stands in the book.
+    /// Returns the counts of the book.
     ///
-    /// Promise: what was posted has been fetched or withdrawn, or stands in the book; no more was given than posted.
+    /// Promise: each task posted has been fetched or withdrawn, or is in the book; no more results were given than tasks posted.
     pub fn counts<R: Wait>(&self, rt: &R) -> Counts
         ensures balance { result.posted ≡ result.fetched + result.withdrawn + result.entries }
         ensures given_posted { result.given ≤ result.posted }
@@ -105,26 +106,26 @@ impl<L: Ledger> LockPool<L> {
         self.state.lock(rt).counts()
     }
 
-    /// Withdraws every entry of the user, also of tasks that are out.
+    /// Withdraws every entry of the user, also those whose tasks are out.
     pub fn withdraw<R: Wait>(&self, rt: &R, user: u8) {
         self.state.lock(rt).withdraw(user);
         self.not_full.notify_all();
     }
 
-    /// Whether the pool is closed.
+    /// Returns whether the pool is closed.
     pub(crate) fn is_closed(&self) -> bool {
         self.closed.load(Ordering::SeqCst)
     }
 
-    /// A blank result.
+    /// Returns a blank result.
     pub(crate) fn blank(&self) -> &Done
         ensures { result.now ≡ blank_task }
     {
         &self.blank
     }
 
-    /// Posts a task in the box at hand, where there is one; else a copy of it in a spare box. Where it is not posted, the box
-    /// at hand is handed back. With `wait` it waits while the book is full.
+    /// Posts a task in the box at hand if there is one, else a copy of it in a spare box. If it is not posted, the box at hand is
+    /// handed back. With `wait` it waits while the book is full, and fails only where the pool is closed.
     pub(crate) fn post<R: Wait>(
         &self,
         rt: &R,
@@ -153,8 +154,8 @@ impl<L: Ledger> LockPool<L> {
         unreachable!()
     }
 
-    /// Posts tasks in their order, in the boxes of their copies or in spare ones, under one holding of the lock. Returns how many
-    /// of them were posted, the first ones. It never waits for room.
+    /// Posts tasks in their order, in the boxes of their copies or in spare ones, and takes the lock once. Returns how many of
+    /// them were posted, the first ones. It never waits for room.
     pub(crate) fn post_some<R: Wait>(
         &self,
         rt: &R,
@@ -173,7 +174,7 @@ impl<L: Ledger> LockPool<L> {
         posted
     }
 
-    /// Wakes workers that wait, for so many tasks.
+    /// Wakes waiting workers for this many tasks.
     fn wake_workers(&self, tasks: usize) {
         match tasks {
             0 => {}
@@ -182,9 +183,9 @@ impl<L: Ledger> LockPool<L> {
         }
     }
 
-    /// Hands out the next result of the user that is in hand. Where there is none it takes all in hand that are there, as far
-    /// as there is room, and hands the first one out; it waits for one. False where the pool is closed. So many are owed to
-    /// the end that asks, and not in its hand.
+    /// Hands out the user's next result in hand. If there is none, waits until the book has results of the user, takes as many in
+    /// hand as there is room for, and hands out the first. `owed` results are owed to the end and not in its hand. Returns false
+    /// where the pool is closed.
     #[tactic(auto, using(crate::proofs::EndBoxLemmas::next_in_hand, crate::proofs::EndBoxLemmas::next_fetched))]
     pub(crate) fn fetch<R: Wait>(&self, rt: &R, user: u8, owed: usize, own: &mut EndBoxes) -> bool
         ensures next { result ≡ true
@@ -209,8 +210,8 @@ impl<L: Ledger> LockPool<L> {
         unreachable!()
     }
 
-    /// Hands out the next result of the user that is in hand. Where there is none it takes all in hand that are there now, as
-    /// far as there is room, and hands the first one out. False where there is none, or the pool is closed.
+    /// Hands out the user's next result in hand. If there is none, takes as many results of the user that are in the book now as
+    /// there is room for, and hands out the first. Returns false where there is none, or the pool is closed.
     #[tactic(auto, using(crate::proofs::EndBoxLemmas::next_in_hand, crate::proofs::EndBoxLemmas::next_fetched))]
     pub(crate) fn poll<R: Wait>(&self, rt: &R, user: u8, own: &mut EndBoxes) -> bool
         ensures next { result ≡ true
@@ -227,11 +228,11 @@ impl<L: Ledger> LockPool<L> {
         self.fetch_from(state, user, own).unwrap_or(false)
     }
 
-    /// Takes all results of the user in hand, as far as there is room, puts the spare boxes of the end by, and unlocks the
-    /// state. False where the pool is closed. Ends that wait for room are woken if there is some now.
+    /// Adds the spare boxes of the end to those of the pool, takes as many results of the user in hand as there is room for, and
+    /// unlocks the state. Wakes ends that wait for room if there is some now. Returns false where the pool is closed.
     ///
     /// # Errors
-    /// The state, where there is none yet. Workers that wait are woken then for the tasks that none was woken for.
+    /// The state, where there is no result yet. Waiting workers are then woken for the tasks that none was woken for.
     fn fetch_from<'d>(
         &self,
         state: MutexGuard<'d, PoolState<L>>,
@@ -257,8 +258,8 @@ impl<L: Ledger> LockPool<L> {
         Ok(fetched)
     }
 
-    /// Gives a result, which is credited to the share if it is accepted. Then takes an open task, and waits for one. None
-    /// where the pool is closed.
+    /// Gives a result, which is credited to the share if it is accepted. Then takes an open task, and waits until there is one.
+    /// None where the pool is closed.
     pub(crate) fn exchange<R: Wait>(
         &self,
         rt: &R,
@@ -287,8 +288,8 @@ impl<L: Ledger> LockPool<L> {
         taken
     }
 
-    /// Hands a task back, which is then open again, and wakes workers that wait. Then takes an open task, which may be the
-    /// same, and waits for one. None where the pool is closed.
+    /// Hands a task back, which is then open again, and wakes waiting workers. Then takes an open task, perhaps the same one, and
+    /// waits until there is one. None where the pool is closed.
     pub(crate) fn hand_back<R: Wait>(&self, rt: &R, lent: Lent) -> Option<Lent> {
         let mut state = self.state.lock(rt);
         let was_full = state.is_full();
@@ -302,7 +303,7 @@ impl<L: Ledger> LockPool<L> {
         self.take(rt)
     }
 
-    /// Takes an open task, and waits for one. None where the pool is closed.
+    /// Takes an open task, and waits until there is one. None where the pool is closed.
     pub(crate) fn take<R: Wait>(&self, rt: &R) -> Option<Lent> {
         let mut state = self.state.lock(rt);
         for _ in rt.forever() {
@@ -315,7 +316,7 @@ impl<L: Ledger> LockPool<L> {
         unreachable!()
     }
 
-    /// Puts all boxes of an end by, for others.
+    /// Adds all boxes of an end to the spare ones of the pool.
     pub(crate) fn put_all_by<R: Wait>(&self, rt: &R, own: EndBoxes) {
         let mut state = self.state.lock(rt);
         let was_full = state.is_full();
@@ -326,7 +327,7 @@ impl<L: Ledger> LockPool<L> {
         }
     }
 
-    /// How many results were given, which is what all parts of the ledger have together.
+    /// Returns the number of results given, which is the amount of all parts of the ledger together.
     pub(crate) fn audited<R: Wait>(&self, rt: &R, all: &mut ledger::Share<L>) -> u64
         requires { all.old.parts ≡ L.parts }
         ensures { result ≡ all.old.amount }

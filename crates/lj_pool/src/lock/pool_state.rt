@@ -1,4 +1,4 @@
-//! What lies under the lock of a pool.
+//! The state under the lock of a pool.
 ghost use Rattle.std.specs.Prelude.{◌≡◌, ◌≢◌, ◌+◌, ◌≤◌, ◌<◌, ◌↔◌, ◌⊎◌, ◌++◌, ℕ, List, Some, None, true, false, length, slice_index_or, take, IsOk, IsTrue, IfErr, IfNone, IfSome, OnErr, OnOk};
 ghost use Rattle.std.specs.List.{All};
 ghost use Rattle.std.specs.Option.{ForSome};
@@ -17,21 +17,21 @@ use lj_book::{BoxBook, Counts, Key, Lent, LentDone, MAX_ENTRIES, TaskBox};
 use lj_tile::Task;
 use std::sync::ledger::{self, Ledger};
 
-/// The book of a pool, and the ledger's book of the results that it was given.
+/// The book of a pool, and the ledger's book of the results given to it.
 #[derive(Drop)]
 pub(crate) struct PoolState<L: Ledger> {
     book: BoxBook,
     results: ledger::Book<L>,
     next: Key,
     pub(crate) unsignalled: UnsignalledPosts,
-    /// Where ends wait for results.
+    /// The queues in which ends wait for results.
     pub(crate) wait_queues: WaitQueues,
     closed: bool,
     ghost counted: { book.held.given ≡ results.total },
 }
 
 impl<L: Ledger> PoolState<L> {
-    /// The state of an open pool.
+    /// Makes the state of an open pool.
     pub(crate) fn new(book: BoxBook, results: ledger::Book<L>) -> PoolState<L>
         requires { book.held.given ≡ results.total }
         ensures book { result.book ≡ book }
@@ -47,8 +47,8 @@ impl<L: Ledger> PoolState<L> {
         }
     }
 
-    /// Posts a task in the box at hand, where there is one; else a copy of it in a spare box. Where it is not posted, the box
-    /// at hand is handed back.
+    /// Posts a task in the box at hand if there is one, else a copy of it in a spare box. If it is not posted, the box at hand is
+    /// handed back.
     pub(crate) fn post(&mut self, boxed: &mut Option<TaskBox>, task: &Task) -> Result<(), NotPosted>
         requires { ForSome boxed.old (λ work. work ≡ task.now) }
         ensures room { IsOk result
@@ -78,8 +78,8 @@ impl<L: Ledger> PoolState<L> {
         Ok(())
     }
 
-    /// Posts tasks in their order: in the boxes of their copies, as far as there are some, and else copies of them in spare
-    /// boxes. Returns how many of them were posted, the first ones. The boxes of the others are handed back.
+    /// Posts tasks in their order: in the boxes of their copies as far as there are some, else copies of them in spare boxes.
+    /// Returns how many of them were posted, the first ones. The boxes of the others are handed back.
     #[tactic(auto, using(crate::proofs::Posts::posts_next))]
     pub(crate) fn post_some(&mut self, copies: &mut TaskCopies, tasks: &[Task]) -> usize
         requires { AreCopies copies.old.items tasks.now }
@@ -98,8 +98,8 @@ impl<L: Ledger> PoolState<L> {
         tasks.len()
     }
 
-    /// Posts a task in the box at this place, where there is one; else a copy of it in a spare box. Where it is not posted, the
-    /// box stays.
+    /// Posts a task in the box at this place if there is one, else a copy of it in a spare box. If it is not posted, the box
+    /// stays.
     fn post_at(
         &mut self,
         here: usize,
@@ -151,7 +151,7 @@ impl<L: Ledger> PoolState<L> {
         Ok(())
     }
 
-    /// Takes an open task, in turn, in its box. None where there is none, or the pool is closed.
+    /// Takes an open task in its box, round robin. None where there is none, or the pool is closed.
     pub(crate) fn take(&mut self) -> Option<Lent>
         ensures some { IfSome result (λ lent. TakesBox self.old.book self.new.book lent) }
         ensures none { IfNone result (self.old.closed ≡ false → (k : ℕ) → ¬ IsOpenAt self.old.book.held k) }
@@ -168,7 +168,8 @@ impl<L: Ledger> PoolState<L> {
         Some(lent)
     }
 
-    /// Gives a result, and credits it to the share of its worker if it is accepted. Whether it is; else its box is put by.
+    /// Gives a result, and credits it to the share of its worker if it is accepted; else its box becomes spare. Returns whether
+    /// it is accepted.
     pub(crate) fn give(&mut self, done: LentDone, share: &mut Share<L>) -> bool
         ensures accepted { IsTrue result ↔ IsOut self.old.book done }
         ensures gives { result ≡ true → GivesBox self.old.book self.new.book done }
@@ -188,8 +189,8 @@ impl<L: Ledger> PoolState<L> {
         true
     }
 
-    /// Hands back a task that was taken, of which the workers are to be told as of one that was posted. Whether it was out;
-    /// it is not where its user's entries were withdrawn, and its box is put by then.
+    /// Hands back a task that was taken, and counts it as a post for which workers are to be woken. Returns whether it was out;
+    /// where its user's entries were withdrawn it was not, and its box becomes spare.
     pub(crate) fn hand_back(&mut self, lent: Lent) -> bool
         ensures was_out { IsTrue result ↔ IsOut self.old.book lent }
         ensures hands_back { result ≡ true → HandsBackBox self.old.book self.new.book lent }
@@ -207,9 +208,9 @@ impl<L: Ledger> PoolState<L> {
         true
     }
 
-    /// Puts the spare boxes of an end by. Then it takes results of the user in hand, all that are there, as far as it has room;
-    /// the first one is its last one at once, and the box of the one before that is spare for the next task. False where there
-    /// is none, or the pool is closed.
+    /// Adds the spare boxes of an end to those of the pool, then takes as many results of the user in hand as there is room for.
+    /// The first of them is handed out at once, and the box of the one before it is spare for the next task. Returns false where
+    /// there is none, or the pool is closed.
     pub(crate) fn fetch(&mut self, user: u8, own: &mut EndBoxes) -> bool
         ensures some { result ≡ true → FetchesInHand user self.old.book own.old self.new.book own.new }
         ensures all { result ≡ true
@@ -237,7 +238,7 @@ impl<L: Ledger> PoolState<L> {
         true
     }
 
-    /// Puts a box by.
+    /// Adds a box that was lent to the spare ones.
     fn put_by(&mut self, lent: TaskBox)
         ensures put_by { PutsBy self.old.book self.new.book }
         ensures unsignalled { self.new.unsignalled ≡ self.old.unsignalled }
@@ -247,7 +248,7 @@ impl<L: Ledger> PoolState<L> {
         self.book.put_by(lent);
     }
 
-    /// Puts the spare boxes of an end by.
+    /// Adds the spare boxes of an end to those of the pool.
     fn put_spare_by(&mut self, own: &mut EndBoxes)
         ensures held { self.new.book.held ≡ self.old.book.held }
         ensures made { self.new.book.made ≡ self.old.book.made }
@@ -262,7 +263,7 @@ impl<L: Ledger> PoolState<L> {
         }
     }
 
-    /// Takes results of the user in hand, all that are there, as far as there is room.
+    /// Takes as many results of the user in hand as are there and there is room for.
     fn fetch_more(&mut self, user: u8, own: &mut EndBoxes)
         requires { own.old.spare ≤ 1 }
         ensures fetches { (others : List Task) × (own.new ≡ record own.old { hand = own.old.hand ++ others })
@@ -282,7 +283,7 @@ impl<L: Ledger> PoolState<L> {
         }
     }
 
-    /// Puts all boxes of an end by.
+    /// Adds all boxes of an end to the spare ones of the pool.
     pub(crate) fn put_all_by(&mut self, own: EndBoxes)
         ensures held { self.new.book.held ≡ self.old.book.held }
         ensures made { self.new.book.made ≡ self.old.book.made }
@@ -315,14 +316,14 @@ impl<L: Ledger> PoolState<L> {
         self.closed = true;
     }
 
-    /// Whether the pool is closed.
+    /// Returns whether the pool is closed.
     pub(crate) fn is_closed(&self) -> bool
         ensures { result ≡ self.now.closed }
     {
         self.closed
     }
 
-    /// Whether no task can be posted before an entry leaves the book, or a box is put by.
+    /// Returns whether no task can be posted before an entry leaves the book or a box becomes spare.
     pub(crate) fn is_full(&self) -> bool
         ensures { result ≡ false
             ↔ ((entry_count self.now.book.held ≢ MAX_ENTRIES) × (0 < self.now.book.spare)) }
@@ -330,7 +331,7 @@ impl<L: Ledger> PoolState<L> {
         self.book.counts().entries == MAX_ENTRIES as u64 || !self.book.has_spare()
     }
 
-    /// The counts of the book.
+    /// Returns the counts of the book.
     pub(crate) fn counts(&self) -> Counts
         ensures posted { result.posted ≡ self.now.book.held.posted }
         ensures given { result.given ≡ self.now.book.held.given }
@@ -343,7 +344,7 @@ impl<L: Ledger> PoolState<L> {
         self.book.counts()
     }
 
-    /// How many results were given, which is what all parts of the ledger have together.
+    /// Returns the number of results given, which is the amount of all parts of the ledger together.
     pub(crate) fn audited(&mut self, all: &mut ledger::Share<L>) -> u64
         requires { all.old.parts ≡ L.parts }
         ensures given { result ≡ self.old.book.held.given }

@@ -1,4 +1,4 @@
-//! What a worker of a pool does, and the sum of what all have done.
+//! The loop of a worker of a pool, and the sum of what all workers did.
 ghost use Rattle.std.specs.Prelude.{◌≡◌, ◌≤◌, sum, vec_len, true, ⊤};
 ghost use Rattle.lj_tile.specs.declared.names.TaskName.{TaskName};
 
@@ -9,16 +9,16 @@ use lj_tile::TaskName;
 use std::sync::Wait;
 use std::sync::ledger::Ledger;
 
-/// What a worker passes between taking a task and computing it. No lock is held then.
+/// A gate that a worker passes between taking a task and computing it. No lock is held then.
 pub trait Gate {
-    // Which tasks it may send back.
+    // The tasks that it may send back.
     ghost sends_back: { Self → TaskName → Type 0 } = { λ _ _. ⊤ };
 
-    /// Called with a task that is to be computed.
+    /// Runs before the task of this name is computed.
     fn between(&self, name: &TaskName);
 
-    /// Whether a task that was taken is handed back, so that it is open again. It is asked before `between`, which is
-    /// not called then.
+    /// Returns whether a task that was taken is handed back, so that it is open again. It is called before `between`, which is
+    /// then not called.
     fn back(&self, _name: &TaskName) -> bool
         ensures { result ≡ true → sends_back self.now _name.now }
     {
@@ -26,15 +26,15 @@ pub trait Gate {
     }
 }
 
-/// A gate that stands open.
+/// A gate that sends no task back.
 impl Gate for () {
     ghost sends_back = { λ _ _. ⊥ };
 
     fn between(&self, _name: &TaskName) {}
 }
 
-/// Computes tasks of the pool until it is closed, but those that the gate sends back, which it hands back. The share
-/// that is handed back has been credited each result that was accepted.
+/// Computes tasks of the pool until it is closed, and hands back those that the gate sends back. Returns the share, credited with
+/// each result that was accepted.
 pub fn work<L: Ledger, G: Gate, R: Wait>(
     rt: &R,
     pool: &LockPool<L>,
@@ -60,7 +60,7 @@ pub fn work<L: Ledger, G: Gate, R: Wait>(
     share
 }
 
-/// How many results of all workers together were accepted, which is how many the book of the pool was given.
+/// Returns the number of results accepted from all workers together, which is the number given to the book of the pool.
 ///
 /// Promise: the result is the sum of the shares of all workers.
 pub fn gather<L: Ledger, R: Wait>(rt: &R, pool: &LockPool<L>, shares: Vec<Share<L>>) -> u64
