@@ -1,4 +1,4 @@
--- The rule of a queue of open tasks: each is popped as often as it was pushed, or is in the queue.
+-- The rule of a queue of open tasks: each task that was pushed was popped or is still in the queue, as often as it was pushed.
 use Rattle.std.specs.Prelude.{◌≡◌, ℕ, ◌+◌, ◌^◌, List, [], ◌∷◌, ◌++◌}
 use Rattle.std.specs.List.{sum_by}
 use mathlib.Core.Option.{some}
@@ -10,27 +10,27 @@ use Rattle.lj_queue.specs.declared.rule.Hand.{Hand}
 abbrev pub all_parts : ℕ
 all_parts = 2 ^ 65
 
--- what a pass with so many parts has pushed and popped
+-- the history of a pass: its parts, and what it pushed and popped
 abbrev pub hand_of : ℕ → List OpenTask → List OpenTask → Hand
 hand_of parts pushed popped = record { parts = parts; pushed = pushed; popped = popped }
 
--- one ticket more was pushed
+-- one more open task was pushed
 abbrev pub with_pushed : Hand → OpenTask → Hand
 with_pushed v ticket = hand_of v.parts (v.pushed ++ ticket ∷ []) v.popped
 
--- one ticket more was popped
+-- one more open task was popped
 abbrev pub with_popped : Hand → OpenTask → Hand
 with_popped v ticket = hand_of v.parts v.pushed (v.popped ++ ticket ∷ [])
 
--- the lists of the one behind the other's
+-- two histories as one: their parts added, the lists of the second behind those of the first
 abbrev pub joined_hand : Hand → Hand → Hand
 joined_hand v w = hand_of (v.parts + w.parts) (v.pushed ++ w.pushed) (v.popped ++ w.popped)
 
--- what was pushed is what was popped together with these tickets, however tickets are weighed
+-- the pushed tasks are those popped together with these, each as often: for every weight the sums agree
 abbrev pub Leaves : List OpenTask → List OpenTask → List OpenTask → Type 0
 Leaves pushed popped tickets = (h : OpenTask → ℕ) → sum_by h pushed ≡ sum_by h popped + sum_by h tickets
 
--- a pass of no part has pushed and popped nothing
+-- a pass without parts has pushed and popped nothing
 abbrev pub IdleIsEmpty : List Hand → Type 0
 IdleIsEmpty views =
     (port : ℕ) (v : Hand) → get_elem? views port ≡ some v → v.parts ≡ 0 → (v.pushed ≡ []) × (v.popped ≡ [])

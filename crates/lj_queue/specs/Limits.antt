@@ -1,4 +1,4 @@
--- How many tasks are open in the pool with a queue, how many results it keeps, and how many ends it has.
+-- The limits of a pool with a queue: its open tasks, the results that it keeps, and its ends.
 use Rattle.std.specs.Prelude.{◌≡◌, refl}
 use Rattle.lj_book.specs.declared.entries.TheConstants.{MAX_ENTRIES}
 use Rattle.lj_pool.specs.declared.pool.TheConstants.{MAX_OWED}
@@ -10,7 +10,7 @@ use Rattle.lj_queue.specs.declared.queue_pool.TheConstants.{CONNECTIONS, MAX_OPE
 most_open : MAX_OPEN_TASKS ≡ 1024
 most_open = refl
 
--- they are as many as a book has entries
+-- as many as a book has entries
 most_open_of_book : MAX_OPEN_TASKS ≡ MAX_ENTRIES
 most_open_of_book = refl
 
@@ -18,14 +18,14 @@ most_open_of_book = refl
 most_results : MAX_RESULTS ≡ 64
 most_results = refl
 
--- they are as many as tasks may be owed to its end
+-- as many as tasks may be owed to an end
 most_results_owed : MAX_RESULTS ≡ MAX_OWED
 most_results_owed = refl
 
--- 64 connections have an end at once
+-- at most 64 connections have an end at once
 connections : CONNECTIONS ≡ 64
 connections = refl
 
--- the results of 64 users are kept apart
+-- results are kept in 64 mailboxes
 users_apart : USERS ≡ 64
 users_apart = refl

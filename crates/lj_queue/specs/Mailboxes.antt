@@ -1,4 +1,4 @@
--- What lies under the lock of a pool: for each user a list of results and the number of its present end.
+-- The state under the lock of a pool with a queue: for each user a list of results and the number of the present end.
 use Rattle.std.specs.Prelude.{ℕ, ◌%◌, List, slice_index_or, slice_set, Option, None}
 use Rattle.lj_queue.specs.ResultList.{ResultList, empty_list}
 use Rattle.lj_queue.specs.declared.mailboxes.TheConstants.{USERS}
@@ -7,7 +7,7 @@ use Rattle.lj_queue.specs.declared.mailboxes.TheConstants.{USERS}
 abbrev pub mailbox_of : ℕ → ℕ
 mailbox_of user = user % USERS
 
--- another in the mailbox of a user, and in every other one what was there
+-- with another value in the mailbox of a user, and every other one unchanged
 abbrev pub with_list : {X : Type 0} → List X → ℕ → X → List X
 with_list places user own = slice_set places (mailbox_of user) own
 

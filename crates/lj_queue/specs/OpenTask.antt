@@ -1,4 +1,4 @@
--- The tickets of open tasks.
+-- Open tasks.
 use Rattle.std.specs.Prelude.{ℕ}
 use Rattle.lj_tile.specs.Task.{Task}
 

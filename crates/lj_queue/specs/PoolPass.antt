@@ -1,4 +1,4 @@
--- The passes of a pool whose open tasks lie in a queue, and its ends.
+-- The passes of a pool with a queue, and its ends.
 use Rattle.std.specs.Prelude.{◌≡◌, ℕ, ◌-◌, ◌<◌, ◌≤◌, ◌^◌, List, [], ◌∷◌, ◌++◌, length}
 use Rattle.std.specs.List.{All}
 use Rattle.atomic_table.specs.Seated.{TableId}
@@ -10,34 +10,34 @@ use Rattle.lj_queue.specs.declared.open_task.OpenTask.{OpenTask}
 use Rattle.lj_queue.specs.declared.rule.Hand.{Hand}
 use Rattle.lj_queue.specs.Balance.{all_parts, hand_of, Leaves}
 
--- a ticket of a task that an end posted for its user
+-- an open task that an end posted for its user
 abbrev pub open_task_of : ℕ → ℕ → Task → OpenTask
 open_task_of end user task = record { end = end; user = user; task = task }
 
--- the number of a pass, and the tickets that it pushed and popped, in order
+-- a pass: its number, and the open tasks that it pushed and popped, in order
 pub record PoolPass : Type 0 where
   pub number : ℕ
   pub pushed : List OpenTask
   pub popped : List OpenTask
 
--- nothing was pushed or popped
+-- a pass that has pushed and popped nothing
 abbrev pub untouched_pass : ℕ → PoolPass
 untouched_pass number = record { number = number; pushed = []; popped = [] }
 
--- one ticket more was pushed
+-- one more open task was pushed
 abbrev pub with_push : PoolPass → OpenTask → PoolPass
 with_push pass ticket = record { number = pass.number; pushed = pass.pushed ++ ticket ∷ []; popped = pass.popped }
 
--- one ticket more was popped
+-- one more open task was popped
 abbrev pub with_pop : PoolPass → OpenTask → PoolPass
 with_pop pass ticket = record { number = pass.number; pushed = pass.pushed; popped = pass.popped ++ ticket ∷ [] }
 
--- what a pass has pushed and popped
+-- a pass of the queue by its number and what it has pushed and popped
 abbrev pub pass_of : ℕ → Pass OpenTask Hand → PoolPass
 pass_of number pass =
     record { number = number; pushed = (view pass).pushed; popped = (view pass).popped }
 
--- it is a pass of the queue of this name, and no place of the queue is out with it
+-- it is a pass of the queue of this name, and holds no slot of that queue
 pub record IsOf (table : TableId) (pass : Pass OpenTask Hand) : Type 0 where
   pub same_table : pass.table_id ≡ table
   pub none_out : pass.me.1 ≡ []
@@ -49,20 +49,20 @@ pub record IsCounted (table : TableId) (pass : Pass OpenTask Hand) (pushed poppe
   pub all_pushed : pushed ≡ length (view pass).pushed
   pub all_popped : popped ≡ length (view pass).popped
 
--- What is left of the first pass once so many were cut off, each with one part.
+-- The root pass: what is left of the first pass after `passes` passes of one part each were cut off.
 pub record IsRootPass (table : TableId) (passes : ℕ) (pass : Pass OpenTask Hand) : Type 0 where
   pub is_of : IsOf table pass
   pub most : passes < 2 ^ 64
   pub rest : view pass ≡ hand_of (all_parts - passes) [] []
 
--- what a pool is to be made of: the name of its ledger, into how many parts that is cut, and the name of its queue
+-- what a pool is made from: the name of its ledger, the number of parts of that, and the name of its queue
 pub record QueueBlank : Type 0 where
   pub name : ℕ
   pub parts : ℕ
   pub table : TableId
 
 -- an end of a pool: what it has seen, its pass, its number, its user, the task of the result that it shows, and those of the
--- results that it has in hand
+-- results in hand
 pub record QueueEnd : Type 0 where
   pub seen : Seen
   pub pass : PoolPass
@@ -83,8 +83,8 @@ no_table = record {
   slot_names = [];
 }
 
--- Behind what it had popped before, a pass popped just these tickets: those that it pushed again behind what it had
--- pushed before, each as often, which a gate may send back, and others, which are at least so many.
+-- A pass popped `more`, and nothing else, since then: the tasks `again`, which a gate may send back and which the pass pushed
+-- again, and `others`, at least `results` of them.
 pub record PopsFor (results : ℕ) (may_send_back : TaskName → Type 0) (old new : PoolPass) : Type 0 where
   pub more : List OpenTask
   pub again : List OpenTask

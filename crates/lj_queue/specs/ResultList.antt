@@ -7,24 +7,24 @@ use Rattle.std.specs.declared.collections.VecDeque.{VecDeque}
 use Rattle.lj_tile.specs.Task.{Task}
 use Rattle.lj_queue.specs.declared.result_list.TheConstants.{MAX_RESULTS}
 
--- whose results are kept, and their tasks, in the order in which they are fetched
+-- a user, and the tasks of the results kept for the user, in the order in which they are fetched
 pub record ResultList : Type 0 where
   pub user : ℕ
   pub results : List Task
 
--- no result of a user
+-- no results, for a user
 abbrev pub empty_list : ℕ → ResultList
 empty_list user = record { user = user; results = [] }
 
--- one result more behind the others
+-- with one more result behind the others
 abbrev pub with_last : ResultList → Task → ResultList
 with_last kept done = record { user = kept.user; results = kept.results ++ done ∷ [] }
 
--- what was handed out, in front of the others
+-- with a result in front of the others
 abbrev pub with_first : Task → ResultList → ResultList
 with_first done kept = record { user = kept.user; results = done ∷ kept.results }
 
--- The results are all of one user, they are at most 64, and there is a place for each.
+-- The results are of this user, at most 64, and the deque has memory for 64.
 pub record HasPlaces (user : ℕ) (results : VecDeque Task Global) : Type 0 where
   pub most : deque_len results ≤ MAX_RESULTS
   pub places : MAX_RESULTS ≤ deque_capacity results

@@ -8,15 +8,16 @@ use Rattle.lj_queue.specs.declared.rule.Hand.{Hand}
 use Rattle.lj_queue.specs.Balance.{all_parts}
 use Rattle.lj_queue.specs.PoolPass.{IsOf, PoolPass}
 
--- how many tickets the passes pushed
+-- the number of tasks that the passes pushed
 abbrev pub pushes_of : List PoolPass → ℕ
 pushes_of passes = sum_by (λ pass. length pass.pushed) passes
 
--- how many tickets the passes popped
+-- the number of tasks that the passes popped
 abbrev pub pops_of : List PoolPass → ℕ
 pops_of passes = sum_by (λ pass. length pass.popped) passes
 
--- What the passes pushed is what they popped together with so many tickets that are left, however tickets are weighed.
+-- The tasks that the passes pushed are those that they popped together with `left` others, each as often: for every weight the
+-- sums agree.
 pub record LeavesOf (passes : List PoolPass) (left : ℕ) : Type 0 where
   pub tickets : List OpenTask
   pub are_left : length tickets ≡ left
@@ -25,7 +26,8 @@ pub record LeavesOf (passes : List PoolPass) (left : ℕ) : Type 0 where
       → sum_by (λ pass. sum_by h pass.pushed) passes
       ≡ sum_by (λ pass. sum_by h pass.popped) passes + sum_by h tickets
 
--- Of all passes, these are not taken in yet by one pass, and so many tickets were pushed and popped by the others.
+-- One pass takes in all passes, one after the other: those in `rest` are still to come, and the others pushed `pushed` tasks and
+-- popped `popped`.
 pub record Gathers (table : TableId) (count : ℕ) (all rest : List PoolPass) (into : Pass OpenTask Hand) (pushed popped : ℕ)
     : Type 0 where
   pub is_of : IsOf table into

@@ -1,4 +1,4 @@
-//! What lies under the lock of a pool: results for its users, and the ledger of them all.
+//! The state under the lock of a pool: results for its users, and the ledger's book of all results.
 ghost use Rattle.std.specs.Prelude.{◌≡◌, ◌+◌, ◌-◌, ◌<◌, ◌^◌, ◌↔◌, [], None, Some, length, replicate, true, false, vec_len, IfErr, IfNone, IfOk, IfSome, IsOk, IsTrue, OnErr, OnOk};
 ghost use Rattle.std.specs.List.{All};
 ghost use Rattle.lj_queue.specs.ResultList.{empty_list, with_last};
@@ -17,7 +17,7 @@ use std::sync::ledger::{self, Ledger};
 /// The number of mailboxes. Users whose numbers are equal modulo this share one.
 pub const USERS: usize = 64;
 
-/// The mailbox of a user.
+/// Returns the mailbox of a user, 0 to 63.
 pub(crate) fn mailbox_of(user: u8) -> usize
     ensures value { result ≡ mailbox_of user }
     ensures within { result < USERS }
@@ -25,7 +25,7 @@ pub(crate) fn mailbox_of(user: u8) -> usize
     usize::from(user) % USERS
 }
 
-/// Results for each user, which end of each is present, and the ledger's book of the results that were given.
+/// The results and the present end of each user, and the ledger's book of the results that were given.
 #[derive(Drop)]
 pub(crate) struct Mailboxes<L: Ledger> {
     lists: Vec<ResultList>,
@@ -33,10 +33,10 @@ pub(crate) struct Mailboxes<L: Ledger> {
     present: [Option<u64>; USERS],
     /// The number of the end that came last, from 1; 0 before one came.
     last: u64,
-    /// How many results were given.
+    /// The number of results that were given.
     given: u64,
     results: ledger::Book<L>,
-    /// Where ends wait for results.
+    /// The queues in which ends wait for results.
     pub(crate) wait_queues: WaitQueues,
     closed: bool,
     ghost counted: { given ≡ results.total },
@@ -44,7 +44,7 @@ pub(crate) struct Mailboxes<L: Ledger> {
 }
 
 impl<L: Ledger> Mailboxes<L> {
-    /// Mailboxes of no results, open, where no user has an end.
+    /// Makes open mailboxes without results, where no user has an end.
     pub(crate) fn new(alloc: Global, results: ledger::Book<L>) -> Result<Mailboxes<L>, AllocError>
         requires { results.total ≡ 0 }
         ensures lists { IfOk result (λ mailboxes. All (λ list. list.results ≡ []) mailboxes.lists.items) }
@@ -64,8 +64,8 @@ impl<L: Ledger> Mailboxes<L> {
         })
     }
 
-    /// A new end of the user comes in place of the present one, whose results are dropped and their boxes put by. Its
-    /// number, which no end had before. None where 2^64 - 1 ends came: then no end is present.
+    /// Replaces the user's present end by a new one: drops the results of the old one, and adds their boxes to the spare ones.
+    /// Returns the new number, which no end had before. None after 2^64 - 1 ends: then the user has no present end.
     pub(crate) fn enter<R: Wait>(&mut self, rt: &R, user: u8, spares: &Spares) -> Option<u64>
         ensures number { IfSome result (λ number. number ≡ self.old.last + 1) }
         ensures last { IfSome result (λ number. self.new.last ≡ number) }
@@ -84,7 +84,7 @@ impl<L: Ledger> Mailboxes<L> {
         number
     }
 
-    /// Drops the user's results, whose boxes are put by. Its present end is gone.
+    /// Drops the user's results, adds their boxes to the spare ones, and removes the present end.
     pub(crate) fn withdraw<R: Wait>(&mut self, rt: &R, user: u8, spares: &Spares)
         ensures present { self.new.present ≡ with_list self.old.present user None }
         ensures lists { self.new.lists.items ≡ with_list self.old.lists.items user (empty_list user) }
@@ -97,15 +97,15 @@ impl<L: Ledger> Mailboxes<L> {
         self.present[mailbox_of(user)] = None;
     }
 
-    /// Whether this end is the user's present one.
+    /// Returns whether this end is the user's present one.
     fn is_present(&self, end: u64, user: u8) -> bool
         ensures { IsTrue result ↔ (present_of self.now.present user ≡ Some end) }
     {
         self.present[mailbox_of(user)] == Some(end)
     }
 
-    /// Keeps a result of a task that an end posted for its user, where that end is present, the task is of the list's
-    /// user, and there is room. It is credited to the share then.
+    /// Keeps a result of a task that an end posted for its user, and credits it to the share, if that end is present, the task is
+    /// of the list's user, there is room, and fewer than 2^64 - 1 results were given.
     ///
     /// # Errors
     /// The result, where it is not kept.
@@ -150,7 +150,8 @@ impl<L: Ledger> Mailboxes<L> {
         Ok(())
     }
 
-    /// Hands out all results of the user, in exchange for an empty list. False where there is none, or the pool is closed.
+    /// Hands out all results of the user, in exchange for an empty list. Returns false where there is none, or the pool is
+    /// closed.
     pub(crate) fn hand_out(&mut self, user: u8, hand: &mut ResultList) -> bool
         requires { hand.old ≡ empty_list user }
         ensures handed_out { result ≡ true → hand.new ≡ list_of self.old.lists.items user }
@@ -192,14 +193,14 @@ impl<L: Ledger> Mailboxes<L> {
         self.closed = true;
     }
 
-    /// Whether the pool is closed.
+    /// Returns whether the pool is closed.
     pub(crate) fn is_closed(&self) -> bool
         ensures { result ≡ self.now.closed }
     {
         self.closed
     }
 
-    /// How many results were given, which is what all parts of the ledger have together.
+    /// Returns the number of results given, which is the amount of all parts of the ledger together.
     pub(crate) fn audited(&mut self, all: &mut ledger::Share<L>) -> u64
         requires { all.old.parts ≡ L.parts }
         ensures result { result ≡ self.old.given }
@@ -216,7 +217,7 @@ impl<L: Ledger> Mailboxes<L> {
     }
 }
 
-/// A list of no results for each user.
+/// Makes an empty list for each mailbox.
 fn empty_lists(alloc: Global) -> Result<Vec<ResultList>, AllocError>
     ensures count { IfOk result (λ lists. vec_len lists ≡ USERS) }
     ensures empty { IfOk result (λ lists. All (λ list. list.results ≡ []) lists.items) }

@@ -1,10 +1,10 @@
-//! An open task, and whose it is.
+//! An open task, with its end and its user.
 
 use lj_book::TaskBox;
 use std::marker::Model;
 
-/// A task that is open, with the number of the end that posted it and that end's user. The task lies in a box, which
-/// passes from hand to hand and becomes the box of its result.
+/// An open task, with the number of the end that posted it and that end's user. The task lies in a box, which is handed on with
+/// it and becomes the box of its result.
 #[derive(Drop)]
 pub struct OpenTask {
     pub end: u64,

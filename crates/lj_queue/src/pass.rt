@@ -1,4 +1,4 @@
-//! Passes of the queue of open tasks, each counted.
+//! Passes of the queue of open tasks, with counts of pushes and pops.
 ghost use Rattle.std.specs.Prelude.{◌≡◌, ◌-◌, ◌^◌, ℕ, length, OnErr, OnOk, IfErr, IfNone, IfSome};
 ghost use Rattle.atomic_table.specs.Seated.{TableId};
 ghost use Rattle.lj_queue.specs.PoolPass.{IsCounted, with_push, with_pop, pass_of};
@@ -13,7 +13,7 @@ use std::marker::{Brand, Model, PhantomData};
 use std::sync::Wait;
 use std::sync::ledger::Ledger;
 
-/// Which pool a pass is of, and how many passes that pool has.
+/// The pool of a pass: the name of its queue, and the number of its passes.
 pub trait PoolIdentity: Ledger {
     ghost table: { TableId };
 
@@ -50,7 +50,7 @@ impl<L: PoolIdentity> Model for CountedPass<L> {
 }
 
 impl<L: PoolIdentity> CountedPass<L> {
-    /// A pass that has pushed and popped nothing.
+    /// Wraps a pass that has pushed and popped nothing.
     pub(crate) fn new(pass: TaskPass, number: usize) -> CountedPass<L>
         requires { IsCounted L.table pass 0 0 }
         ensures { result ≡ pass_of number pass }
@@ -64,7 +64,7 @@ impl<L: PoolIdentity> CountedPass<L> {
         }
     }
 
-    /// Pushes a ticket, unless there is no room or it has pushed 2^64 - 1.
+    /// Pushes a task. Hands it back where there is no room, or 2^64 - 1 were pushed.
     pub(crate) fn push<R: Wait>(
         &mut self,
         rt: &R,
@@ -84,7 +84,7 @@ impl<L: PoolIdentity> CountedPass<L> {
         Ok(())
     }
 
-    /// Pops a ticket. None where there is none, or it has popped 2^64 - 1.
+    /// Pops a task. None where there is none, or 2^64 - 1 were popped.
     pub(crate) fn pop<R: Wait>(&mut self, rt: &R, queue: &OpenTasks) -> Option<OpenTask>
         requires { queue.now.table.shared.table_id ≡ L.table }
         ensures popped { IfSome result (λ ticket. self.new ≡ with_pop self.old ticket) }
@@ -99,11 +99,11 @@ impl<L: PoolIdentity> CountedPass<L> {
     }
 }
 
-/// The most boxes that a pass keeps for tasks that are posted by it.
+/// The most boxes that a pass keeps for tasks that it posts.
 pub const MAX_SPARE_BOXES: usize = 16;
 
-/// The boxes of one thread: that of the result which it looks at, those of the results that it has in hand, and some for
-/// the tasks that it posts next, of which the one that was kept last is taken first.
+/// The boxes of one thread: that of the result it shows, those of the results in hand, and spare ones for the tasks that it posts
+/// next, last in, first out.
 #[derive(Drop)]
 pub(crate) struct ResultSlots {
     pub(crate) last: DoneBox,
@@ -112,7 +112,7 @@ pub(crate) struct ResultSlots {
 }
 
 impl ResultSlots {
-    /// Slots of no results.
+    /// Makes slots without results.
     ///
     /// # Errors
     /// Out of memory.
@@ -125,7 +125,7 @@ impl ResultSlots {
     }
 }
 
-/// What one thread at a time may push and pop by. It counts up to 2^64 - 1 tasks each, and has room for results.
+/// The permit by which one thread at a time pushes and pops. It counts up to 2^64 - 1 tasks each, and has slots for results.
 #[derive(Drop)]
 pub struct PoolPass<L: PoolIdentity> {
     counted: CountedPass<L>,
@@ -141,42 +141,42 @@ impl<L: PoolIdentity> Model for PoolPass<L> {
 }
 
 impl<L: PoolIdentity> PoolPass<L> {
-    /// The pass that counts so, with these slots.
+    /// Makes a pass from its counts and its slots.
     pub(crate) fn new(counted: CountedPass<L>, slots: ResultSlots) -> PoolPass<L>
         ensures { result ≡ counted }
     {
         PoolPass { counted, slots }
     }
 
-    /// Its number: which of its pool's passes it is, from 0.
+    /// Returns its number among the passes of its pool, from 0.
     pub fn number(&self) -> usize
         ensures { result ≡ self.now.number }
     {
         self.counted.number
     }
 
-    /// How many tasks it has pushed.
+    /// Returns the number of tasks that it has pushed.
     pub fn pushed(&self) -> u64
         ensures { result ≡ length self.now.pushed }
     {
         self.counted.pushed
     }
 
-    /// How many tasks it has popped.
+    /// Returns the number of tasks that it has popped.
     pub fn popped(&self) -> u64
         ensures { result ≡ length self.now.popped }
     {
         self.counted.popped
     }
 
-    /// What it counts by, and its slots.
+    /// Returns its counts and its slots.
     pub(crate) fn into_parts(self) -> (CountedPass<L>, ResultSlots)
         ensures { result.0 ≡ self }
     {
         (self.counted, self.slots)
     }
 
-    /// The pass of the queue.
+    /// Returns the pass of the queue.
     pub(crate) fn into_pass(self) -> TaskPass
         ensures pass { pass_of self.number result ≡ self }
         ensures counted { IsCounted L.table result (length self.pushed) (length self.popped) }

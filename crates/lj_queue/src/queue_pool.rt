@@ -30,7 +30,7 @@ pub const MAX_OPEN_TASKS: usize = 1024;
 /// The number of passes for connections. Those of the workers come after them.
 pub const CONNECTIONS: usize = 64;
 
-/// What a pool is made of: an empty queue, its first pass and a blank ledger.
+/// The parts that a pool is made from: an empty queue, its first pass and a blank ledger.
 #[derive(Drop)]
 pub struct QueueBlank {
     queue: OpenTasks,
@@ -52,7 +52,7 @@ impl Model for QueueBlank {
 }
 
 impl QueueBlank {
-    /// What a pool of so many workers is made of.
+    /// Makes the parts of a pool of this many workers.
     ///
     /// # Errors
     /// Out of memory.
@@ -68,34 +68,33 @@ impl QueueBlank {
     }
 }
 
-/// Open tasks in a queue, and results in lists of their users behind a lock. Its ends post tasks and fetch results, each
-/// from a thread of its own, and workers compute them (`work_queue`). The lock is never held while a task is computed.
+/// A pool with open tasks in a queue, and results in lists of their users behind a lock. Its ends post tasks and fetch results,
+/// each from a thread of its own, and workers compute them (`work_queue`). The lock is never held while a task is computed.
 #[derive(Drop)]
 pub struct QueuePool<L: PoolIdentity> {
     pub(crate) queue: OpenTasks,
-    /// The boxes of no ticket and of no result.
+    /// The spare boxes: those without an open task and without a result.
     pub(crate) spares: Spares,
-    /// What the passes were cut from.
+    /// The pass that the others were cut from.
     pub(crate) root_pass: Mutex<RootPass<L>>,
     mailboxes: Mutex<Mailboxes<L>>,
-    /// A task was posted. Workers wait for it.
+    /// Signalled when a task is posted or the pool closes. Workers wait on it.
     not_empty: Condvar,
-    /// A task was taken while posters waited.
+    /// Signalled when a task is taken while ends wait for room, or the pool closes. These ends wait on it.
     not_full: Condvar,
-    /// Results were kept, for each wait queue to the users who share it. Their ends wait for it.
+    /// Signalled when results are kept or the pool closes, one for each wait queue. The ends of its users wait on it.
     results_ready: [Condvar; WAIT_QUEUES],
-    /// How many workers wait for a task.
+    /// The number of workers that wait for a task.
     idle: AtomicUsize,
-    /// How many ends wait for room.
+    /// The number of ends that wait for room.
     waiting_posters: AtomicUsize,
-    /// Whether the pool is closed, as the mailboxes say too.
+    /// Set once the pool is closed, as the mailboxes say too.
     closed: AtomicBool,
     ghost is_of: { queue.table.shared.table_id ≡ L.table },
 }
 
 impl<L: PoolIdentity> QueuePool<L> {
-    /// An empty pool, with its passes, of which the first 64 are for connections and the others for the workers, and a
-    /// share for each worker.
+    /// Makes an empty pool, its passes, the first 64 for connections and the others for the workers, and a share for each worker.
     ///
     /// # Errors
     /// Out of memory.
@@ -143,8 +142,8 @@ impl<L: PoolIdentity> QueuePool<L> {
         Ok((pool, passes, shares))
     }
 
-    /// An end of the pool for a user, to which nothing is owed. It comes in place of the user's present one. Once 2^64 - 1
-    /// ends came the pool is closed, and an end has the number 0, which no present one has.
+    /// Makes an end of the pool for a user, to which nothing is owed, in place of the user's present one. After 2^64 - 1 ends it
+    /// closes the pool, and the end has the number 0, which no present one has.
     pub fn end<'p, R: Wait>(&'p self, rt: &'p R, pass: PoolPass<L>, user: u8) -> QueueEnd<'p, L, R>
         ensures seen { result.seen ≡ nothing_seen }
         ensures pass { result.pass ≡ pass }
@@ -168,13 +167,13 @@ impl<L: PoolIdentity> QueuePool<L> {
         }
     }
 
-    /// Drops the user's results. Its present end is gone: what comes for that is dropped too.
+    /// Drops the user's results, and removes the present end: results that come for it later are dropped too.
     pub fn withdraw<R: Wait>(&self, rt: &R, user: u8) {
         self.mailboxes.lock(rt).withdraw(rt, user, &self.spares);
     }
 
-    /// Posts a task of an end for its user by a pass, in its next box or a spare one. With `wait` it waits while there is
-    /// no room.
+    /// Posts a task of an end for its user by a pass, in its next box or a spare one. With `wait` it waits while there is no
+    /// room, and fails only where the pool is closed.
     pub(crate) fn post<R: Wait>(
         &self,
         rt: &R,
@@ -201,7 +200,7 @@ impl<L: PoolIdentity> QueuePool<L> {
         }
     }
 
-    /// Posts a task of an end for its user by a pass, in its next box or a spare one. Whether there was room.
+    /// Posts a task of an end for its user by a pass, in its next box or a spare one. Returns whether there was room.
     fn try_post<R: Wait>(
         &self,
         rt: &R,
@@ -217,7 +216,7 @@ impl<L: PoolIdentity> QueuePool<L> {
         self.fill(rt, task, next) && self.push_next(rt, pass, end, user, next)
     }
 
-    /// Copies a task into the next box, a spare one if there is none. Whether there is one.
+    /// Copies a task into the next box; where there is none, takes a spare one for it. Returns false if none is spare either.
     fn fill<R: Wait>(&self, rt: &R, task: &Task, next: &mut Option<TaskBox>) -> bool
         ensures filled { result ≡ true → next.new ≡ Some task.now }
         ensures none { result ≡ false → next.old ≡ None }
@@ -234,7 +233,7 @@ impl<L: PoolIdentity> QueuePool<L> {
         }
     }
 
-    /// Pushes the task in the next box. Whether there was room: the box stays where there was none.
+    /// Pushes the task in the next box. Returns whether there was room; if not, the box stays.
     fn push_next<R: Wait>(
         &self,
         rt: &R,
@@ -258,7 +257,7 @@ impl<L: PoolIdentity> QueuePool<L> {
         false
     }
 
-    /// Waits for room, and posts a task then.
+    /// Waits for room, and then posts a task. Fails only where the pool is closed.
     fn post_later<R: Wait>(
         &self,
         rt: &R,
@@ -289,7 +288,7 @@ impl<L: PoolIdentity> QueuePool<L> {
         unreachable!()
     }
 
-    /// Wakes workers that wait, for so many tasks that were posted.
+    /// Wakes waiting workers for this many tasks that were posted.
     pub(crate) fn wake_workers<R: Wait>(&self, rt: &R, tasks: usize) {
         if tasks == 0 || self.idle.load(Ordering::SeqCst) == 0 {
             return;
@@ -302,7 +301,7 @@ impl<L: PoolIdentity> QueuePool<L> {
         }
     }
 
-    /// Takes an open task by a pass, and waits for one. None where the pool is closed.
+    /// Takes an open task by a pass, and waits until there is one. None where the pool is closed.
     pub(crate) fn take<R: Wait>(&self, rt: &R, pass: &mut CountedPass<L>) -> Option<OpenTask>
         ensures popped { IfSome result (λ ticket. pass.new ≡ with_pop pass.old ticket) }
         ensures nothing { IfNone result (pass.new ≡ pass.old) }
@@ -343,10 +342,10 @@ impl<L: PoolIdentity> QueuePool<L> {
         unreachable!()
     }
 
-    /// Hands a ticket back by the pass that popped it, and wakes a worker that waits.
+    /// Hands a task back by the pass that popped it, and wakes a waiting worker.
     ///
     /// # Errors
-    /// The ticket, where there is no room for it.
+    /// The task, where there is no room for it.
     pub(crate) fn hand_back<R: Wait>(
         &self,
         rt: &R,
@@ -362,7 +361,7 @@ impl<L: PoolIdentity> QueuePool<L> {
         Ok(())
     }
 
-    /// Gives the result of a task that an end posted for its user, and puts its box by where it is not kept.
+    /// Gives the result of a task that an end posted for its user. If it is not kept, its box becomes spare.
     pub(crate) fn give_or_put_by<R: Wait>(
         &self,
         rt: &R,
@@ -379,8 +378,8 @@ impl<L: PoolIdentity> QueuePool<L> {
         }
     }
 
-    /// Gives the result of a task that an end posted for its user. It is kept, and credited to the share, where that end
-    /// is present, the task is of its user and there is room for it.
+    /// Gives the result of a task that an end posted for its user. It is kept, and credited to the share, if that end is present,
+    /// the task is of its user and there is room for it.
     ///
     /// # Errors
     /// The result, where it is not kept.
@@ -406,13 +405,13 @@ impl<L: PoolIdentity> QueuePool<L> {
         kept
     }
 
-    /// Whether the pool is closed.
+    /// Returns whether the pool is closed.
     pub(crate) fn is_closed(&self) -> bool {
         self.closed.load(Ordering::SeqCst)
     }
 
-    /// Fetches all results of the user that are there in exchange for an empty list, and waits for one. False where the
-    /// pool is closed. So many are owed to the end that asks.
+    /// Fetches all results of the user that are there, in exchange for an empty list, and waits until there is one. `owed`
+    /// results are owed to the end. Returns false where the pool is closed.
     pub(crate) fn fetch<R: Wait>(
         &self,
         rt: &R,
@@ -437,7 +436,7 @@ impl<L: PoolIdentity> QueuePool<L> {
         unreachable!()
     }
 
-    /// Fetches all results of the user that are there now, in exchange for an empty list. False where there is none, or
+    /// Fetches all results of the user that are there now, in exchange for an empty list. Returns false where there is none, or
     /// the pool is closed.
     pub(crate) fn poll<R: Wait>(&self, rt: &R, user: u8, hand: &mut ResultList) -> bool
         requires { hand.old ≡ empty_list user }
@@ -448,7 +447,7 @@ impl<L: PoolIdentity> QueuePool<L> {
         self.mailboxes.lock(rt).hand_out(user, hand)
     }
 
-    /// How many results were given, which is what all parts of the ledger have together.
+    /// Returns the number of results given, which is the amount of all parts of the ledger together.
     pub(crate) fn audited<R: Wait>(&self, rt: &R, all: &mut ledger::Share<L>) -> u64
         requires { all.old.parts ≡ L.parts }
         ensures { result ≡ all.old.amount }

@@ -1,4 +1,4 @@
-//! What a worker of a pool does, and the sum of what all have done.
+//! The loop of a worker of a pool with a queue, and the sum of what all workers did.
 ghost use Rattle.std.specs.Prelude.{◌≡◌, ◌≤◌, ◌-◌, sum, vec_len, IfNone, IfSome};
 ghost use Rattle.lj_queue.specs.PoolPass.{PopsFor, with_push};
 
@@ -9,12 +9,12 @@ use lj_pool::{Gate, Share, merged};
 use lj_table::Table;
 use std::sync::Wait;
 
-/// Computes tasks of the pool until it is closed, with a gate between taking a task and computing it. The share that is
-/// handed back has been credited each result that was kept. The pass has popped their tasks, and besides those each task
-/// that it pushed again because the gate sent it back.
+/// Computes tasks of the pool until it is closed; each task passes the gate after it is taken and before it is computed. Returns
+/// the share, credited with each result that was kept, and the pass, which popped the tasks of these results and each task that
+/// it pushed again because the gate sent it back.
 ///
-/// Promise: what the pass has popped is, task by task and as often, what it pushed again together with other tasks, at
-/// least one for each result that is credited.
+/// Promise: what the pass popped is, task by task and as often, what it pushed again together with other tasks, at least one for
+/// each result that is credited.
 pub fn work_queue<L: PoolIdentity, G: Gate, R: Wait>(
     rt: &R,
     pool: &QueuePool<L>,
@@ -42,7 +42,7 @@ pub fn work_queue<L: PoolIdentity, G: Gate, R: Wait>(
     (share, PoolPass::new(counted, slots))
 }
 
-/// The ticket, unless the gate sends its task back and there is room for it in the queue, where it is open again.
+/// Returns the task, or None if the gate sent it back and there was room for it in the queue, where it is open again.
 fn kept<L: PoolIdentity, G: Gate, R: Wait>(
     rt: &R,
     pool: &QueuePool<L>,
@@ -62,7 +62,7 @@ fn kept<L: PoolIdentity, G: Gate, R: Wait>(
     }
 }
 
-/// How many results of all workers together were kept, which is how many the pool was given.
+/// Returns the number of results kept from all workers together, which is the number given to the pool.
 pub fn gather<L: PoolIdentity, R: Wait>(rt: &R, pool: &QueuePool<L>, shares: Vec<Share<L>>) -> u64
     requires { vec_len shares ≡ L.parts }
     ensures { result ≡ sum shares.items }

@@ -11,8 +11,8 @@ use std::marker::Model;
 /// The most results that the pool with a queue keeps for a user.
 pub const MAX_RESULTS: usize = 64;
 
-/// At most 64 results, all of one user, first in first out. Each lies in a box, which comes in and goes out. It takes
-/// its memory when it is made.
+/// At most 64 results, all of one user, first in, first out. Each comes in and goes out in its box. The list takes its memory
+/// when it is made.
 #[derive(Drop)]
 pub struct ResultList {
     user: u8,
@@ -31,7 +31,7 @@ impl Model for ResultList {
 }
 
 impl ResultList {
-    /// A list of no results of a user.
+    /// Makes a list without results for a user.
     pub fn new(alloc: Global, user: u8) -> Result<ResultList, AllocError>
         ensures { IfOk result (λ list. list ≡ empty_list user) }
     {
@@ -39,21 +39,21 @@ impl ResultList {
         Ok(ResultList { user, results })
     }
 
-    /// Whether it has results of this user.
+    /// Returns whether it has results of this user.
     pub fn has_some_of(&self, user: u8) -> bool
         ensures { IsTrue result ↔ ((self.now.user ≡ user) × (0 < length self.now.results)) }
     {
         self.user == user && !self.results.is_empty()
     }
 
-    /// Whether it has no results.
+    /// Returns whether it has no results.
     pub fn is_empty(&self) -> bool
         ensures { IsTrue result ↔ (length self.now.results ≡ 0) }
     {
         self.results.is_empty()
     }
 
-    /// Whether there is room for a result, and it is of the list's user.
+    /// Returns whether there is room for a result, and it is of the list's user.
     pub fn takes(&self, done: &DoneRef<'_>) -> bool
         ensures { IsTrue result ↔ ((length self.now.results < MAX_RESULTS)
             × (done.now.name.label.user ≡ self.now.user)) }
@@ -70,7 +70,7 @@ impl ResultList {
         self.results.push_back_reserved(done);
     }
 
-    /// Takes the first result for a user. None where there is none, or the list is another's.
+    /// Takes the first result for a user. None where there is none, or the list is of another user.
     pub fn pop(&mut self, user: u8) -> Option<DoneBox>
         ensures first { IfSome result (λ done. self.old ≡ with_first done self.new) }
         ensures whose { IfSome result (λ done. done.name.label.user ≡ user) }
@@ -83,7 +83,7 @@ impl ResultList {
         self.take_first()
     }
 
-    /// Takes the first result, whosever it is.
+    /// Takes the first result, of whichever user.
     pub fn take_first(&mut self) -> Option<DoneBox>
         ensures first { IfSome result (λ done. self.old ≡ with_first done self.new) }
         ensures whose { IfSome result (λ done. done.name.label.user ≡ self.old.user) }
@@ -93,7 +93,7 @@ impl ResultList {
         self.results.pop_front()
     }
 
-    /// A list of no results is this user's from now on.
+    /// Makes a list without results this user's list.
     pub fn turn_to(&mut self, user: u8)
         requires { self.old.results ≡ [] }
         ensures { self.new ≡ empty_list user }

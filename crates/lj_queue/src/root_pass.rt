@@ -1,4 +1,4 @@
-//! What the passes of a pool are cut from.
+//! The pass that the passes of a pool are cut from.
 ghost use Rattle.std.specs.Prelude.{◌≡◌, ◌+◌, ◌-◌, ◌<◌, ◌^◌, ℕ, [], vec_len, slice_index_or, IfOk};
 ghost use Rattle.lj_queue.specs.PoolPass.{IsOf, IsRootPass, IsCounted, untouched_pass};
 
@@ -7,7 +7,7 @@ use crate::rule::{Cut, OpenTasks, TaskPass};
 use std::alloc::{AllocError, Global};
 use std::marker::PhantomData;
 
-/// The pass that keeps the parts which no pass of the pool has.
+/// The root pass: it keeps the parts that no pass of the pool has.
 #[derive(Drop)]
 pub(crate) struct RootPass<L: PoolIdentity> {
     pass: TaskPass,
@@ -16,7 +16,7 @@ pub(crate) struct RootPass<L: PoolIdentity> {
 }
 
 impl<L: PoolIdentity> RootPass<L> {
-    /// The pass that keeps those parts.
+    /// Returns the pass of the queue.
     pub(crate) fn into_pass(self) -> TaskPass
         ensures { IsRootPass L.table L.passes result }
     {
@@ -24,7 +24,7 @@ impl<L: PoolIdentity> RootPass<L> {
     }
 }
 
-/// The passes of a pool, each with its number, and what is left of the first one.
+/// Cuts the passes of a pool, each with its number, off the first one, and returns them with what is left of it.
 pub(crate) fn passes_of<L: PoolIdentity>(
     alloc: Global,
     queue: &OpenTasks,

@@ -5,14 +5,14 @@ use crossbeam_queue::protocol::{Join, Lesson, Outcome, Protocol, Split};
 use crossbeam_queue::{Pass, RuledArrayQueue};
 use std::collections::LinkedList;
 
-/// What a pass has pushed and popped, and its parts of the right to know the whole. No value of it is made.
+/// The history of a pass: what it pushed and popped, and its parts of the right to know the whole. No value of it is made.
 pub struct Hand {
     pub parts: u64,
     pub pushed: LinkedList<OpenTask>,
     pub popped: LinkedList<OpenTask>,
 }
 
-/// Nothing is added and nothing is lost.
+/// The rule that no task is added and none is lost.
 pub struct Fair;
 
 impl Protocol<OpenTask, Hand> for Fair {
@@ -24,7 +24,7 @@ impl Protocol<OpenTask, Hand> for Fair {
     ghost first = { hand_of all_parts [] [] };
 }
 
-/// A pass is cut in two, or takes another in.
+/// The cut of a pass in two, and the join of two.
 pub struct Cut;
 
 impl Split<Hand> for Cut {
@@ -45,7 +45,7 @@ impl Join<Hand> for Cut {
     ghost spent = { hand_of 0 [] [] };
 }
 
-/// A ticket is pushed.
+/// The push of a task.
 pub struct Pushed;
 
 impl Outcome<OpenTask, Hand> for Pushed {
@@ -61,7 +61,7 @@ impl Lesson<OpenTask, Hand> for Pushed {
     ghost fact = { λ v items. ⊤ };
 }
 
-/// A ticket is popped.
+/// The pop of a task.
 pub struct Popped;
 
 impl Outcome<OpenTask, Hand> for Popped {
@@ -77,7 +77,7 @@ impl Lesson<OpenTask, Hand> for Popped {
     ghost fact = { λ v items. ⊤ };
 }
 
-/// What the pass with every part knows of the tickets in the queue.
+/// What the pass with all parts knows of the tasks in the queue.
 pub struct Total;
 
 impl Lesson<OpenTask, Hand> for Total {

@@ -7,7 +7,7 @@ use crate::queue_pool::QueuePool;
 use crate::rule::{Cut, Total};
 use std::sync::Wait;
 
-/// How many tasks were pushed, how many were popped, and how many are left in the queue.
+/// The numbers of tasks that were pushed, that were popped, and that are left in the queue.
 #[derive(Clone, Copy, PartialEq, Eq, Debug)]
 pub struct Settled {
     pub pushed: u128,
