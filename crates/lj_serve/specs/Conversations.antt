@@ -8,8 +8,8 @@ use Rattle.lj_pool.specs.declared.engine.served.Served.TheVariants.{End, PoolClo
 use Rattle.lj_pool.specs.Seen.{Seen, nothing_seen}
 use Rattle.lj_pool.specs.Served.{Serves}
 
--- What was written is the dialogue of what was read, from a user of this quota without sessions, and it ended so;
--- at the end of the input all was read. The pool never gives up.
+-- What was written is the dialogue of what was read, from a user of this quota without sessions, and serving ended as `served`
+-- says; at the end of the input all was read. The pool is never given up.
 pub record Converses (served : Served) (quota : Quota) (left was is : Option (List ℕ)) : Type 0 where
   pub rest : Option (List ℕ)
   pub seen : Seen

@@ -1,11 +1,11 @@
--- What a ticket has come to that waited for a while.
+-- What becomes of a ticket that waits, and of a state that comes home.
 use Rattle.std.specs.Prelude.{◌≡◌, ◌⊎◌, List, slice_get, IsSomeAnd}
 use Rattle.lj_session.specs.UserState.{Reached, UserState}
 use Rattle.lj_access.specs.Rows.{Row, Ticket, HasEntered, with_home, with_row_changed}
 use Rattle.lj_serve.specs.declared.serve.shared_directory.Entry.{Entry}
 use Rattle.lj_serve.specs.declared.serve.shared_directory.Entry.TheVariants.{Entered, Closed, Waits}
 
--- a state that a ticket is given is one that commands reach
+-- a state lent to a ticket that entered is one that commands reach
 abbrev pub IsReached : Entry → Type 0
 IsReached (Entered state) = Reached state
 IsReached Closed = Unit {0}

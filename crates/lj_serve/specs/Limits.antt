@@ -1,4 +1,4 @@
--- What a user may be given at the most, how many connections are open, and the limits of other crates that are one.
+-- The limits of quotas and of open connections, and the limits of several crates that are equal.
 use Rattle.std.specs.Prelude.{◌≡◌, refl}
 use Rattle.lj_access.specs.declared.directory.TheConstants.{MAX_USERS}
 use Rattle.lj_pool.specs.declared.pool.TheConstants.{MAX_OWED}
@@ -13,11 +13,11 @@ use Rattle.lj_serve.specs.declared.serve.connection_limit.TheConstants.{MAX_OPEN
 most_sessions : MAX_QUOTA_SESSIONS ≡ 64
 most_sessions = refl
 
--- 65,536 atoms
+-- a quota has at most 65,536 atoms
 most_atoms : MAX_QUOTA_ATOMS ≡ 65536
 most_atoms = refl
 
--- and 256 branches
+-- a quota has at most 256 branches
 most_branches : MAX_QUOTA_BRANCHES ≡ 256
 most_branches = refl
 
@@ -25,7 +25,7 @@ most_branches = refl
 most_open : MAX_OPEN_CONNECTIONS ≡ 64
 most_open = refl
 
--- they are as many as a schedule can name
+-- as many as a schedule can name
 most_open_of_world : MAX_OPEN_CONNECTIONS ≡ world.MAX_CONNECTIONS
 most_open_of_world = refl
 
@@ -33,10 +33,10 @@ most_open_of_world = refl
 end_for_each : MAX_OPEN_CONNECTIONS ≡ CONNECTIONS
 end_for_each = refl
 
--- that pool keeps the results of each user of a directory apart
+-- that pool has a mailbox for each user of a directory
 users_apart : USERS ≡ MAX_USERS
 users_apart = refl
 
--- an event posts as many tasks of a connection as an end of a pool may owe
+-- a connection of a world may have as many tasks posted as may be owed to an end of a pool
 posted_as_owed : world.MAX_POSTED ≡ MAX_OWED
 posted_as_owed = refl

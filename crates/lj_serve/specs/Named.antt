@@ -6,7 +6,7 @@ use Rattle.lj_access.specs.Users.{names}
 use Rattle.lj_access.specs.declared.user.User.{User}
 use Rattle.lj_access.specs.declared.directory.TheConstants.{MAX_USERS}
 
--- at most as many as a directory has, each with a name of its own
+-- at most as many as a directory has, no two of one name
 pub record AreUsers (users : List User) : Type 0 where
   pub most : length users ≤ MAX_USERS
   pub distinct : IsDistinct bytes_eq (names users)

@@ -1,4 +1,4 @@
--- How a run comes out, and which fault of the program it is.
+-- The outcome of a run, and the faults of the program.
 use Rattle.std.specs.Prelude.{◌≡◌, ℕ, Result, Ok, Err}
 use Rattle.lj_pool.specs.declared.engine.served.Served.{Served}
 use Rattle.lj_pool.specs.declared.engine.served.Served.TheVariants.{End, Bye, Ended, ReadFault, WriteFault}
@@ -11,7 +11,7 @@ use Rattle.lj_serve.specs.declared.program_fault.ReplayFault.TheVariants as repl
 use Rattle.lj_serve.specs.declared.program_fault.Fault.TheVariants.{Read, Write, Listen, Memory}
 use Rattle.lj_serve.specs.declared.program_fault.Fault.TheVariants.{Unreadable, ScheduleLine, UsersLine}
 
--- what a run comes to that has ended so, and whose replies are written; its pool never gives up
+-- the outcome of a run whose replies are written, by how serving ended; its pool is never given up
 abbrev pub ComesTo : Served → Result (Unit {0}) Fault → Type 0
 ComesTo End outcome = outcome ≡ Ok tt
 ComesTo Bye outcome = outcome ≡ Ok tt
@@ -31,23 +31,23 @@ status_of (ScheduleLine number) = 2
 status_of (UsersLine number) = 2
 status_of Memory = 3
 
--- why a schedule is not replayed that is not read
+-- the replay fault of a schedule that cannot be read
 abbrev pub replay_fault_of : TextFault → ReplayFault
 replay_fault_of (texts.Line number) = replays.Line number
 replay_fault_of texts.Memory = replays.Memory
 
--- the fault of a program whose schedule is not replayed
+-- the fault of a program whose replay failed
 abbrev pub fault_of_replay : ReplayFault → Fault
 fault_of_replay (replays.Line number) = ScheduleLine number
 fault_of_replay replays.Memory = Memory
 fault_of_replay replays.Write = Write
 
--- why a server does not serve whose users are not read
+-- the fault of a program whose users cannot be read
 abbrev pub users_fault_of : TextFault → Fault
 users_fault_of (texts.Line number) = UsersLine number
 users_fault_of texts.Memory = Memory
 
--- of this a run can fail
+-- the faults with which a run can fail
 abbrev pub IsOfRun : Fault → Type 0
 IsOfRun Read = Unit {0}
 IsOfRun Write = Unit {0}

@@ -12,19 +12,19 @@ use Rattle.lj_world.specs.declared.transcript.Entry.{Entry}
 use Rattle.lj_world.specs.Runs.{IsTranscript}
 use Rattle.lj_world.specs.Laws.{AgreesWithEveryRun}
 
--- what stands before each line: the name of the user and the number of the connection, a blank after each
+-- the prefix of each line: the name of the user and the number of the connection, a blank after each
 abbrev pub head : List ℕ → ℕ → List ℕ
 head name connection = name ++ 32 ∷ (decimal connection ++ 32 ∷ [])
 
--- these lines, each with what stands before it
+-- these lines, each after this prefix
 abbrev pub headed : List ℕ → List (List ℕ) → List ℕ
 headed before lines = flat_map (λ line. before ++ line) lines
 
--- a reply to a user of this name, of which each line has its head
+-- a reply to a user of this name, each line after its prefix
 abbrev pub printed_entry : List ℕ → Entry → List ℕ
 printed_entry name entry = headed (head name entry.connection) (lines_of entry.text)
 
--- the same with the name found in the list of all names
+-- the same with the name found in the list of all names; nothing for a user who is not in it
 abbrev pub printed_among : List (List ℕ) → Entry → List ℕ
 printed_among names entry = option_map_or (λ name. printed_entry name entry) (slice_get names entry.user) []
 
@@ -32,8 +32,8 @@ printed_among names entry = option_map_or (λ name. printed_entry name entry) (s
 abbrev pub printed : List (List ℕ) → List Entry → List ℕ
 printed names entries = flat_map (printed_among names) entries
 
--- These bytes are the printed transcript of a run from some users over some events, and of this run the headline
--- holds against every other.
+-- These bytes are the printed transcript of a run from some users over some events, and the headline holds for this run against
+-- every other.
 pub record IsPrintedRun (bytes : List ℕ) : Type 0 where
   pub users : List User
   pub events : List Event

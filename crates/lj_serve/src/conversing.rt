@@ -17,11 +17,11 @@ use std::io::{Read, Write};
 /// The number of the one user.
 const ONLY_USER: u8 = 0;
 
-/// Answers the commands of `reader` on `writer`, as those of one user with this quota and no sessions, until the
-/// input or the connection ends. What was replied is written before more input is waited for.
+/// Answers the commands of `reader` on `writer`, as those of one user with this quota and no sessions, until the input or the
+/// connection ends. Writes all replies before it waits for more input.
 ///
 /// # Errors
-/// `Memory` comes before anything is read.
+/// `Memory` before anything is read, `Read` or `Write`.
 pub fn run<R: Read + Drop, W: Write + Drop>(
     alloc: Global,
     quota: Quota,
@@ -42,8 +42,8 @@ pub fn run<R: Read + Drop, W: Write + Drop>(
 /// Answers the items of a source on a sink, as those of one user with this quota and no sessions, until the input
 /// or the connection ends.
 ///
-/// Promise: to a sink that tells its bytes what is written is what `serve` writes, from a user of this quota without
-/// sessions on.
+/// Promise: what is written to a sink whose bytes are known is what `serve` writes, from a user of this quota without sessions
+/// on.
 fn converse<R: Source + Drop, W: Sink>(
     alloc: Global,
     quota: Quota,
@@ -60,7 +60,7 @@ fn converse<R: Source + Drop, W: Sink>(
     (served, source, sink)
 }
 
-/// What a run comes to that has ended so, and whose replies are written.
+/// Returns the outcome of a run whose replies are written, by how serving ended.
 fn outcome(served: Served) -> Result<(), Fault<'static>>
     requires never_closed { served ≡ PoolClosed → ⊥ }
     requires few_strays { served ≡ TooManyStrays → ⊥ }

@@ -1,4 +1,4 @@
-//! Texts of lines, and the users that lines give.
+//! Texts that are read line by line, and the users in them.
 mod text;
 mod user_lines;
 

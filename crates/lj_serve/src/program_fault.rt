@@ -1,4 +1,4 @@
-//! Why the program fails, what it tells then, and its exit status.
+//! The faults of the program, their messages, and its exit status.
 ghost use Rattle.std.specs.Prelude.{◌≡◌};
 ghost use Rattle.lj_serve.specs.Outcomes.{status_of, fault_of_replay, replay_fault_of, users_fault_of};
 ghost use Rattle.lj_serve.specs.declared.program_fault.Fault.TheVariants.{Memory, Write};
@@ -25,13 +25,13 @@ pub enum Fault<'a> {
     /// A file of this name could not be read.
     #[error("cannot read {0}")]
     Unreadable(&'a str),
-    /// The first line of a schedule that is bad, counted from 1 with the lines of bodies.
+    /// The first bad line of a schedule, counted from 1 with the lines of bodies.
     #[error("schedule line {0}")]
     ScheduleLine(u64),
-    /// The first line of the users that is bad, counted from 1.
+    /// The first bad line of the users, counted from 1.
     #[error("users line {0}")]
     UsersLine(u64),
-    /// There was no memory, or no thread for a worker.
+    /// Out of memory, or no thread for a worker.
     #[error("no memory")]
     Memory,
 }
@@ -41,14 +41,14 @@ pub enum Fault<'a> {
 pub enum ReplayFault {
     /// The first line that is bad, counted from 1 with the lines of bodies. Nothing was written.
     Line(u64),
-    /// There was no memory. Nothing was written.
+    /// Out of memory. Nothing was written.
     Memory,
     /// The output could not be written.
     Write,
 }
 
 impl Fault<'_> {
-    /// That of users who are not read.
+    /// Returns the fault for users that cannot be read.
     pub fn of_users(fault: UsersFault) -> Self
         ensures { result ≡ users_fault_of fault }
     {
@@ -58,7 +58,7 @@ impl Fault<'_> {
         }
     }
 
-    /// The exit status of the program.
+    /// Returns the exit status of the program, 1 to 3.
     pub fn status(self) -> u8
         ensures { result ≡ status_of self.entry }
     {

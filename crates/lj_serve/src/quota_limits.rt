@@ -1,4 +1,4 @@
-//! The most that the quota of a user may say, in a line of users or on the command line.
+//! The limits of a user's quota, in a line of users or on the command line.
 
 /// The most sessions of a quota.
 pub const MAX_QUOTA_SESSIONS: u64 = 64;

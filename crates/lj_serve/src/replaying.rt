@@ -1,4 +1,4 @@
-//! Schedules replayed: their events happen in a world, and what is replied is printed.
+//! Replay of schedules: their events happen in a world, and the replies are printed.
 ghost use Rattle.std.specs.Prelude.{◌≡◌, ◌≢◌, ◌++◌, IfOk, IfErr, OnOk};
 ghost use Rattle.lj_access.specs.Users as listed;
 ghost use Rattle.lj_wire.specs.Ends.{Rises};
@@ -19,15 +19,15 @@ use lj_wire::{Sink, put_all};
 use lj_world::{Entry, World};
 use std::alloc::{AllocError, Global};
 
-/// Runs a schedule in a world of its users, and prints what is replied: each line after the name of its user and
-/// the number of its connection.
+/// Runs a schedule in a world of its users, and prints the replies: each line after the name of its user and the number of its
+/// connection.
 ///
 /// # Errors
-/// `Line` at the first bad line of the schedule, or `Memory`: nothing was written then. `Write` if a
-/// write fails: a front of what is printed may have been written.
+/// `Line` at the first bad line of the schedule, or `Memory`: nothing is written then. `Write` if a write fails: a front of the
+/// transcript may have been written.
 ///
-/// Promise: where it ends well, what was written is the printed transcript of a run, of which the headline holds; at a
-/// bad line nothing was written.
+/// Promise: where it succeeds, what was written is the printed transcript of a run for which the headline holds; at a bad line
+/// nothing was written.
 pub fn replay<W: Sink>(alloc: Global, bytes: &[u8], writer: &mut W) -> Result<(), ReplayFault>
     ensures told { OnOk result (WritesRun (W.contents writer.old) (W.contents writer.new)) }
     ensures nothing { IfErr result (λ fault. fault ≢ Write → writer.new ≡ writer.old) }
@@ -41,7 +41,7 @@ pub fn replay<W: Sink>(alloc: Global, bytes: &[u8], writer: &mut W) -> Result<()
     Ok(())
 }
 
-/// What a run of a schedule prints.
+/// Returns what a run of a schedule prints.
 fn printed_run(alloc: Global, bytes: &[u8]) -> Result<Vec<u8>, ReplayFault>
     ensures run { IfOk result (λ printed. IsPrintedRun printed.items) }
     ensures fault { IfErr result (λ fault. fault ≢ Write) }
@@ -52,14 +52,14 @@ fn printed_run(alloc: Global, bytes: &[u8]) -> Result<Vec<u8>, ReplayFault>
     Ok(told(alloc, names.as_slice(), transcript.entries())?)
 }
 
-/// The names of users, in their order.
+/// Returns the names of users, in their order.
 fn names(alloc: Global, users: &[User]) -> Result<Vec<Name>, AllocError>
     ensures { IfOk result (λ names. names.items ≡ listed.names users.now) }
 {
     users.iter().map(|user| user.name.copy()).collect(alloc)
 }
 
-/// These replies as they are printed.
+/// Returns these replies as they are printed.
 fn told(alloc: Global, names: &[Name], entries: &[Entry]) -> Result<Vec<u8>, AllocError>
     ensures { IfOk result (λ bytes. bytes.items ≡ printed names.now entries.now) }
 {
@@ -70,7 +70,7 @@ fn told(alloc: Global, names: &[Name], entries: &[Entry]) -> Result<Vec<u8>, All
     Ok(bytes)
 }
 
-/// Prints a reply, unless its user is none of these.
+/// Prints a reply, if its user is one of these.
 fn tell(bytes: &mut Vec<u8>, names: &[Name], entry: &Entry) -> Result<(), AllocError>
     ensures { OnOk result (bytes.new.items ≡ bytes.old.items ++ printed_among names.now entry.now) }
 {

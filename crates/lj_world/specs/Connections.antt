@@ -80,8 +80,8 @@ pub record BeginsNext (old : ConnectionView) (text : Option (List ℕ)) (new : C
         && is_ending item;
   }) old
 
--- POST: some session has a task that is not posted yet, fewer than 64 are posted and not fetched, and the book is not
--- full. The first task of the first such session is posted.
+-- POST: some session has a task that is not posted yet, fewer than 64 are posted and not fetched, and the book is not full. The
+-- first task of the first of these sessions is posted.
 pub record PostsNext (old : ConnectionView) (text : Option (List ℕ)) (new : ConnectionView) : Type 0 where
   pub no_reply : text ≡ None
   pub owner : Owner

@@ -4,12 +4,12 @@ use Rattle.lj_tile.specs.Task.{Task}
 use Rattle.lj_world.specs.declared.holding.Holding.{Holding}
 use Rattle.lj_world.specs.declared.holding.Holding.TheVariants.{Task as Taken, Done}
 
--- its task
+-- the task of what is held
 abbrev pub task_of : Holding → Task
 task_of (Taken work) = work
 task_of (Done work) = work
 
--- whether it is computed
+-- the task is computed
 abbrev pub is_computed : Holding → Bool
 is_computed (Taken work) = false
 is_computed (Done work) = true

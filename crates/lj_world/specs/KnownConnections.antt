@@ -13,7 +13,7 @@ pub record IsRowOf (connection : Connection) (row : Row) : Type 0 where
   pub granted : connection.number < row.granted
   pub entered : IsInside connection → HasEntered connection.number row
 
--- the user of a connection has such a row
+-- the user of a connection has a row with these facts
 abbrev pub HasRow : List Row → Connection → Type 0
 HasRow rows connection = (row : Row) × (slice_get rows connection.user ≡ Some row) × IsRowOf connection row
 

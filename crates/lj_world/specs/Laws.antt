@@ -191,7 +191,7 @@ pub record Untouched (user : ℕ) (old : Machine) (reply : Option Entry) (new : 
   pub connections : (id : ℕ) → connection_of user new id ≡ connection_of user old id
   pub not_replied : option_map (λ e. e.user) reply ≢ Some user
 
--- An event that is not this user's own changes nothing of it, and sends it no reply.
+-- An event that is not this user's own changes nothing for the user, and sends it no reply.
 abbrev pub OthersChangeNothing : Type 0
 OthersChangeNothing = (old : Machine) (event : Event) (reply : Option Entry) (new : Machine) (user : ℕ)
     → Step old event reply new → actor old event ≢ Some user → Untouched user old reply new
@@ -223,7 +223,7 @@ pub record SessionsKept (old new : Machine) : Type 0 where
   pub rows : new.rows ≡ old.rows
   pub owners : (id : ℕ) → owner_at new id ≡ owner_at old id
 
--- Every session is as it was but one, whose step a connection has turned.
+-- Every session is as it was except one, whose step a connection has turned.
 pub record SessionTurned (id : ℕ) (session : Option (List ℕ)) (old new : Machine) : Type 0 where
   pub rows : new.rows ≡ old.rows
   pub others : (other : ℕ) → other ≢ id → owner_at new other ≡ owner_at old other

@@ -88,7 +88,7 @@ with_rows rows s = record s { rows = rows }
 abbrev pub with_book : Book → Machine → Machine
 with_book book s = record s { book = book }
 
--- a book without entries, of which nothing was asked yet
+-- a book without entries, with all counts 0
 abbrev pub empty_book : Book
 empty_book = record { slots = []; posted = 0; given = 0; fetched = 0; withdrawn = 0 }
 

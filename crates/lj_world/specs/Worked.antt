@@ -23,7 +23,7 @@ user_a = record { name = codes "A"; token = token_a; quota = USUAL }
 abbrev pub user_b : User
 user_b = record { name = codes "B"; token = token_b; quota = USUAL }
 
--- two items, of which the second ends its connection
+-- two items; the second ends its connection
 abbrev pub list : Item
 list = Command ListSessions
 

@@ -2,7 +2,7 @@
 use Rattle.std.specs.Prelude.{Bool}
 use Rattle.lj_world.specs.Machine.{Machine}
 
--- The state, and whether a step ran out of memory. Such a world is lost: its state is unspecified from then on.
+-- The state, and whether a step ran out of memory: then the world is lost, and its state is unspecified from then on.
 pub record World : Type 0 where
   pub state : Machine
   pub lost : Bool

@@ -56,7 +56,7 @@ pub fn tickets_are_in_order()
     pending_command_laws();
 }
 
-/// Promise: an event that is not a user's own changes nothing of that user, and sends it no reply.
+/// Promise: an event that is not a user's own changes nothing for that user, and sends it no reply.
 pub fn others_change_nothing()
     ensures { OthersChangeNothing }
 {}

@@ -1,4 +1,4 @@
-//! Texts that are read line by line, and why one is not read.
+//! Texts that are read line by line, and the faults of those that cannot be read.
 ghost use Rattle.std.specs.Prelude.{◌≡◌, ◌≤◌, ◌<◌, ◌+◌, length, IfOk};
 ghost use Rattle.lj_serve.specs.declared.input.text.LineFault.TheVariants.{Memory as NoMemory};
 ghost use Rattle.lj_serve.specs.declared.input.text.TextFault.TheVariants.{Memory};
@@ -6,26 +6,26 @@ ghost use Rattle.lj_serve.specs.declared.input.text.TextFault.TheVariants.{Memor
 use lj_wire::split_line;
 use std::alloc::{AllocError, AllocFailed};
 
-/// Why a text is not read.
+/// Why a text cannot be read.
 #[derive(Clone, Copy)]
 pub enum TextFault {
-    /// The first line that is bad, counted from 1 with the lines of bodies.
+    /// The number of the first bad line, counted from 1 with the lines of bodies.
     Line(u64),
-    /// There was no memory for what it says.
+    /// Out of memory for its contents.
     Memory,
 }
 
-/// Why a line is not taken.
+/// Why a line is refused.
 #[derive(Clone, Copy)]
 pub enum LineFault {
-    /// It has not the form of a line at its place.
+    /// It has the wrong form for its place.
     Form,
-    /// There was no memory for what it says.
+    /// Out of memory for its contents.
     Memory,
 }
 
 impl LineFault {
-    /// That of the text whose line begins after these bytes.
+    /// Returns the fault of a text whose line begins after these bytes.
     fn after(self, before: &[u8]) -> TextFault
         ensures { self ≡ NoMemory → result ≡ Memory }
     {
@@ -52,7 +52,7 @@ impl<T: Drop> From<AllocFailed<T>> for LineFault {
     }
 }
 
-/// What is read from a text, line by line.
+/// A value that is read from a text, line by line.
 pub trait FromLines {
     /// Reads the first line of some bytes, with the body that it announces, and returns how many bytes these
     /// are.
@@ -78,15 +78,14 @@ pub fn read_lines<T: FromLines>(draft: &mut T, bytes: &[u8]) -> Result<(), TextF
     Ok(())
 }
 
-/// The number of the line that begins after these bytes.
+/// Returns the number of the line that begins after these bytes.
 fn line_after(before: &[u8]) -> u64
     ensures { result ≤ length before.now + 1 }
 {
     before.iter().filter(|byte| **byte == b'\n').count() as u64 + 1
 }
 
-/// The fault of a text that says no user: the number after that of its last line, which may end without a line
-/// feed.
+/// Returns the fault of a text without a user: the number after that of its last line, which may end without a line feed.
 pub fn without_user(bytes: &[u8]) -> TextFault {
     TextFault::Line(match bytes.last() {
         Some(b'\n') | None => line_after(bytes),
@@ -94,8 +93,7 @@ pub fn without_user(bytes: &[u8]) -> TextFault {
     })
 }
 
-/// The first line of some bytes, without its line feed, and what follows it. The last line may have no line
-/// feed.
+/// Returns the first line of some bytes, without its line feed, and what follows it. The last line may have no line feed.
 pub fn first_line(bytes: &[u8]) -> (&[u8], &[u8])
     requires { 1 ≤ length bytes.now }
     ensures { length result.1.now < length bytes.now }

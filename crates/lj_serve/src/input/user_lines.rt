@@ -1,4 +1,4 @@
-//! Users as the lines of a file give them.
+//! Users, read from the lines of a file.
 ghost use Rattle.std.specs.Prelude.{◌≡◌, ◌↔◌, ◌≤◌, [], length, IsTrue, IfOk, IfSome, OnErr};
 ghost use Rattle.lj_serve.specs.Named.{AreUsers};
 
@@ -11,17 +11,17 @@ use lj_quota::Quota;
 use std::alloc::Global;
 use std::marker::Model;
 
-/// Why the users of a server are not read: `Line` is the first bad line, counted from 1, and that after the last
-/// line if there is no user.
+/// Why the users of a server cannot be read: `Line` is the first bad line, counted from 1, or the one after the last line if
+/// there is no user.
 pub type UsersFault = TextFault;
 
-/// Reads the users of a server: a line for each, with a name, a token, and how many sessions, atoms and branches.
-/// Lines without a word, and lines that begin with `#`, are passed over.
+/// Reads the users of a server: a line for each, with a name, a token, and the limits of sessions, atoms and branches. Lines
+/// without a word, and lines that begin with `#`, are skipped.
 ///
 /// # Errors
 /// The first bad line, or out of memory.
 ///
-/// Promise: the users are at least one and at most 64, and no two have one name.
+/// Promise: there is at least one user and at most 64, and no two have one name.
 pub fn read_users(alloc: Global, bytes: &[u8]) -> Result<Vec<User>, UsersFault>
     ensures users { IfOk result (λ users. AreUsers users.items) }
     ensures some { IfOk result (λ users. 1 ≤ length users.items) }
@@ -53,7 +53,7 @@ impl Model for Users {
 }
 
 impl Users {
-    /// No users.
+    /// Makes a list without users.
     pub fn new(alloc: Global) -> Users
         ensures { result ≡ [] }
     {
@@ -62,14 +62,14 @@ impl Users {
         }
     }
 
-    /// Whether there are none.
+    /// Returns whether there are none.
     pub fn is_empty(&self) -> bool
         ensures { IsTrue result ↔ (self.now ≡ []) }
     {
         self.users.is_empty()
     }
 
-    /// Adds the user that a line says, unless it has no word or begins with `#`.
+    /// Adds the user in a line, unless the line has no word or begins with `#`.
     fn read_line(&mut self, line: &[u8]) -> Result<(), LineFault> {
         if line.starts_with(b"#") || split_word(line).is_none() {
             return Ok(());
@@ -77,12 +77,10 @@ impl Users {
         self.add(Words::new(line))
     }
 
-    /// Adds the user that these words say: a name that no user has yet, a token, and how many sessions, atoms and
-    /// branches.
+    /// Adds the user in these words: a name that no user has yet, a token, and the limits of sessions, atoms and branches.
     ///
     /// # Errors
-    /// `Form` if the words say no user, the name is taken, or there are `MAX_USERS` already. Nothing has changed
-    /// after an error.
+    /// `Form` if the words are no user, the name is taken, or there are `MAX_USERS` already; `Memory`. Nothing changes then.
     pub fn add(&mut self, words: Words) -> Result<(), LineFault>
         ensures { OnErr result (self.new ≡ self.old) }
     {
@@ -94,7 +92,7 @@ impl Users {
         Ok(())
     }
 
-    /// The users, in the order in which they were added.
+    /// Returns the users, in the order in which they were added.
     pub fn into_vec(self) -> Vec<User>
         ensures value { result.items ≡ self }
         ensures users { AreUsers result.items }
@@ -126,7 +124,7 @@ fn parse_user(mut words: Words) -> Option<User> {
     Some(user)
 }
 
-/// The number that a word says, if it is at most `most`.
+/// Returns the number in a word, if it is at most `most`.
 fn parse_limited(word: &[u8], most: u64) -> Option<u64>
     ensures { IfSome result (λ number. number ≤ most) }
 {

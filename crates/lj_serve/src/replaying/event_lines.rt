@@ -1,4 +1,4 @@
-//! Events as the lines of a schedule give them.
+//! Events, parsed from the lines of a schedule.
 ghost use Rattle.std.specs.Prelude.{◌≡◌, ◌≤◌, IfSome};
 ghost use Rattle.lj_session.specs.declared.body.LoadBody.TheVariants.{Lost};
 ghost use Rattle.lj_wire.specs.Commands.{item_with};
@@ -9,7 +9,7 @@ use lj_session::LoadBody;
 use lj_wire::{Fault, Item, is_load, parse_command};
 use lj_world::{ConnectionEvent, Event, MAX_CONNECTIONS, MAX_WORKERS, WorkerEvent};
 
-/// The event that a first word and those after it say. An arriving item is none of these.
+/// Parses an event, except the arrival of an item, from its verb and the words after it.
 pub fn parse_event(verb: &[u8], words: Words) -> Option<Event> {
     match verb {
         b"hello" => parse_hello(words),
@@ -18,7 +18,7 @@ pub fn parse_event(verb: &[u8], words: Words) -> Option<Event> {
     }
 }
 
-/// A new connection sends a name and a token.
+/// Parses the HELLO of a new connection: its number, a name and a token.
 fn parse_hello(mut words: Words) -> Option<Event> {
     let connection = parse_numbered(words.next()?, MAX_CONNECTIONS)?;
     let name = Name::parse(words.next()?)?;
@@ -31,7 +31,7 @@ fn parse_hello(mut words: Words) -> Option<Event> {
     })
 }
 
-/// An event at a connection.
+/// Parses an event at a connection.
 fn parse_connection_event(verb: &[u8], mut words: Words) -> Option<Event> {
     let connection = parse_numbered(words.next()?, MAX_CONNECTIONS)?;
     let event = match verb {
@@ -52,7 +52,7 @@ fn parse_connection_event(verb: &[u8], mut words: Words) -> Option<Event> {
     Some(Event::At { connection, event })
 }
 
-/// The session that the next word names, or `Some(None)` if no word is left. None of a word that is no name.
+/// Takes the next word as a session; `Some(None)` if no word is left, None if the word is no name.
 fn parse_session(words: &mut Words) -> Option<Option<Name>> {
     match words.next() {
         Some(word) => Some(Some(Name::parse(word)?)),
@@ -60,7 +60,7 @@ fn parse_session(words: &mut Words) -> Option<Option<Name>> {
     }
 }
 
-/// An event at a worker.
+/// Parses an event at a worker.
 fn parse_worker_event(verb: &[u8], mut words: Words) -> Option<Event> {
     let worker = parse_numbered(words.next()?, MAX_WORKERS)?;
     let event = match verb {
@@ -76,22 +76,21 @@ fn parse_worker_event(verb: &[u8], mut words: Words) -> Option<Event> {
     Some(Event::By { worker, event })
 }
 
-/// The connection at which an item arrives, and the line of the item: what follows the one blank after the
-/// connection.
+/// Parses the arrival of an item: the connection, and the line of the item after one blank.
 pub fn parse_arrival(words: &[u8]) -> Option<(u8, &[u8])> {
     let (connection, rest) = split_word(words)?;
     let (_blank, line) = rest.split_first()?;
     Some((parse_numbered(connection, MAX_CONNECTIONS)?, line))
 }
 
-/// The arrival of a load whose body was lost for want of memory. None if another line follows the connection.
+/// Parses the arrival of a load whose body was lost for want of memory. None if another line follows the connection.
 pub fn parse_loss(words: &[u8]) -> Option<Event> {
     let (connection, line) = parse_arrival(words)?;
     let event = ConnectionEvent::Arrive(lost_load(line)?);
     Some(Event::At { connection, event })
 }
 
-/// The item of the line of a load with a count, whose body was lost for want of memory. None of another line.
+/// Returns the item of the line of a load with a count, its body lost for want of memory. None for another line.
 fn lost_load(line: &[u8]) -> Option<Item>
     ensures lost { IfSome result (λ item. item ≡ item_with line.now Lost) }
 {
@@ -107,7 +106,7 @@ fn parse_pick(word: &[u8]) -> Option<usize> {
     Some(parse_number(word)? as usize)
 }
 
-/// The number that a word says, if it is one from 1 to `most`.
+/// Returns the number in a word, if it is from 1 to `most`.
 fn parse_numbered(word: &[u8], most: u8) -> Option<u8>
     ensures least { IfSome result (λ number. 1 ≤ number) }
     ensures most { IfSome result (λ number. number ≤ most) }

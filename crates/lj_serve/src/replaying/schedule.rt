@@ -1,4 +1,4 @@
-//! Schedules: users, and what happens to their connections and to workers, each in a line.
+//! Schedules: users, and events of connections and of workers, each in a line.
 ghost use Rattle.std.specs.Prelude.{◌≤◌, ◌<◌, length, IfOk};
 ghost use Rattle.lj_serve.specs.Named.{AreUsers};
 
@@ -18,14 +18,13 @@ pub struct Schedule {
     pub events: Vec<Event>,
 }
 
-/// Reads a schedule: lines of users, and after these a line for each event. Lines without a word are passed
-/// over.
+/// Reads a schedule: lines of users, and after these a line for each event. Lines without a word are skipped.
 ///
 /// # Errors
-/// The number of the first bad line, counted from 1 with the lines of bodies; that after the last line if there is
-/// no user; or out of memory.
+/// The number of the first bad line, counted from 1 with the lines of bodies; of the line after the last if there is no user; or
+/// out of memory.
 ///
-/// Promise: the users are at least one and at most 64, and no two have one name.
+/// Promise: there is at least one user and at most 64, and no two have one name.
 pub fn read_schedule(alloc: Global, bytes: &[u8]) -> Result<Schedule, TextFault>
     ensures users { IfOk result (λ schedule. AreUsers schedule.users.items) }
     ensures some { IfOk result (λ schedule. 1 ≤ length schedule.users.items) }
@@ -41,7 +40,7 @@ pub fn read_schedule(alloc: Global, bytes: &[u8]) -> Result<Schedule, TextFault>
     })
 }
 
-/// What a schedule says so far.
+/// The part of a schedule that was read so far.
 #[derive(Drop)]
 struct Draft {
     alloc: Global,
@@ -91,8 +90,8 @@ impl Draft {
         self.users.add(words)
     }
 
-    /// An item arrives: its line stands after the connection, and its body in the next lines. Returns how many bytes
-    /// the body has.
+    /// Adds the arrival of an item: its line follows the connection, and its body is in the next lines. Returns the number of
+    /// bytes of the body.
     fn arrive(&mut self, words: &[u8], after: &[u8]) -> Result<usize, LineFault>
         ensures { IfOk result (λ body. body ≤ length after.now) }
     {
@@ -116,7 +115,7 @@ impl FromLines for Draft {
     }
 }
 
-/// The item with a copy of these bytes as its body, if it is a load.
+/// Returns a load with a copy of these bytes as its body, and any other item unchanged.
 fn with_bytes(alloc: Global, item: Item, bytes: &[u8]) -> Result<Item, AllocError> {
     if !matches!(&item, Item::Command(Command::Load(_))) {
         return Ok(item);

@@ -19,10 +19,10 @@ use std::rt::Clock;
 use std::sync::Wait;
 use std::time::Duration;
 
-/// How many seconds a connection that has ended waits for more input at most, which is read and dropped.
+/// The most seconds that a connection that has ended waits for more input, which is read and dropped.
 const LINGERING_SECONDS: u64 = 1;
 
-/// How often a connection that has ended reads at most.
+/// The most reads of a connection that has ended.
 const MAX_LINGERING_READS: usize = 65_536;
 
 /// What the threads of a server share.
@@ -36,7 +36,7 @@ pub struct Server<P> {
 }
 
 impl<P: WorkerPool> Server<P> {
-    /// A server of the users of a directory over a pool, to which nobody is connected.
+    /// Makes a server of the users of a directory over a pool, without connections.
     pub fn new(alloc: Global, directory: Directory, pool: P) -> Server<P> {
         Server {
             alloc,
@@ -81,14 +81,14 @@ impl<P: WorkerPool> Server<P> {
         visitor.note_end(visited);
     }
 
-    /// From now on no ticket enters, and no task is computed.
+    /// Closes the pool and the directory: from now on no ticket enters, and no task is computed.
     pub fn close<R: Wait>(&self, rt: &R) {
         self.pool.close(rt);
         self.directory.close(rt);
     }
 }
 
-/// Whether a write has failed.
+/// Returns whether a write has failed.
 fn is_write_fault(visited: Visited) -> bool {
     matches!(
         visited,
@@ -96,8 +96,8 @@ fn is_write_fault(visited: Visited) -> bool {
     )
 }
 
-/// Tells the other end that no more is written, and waits for a while until it writes no more, so that it can read
-/// what was written last: if input was left unread, closing would take that back.
+/// Ends the output, then reads and drops input until the client ends it too, for at most a second, so that the client can read
+/// the last replies: closing a socket with unread input discards them.
 fn linger<R: Clock>(rt: &R, stream: &TcpStream) {
     if stream.shutdown(Shutdown::Write).is_err() {
         return;

@@ -1,30 +1,30 @@
-//! How many connections a server has open.
+//! The limit of the open connections of a server.
 
 use std::sync::atomic::{AtomicU64, Ordering};
 
 /// The most connections that are open at once.
 pub const MAX_OPEN_CONNECTIONS: u64 = 64;
 
-/// Counts the connections that are open.
+/// The count of open connections.
 #[derive(Drop)]
 pub struct ConnectionLimit {
     open: AtomicU64,
 }
 
-/// The permit of a connection that is open. Dropping it lets another one be.
+/// The permit of an open connection. Dropping it lets another one open.
 pub struct ConnectionPermit<'a> {
     limit: &'a ConnectionLimit,
 }
 
 impl ConnectionLimit {
-    /// No connection is open.
+    /// Makes a limit with no connection open.
     pub fn new() -> ConnectionLimit {
         ConnectionLimit {
             open: AtomicU64::new(0),
         }
     }
 
-    /// A permit for one more connection, if it may be open. Only one thread may ask at a time.
+    /// Returns a permit for one more connection, if fewer than 64 are open. Only one thread may ask at a time.
     pub fn permit(&self) -> Option<ConnectionPermit<'_>> {
         if self.open.load(Ordering::SeqCst) >= MAX_OPEN_CONNECTIONS {
             return None;

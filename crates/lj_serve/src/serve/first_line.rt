@@ -1,4 +1,4 @@
-//! Reads of a connection, whose first line has to come in time.
+//! Reads of a connection, with a deadline for its first line.
 
 use crate::serve::clock::{end_of, left_until};
 use std::cell::Cell;
@@ -8,24 +8,24 @@ use std::net::TcpStream;
 use std::rt::Clock;
 use std::time::Duration;
 
-/// How long a client may take for its first line.
+/// The most seconds that a client may take for its first line.
 pub const FIRST_LINE_SECONDS: u64 = 30;
 
-/// When the first line of a connection has to be there; none once it is.
+/// The deadline for the first line of a connection; none once the line is there.
 #[derive(Drop)]
 pub struct Deadline {
     end: Cell<Option<Duration>>,
 }
 
 impl Deadline {
-    /// So many seconds from now.
+    /// Makes a deadline 30 seconds from now.
     pub fn new<R: Clock>(rt: &R) -> Deadline {
         Deadline {
             end: Cell::new(end_of(rt, Duration::from_secs(FIRST_LINE_SECONDS))),
         }
     }
 
-    /// The first line is there: reads of the stream wait as long as they have to.
+    /// Lifts the deadline once the first line is there: reads of the stream then wait without a limit.
     pub fn lift(&self, stream: &TcpStream) {
         self.end.set(None);
         let _ = stream.set_read_timeout(None);

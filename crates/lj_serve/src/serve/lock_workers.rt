@@ -1,4 +1,4 @@
-//! A pool behind a lock as a server has it.
+//! A pool behind a lock, as the worker pool of a server.
 ghost use Rattle.std.specs.Prelude.{◌≡◌, ◌∷◌, [], None, IfOk, sum};
 ghost use Rattle.lj_visit.specs.Events.{Happens};
 ghost use Rattle.lj_visit.specs.Events.Event.{withdrawn};
@@ -25,7 +25,7 @@ pub struct LockWorkers<L: Ledger> {
 }
 
 impl<L: Ledger> LockWorkers<L> {
-    /// An empty pool, with the state of each worker.
+    /// Makes an empty pool, with the state of each worker.
     ///
     /// # Errors
     /// Out of memory.
@@ -42,7 +42,7 @@ impl<L: Ledger> LockWorkers<L> {
         Ok((LockWorkers { pool }, shares))
     }
 
-    /// How many results the pool was given: the sum of the shares of all its workers. Notes what became of the tasks.
+    /// Returns the number of results given to the pool: the sum of the shares of all its workers. Logs the counts of the tasks.
     ///
     /// # Errors
     /// Out of memory if some shares are lost, since a worker had no thread.
@@ -69,7 +69,7 @@ impl<L: Ledger> LockWorkers<L> {
     }
 }
 
-/// What a visit is lent over a pool behind a lock.
+/// The backend of a visit over a pool behind a lock.
 #[derive(Drop)]
 struct LockBackend<'v, 's, L: Ledger, R> {
     visitor: &'v mut Visitor<'s, R>,

@@ -1,4 +1,4 @@
-//! A pool with a queue as a server has it.
+//! A pool with a queue, as the worker pool of a server.
 ghost use Rattle.std.specs.Prelude.{◌≡◌, ◌+◌, ◌∷◌, [], None, IfOk};
 ghost use Rattle.std.specs.List.{sum_by};
 ghost use Rattle.lj_visit.specs.Events.{Happens};
@@ -21,16 +21,16 @@ use std::alloc::{AllocError, Global};
 use std::rt::Clock;
 use std::sync::{Condvar, Mutex, Wait};
 
-/// A pool with a queue, whose passes the connections that are open and the workers have.
+/// A pool with a queue, whose passes are with the open connections and the workers, or free.
 #[derive(Drop)]
 pub struct QueueWorkers<L: PoolIdentity> {
     pool: QueuePool<L>,
     free: Mutex<Free<L>>,
-    /// A pass was given back. Connections wait for it.
+    /// Signalled when a pass is given back. Connections wait on it.
     pass_returned: Condvar,
 }
 
-/// The passes that nobody has, and room for the workers' shares.
+/// The free passes, and memory for the workers' shares.
 #[derive(Drop)]
 struct Free<L: PoolIdentity> {
     passes: Vec<PoolPass<L>>,
@@ -38,7 +38,7 @@ struct Free<L: PoolIdentity> {
 }
 
 impl<L: PoolIdentity> QueueWorkers<L> {
-    /// An empty pool, with the state of each worker.
+    /// Makes an empty pool, with the state of each worker.
     ///
     /// # Errors
     /// Out of memory.
@@ -69,7 +69,7 @@ impl<L: PoolIdentity> QueueWorkers<L> {
         Ok((made, states))
     }
 
-    /// A pass for a connection. It waits for one, but there are as many as connections may be open.
+    /// Takes a pass for a connection, and waits until one is free. There are as many as connections may be open.
     fn take_pass<R: Wait>(&self, rt: &R) -> PoolPass<L> {
         let mut free = self.free.lock(rt);
         for _ in rt.forever() {
@@ -81,13 +81,13 @@ impl<L: PoolIdentity> QueueWorkers<L> {
         unreachable!()
     }
 
-    /// Takes back a pass. There is room for it where it was before.
+    /// Takes back a pass. There is room for it: it was here before.
     fn return_pass<R: Wait>(&self, rt: &R, pass: PoolPass<L>) {
         let _ = self.free.lock(rt).passes.push(pass);
         self.pass_returned.notify_one();
     }
 
-    /// How many results the pool was given: the sum of the shares of all its workers. Notes what became of the tasks.
+    /// Returns the number of results given to the pool: the sum of the shares of all its workers. Logs the counts of the tasks.
     ///
     /// # Errors
     /// Out of memory if the state of a worker is lost, since it had no thread.
@@ -106,7 +106,7 @@ impl<L: PoolIdentity> QueueWorkers<L> {
             mut passes,
             mut shares,
         } = free.into_inner();
-        // No share lies here: each is a worker's.
+        // No share is here: each is with a worker.
         shares.clear();
         let mut states = states;
         while let Some((share, pass)) = states.pop() {
@@ -127,7 +127,7 @@ impl<L: PoolIdentity> QueueWorkers<L> {
     }
 }
 
-/// What a visit is lent over a pool with a queue.
+/// The backend of a visit over a pool with a queue.
 #[derive(Drop)]
 struct QueueBackend<'v, 's, L: PoolIdentity, R> {
     visitor: &'v mut Visitor<'s, R>,

@@ -21,13 +21,13 @@ use std::thread;
 use std::thread::Threads;
 use std::time::Duration;
 
-/// How long nothing is accepted after a connection that could not be, so that descriptors or memory may become
+/// The milliseconds that the server waits after a connection could not be accepted, so that descriptors or memory may become
 /// free.
 const PAUSE_MILLIS: u64 = 100;
 
-/// Serves these users on a listener, with so many workers and the tasks kept so. Each connection is served in a
-/// thread of its own, at most 64 at once; one more is closed without a byte. After `connections`, with those that
-/// were closed so, no more are accepted. Returns how many tiles were computed for them, once all have ended.
+/// Serves these users on a listener, with this many workers, and keeps open tasks as `kept` says. Each connection is served in a
+/// thread of its own, at most 64 at once; one more is closed without a byte. Accepts `connections` in all, with those that are
+/// closed so. Returns the number of tiles computed for them, once all have ended.
 ///
 /// # Errors
 /// Out of memory before anything is accepted, or no thread for a worker.
@@ -60,7 +60,7 @@ pub fn serve_on<R: Threads + Wait + Clock + Log + Sync>(
     }
 }
 
-/// Where connections come from, and how many are accepted.
+/// The listener for connections, and how many of them are accepted.
 #[derive(Clone, Copy)]
 struct Listening<'a> {
     listener: &'a TcpListener,
@@ -133,7 +133,7 @@ fn run_workers<'a, P: WorkerPool + Sync, R: Threads + Wait + Clock + Log + Sync>
     }))
 }
 
-/// Accepts so many connections, and returns when all of them have ended.
+/// Accepts this many connections, and returns when all of them have ended.
 fn answer_all<'a, P: WorkerPool + Sync, R: Threads + Wait + Clock + Log + Sync>(
     rt: &'a R,
     server: &'a Server<P>,

@@ -1,4 +1,4 @@
-//! The tickets of a server that wait for the states of their users.
+//! The directory of a server, where tickets wait for the states of their users.
 ghost use Rattle.std.specs.Prelude.{◌≡◌, [], ◌∷◌, ◌++◌, List, IfErr, OnErr, OnOk};
 ghost use Rattle.std.specs.List.{All};
 ghost use Rattle.std.specs.List.Sorted.{IsPermutation};
@@ -14,7 +14,7 @@ use std::rt::Clock;
 use std::sync::{Condvar, CondvarTimeouts, Mutex, Wait};
 use std::time::Duration;
 
-/// What lies under the lock: the directory, the tickets that were given up, and whether no more enter.
+/// The state under the lock: the directory, the tickets that were given up, and whether no more tickets enter.
 #[derive(Drop)]
 struct DirectoryState {
     directory: Directory,
@@ -26,7 +26,7 @@ struct DirectoryState {
 #[derive(Drop)]
 pub struct SharedDirectory {
     state: Mutex<DirectoryState>,
-    /// A state came home, or no more tickets enter. Tickets wait for it.
+    /// Signalled when a state comes home, or no more tickets enter. Tickets wait on it.
     state_returned: Condvar,
 }
 
@@ -37,7 +37,7 @@ pub enum Entry {
     Entered(UserState),
     /// No ticket enters any more.
     Closed,
-    /// It waits on.
+    /// It still waits.
     Waits,
 }
 
@@ -74,7 +74,7 @@ impl DirectoryState {
 }
 
 impl SharedDirectory {
-    /// A directory for which no ticket waits.
+    /// Makes a directory for which no ticket waits.
     pub fn new(alloc: Global, directory: Directory) -> SharedDirectory {
         SharedDirectory {
             state: Mutex::new(DirectoryState {
@@ -86,7 +86,7 @@ impl SharedDirectory {
         }
     }
 
-    /// The next ticket of the user with this name and this token.
+    /// Grants the next ticket of the user with this name and this token.
     ///
     /// # Errors
     /// No user has both, or all tickets of this user are granted.
@@ -94,7 +94,7 @@ impl SharedDirectory {
         self.state.lock(rt).directory.hello(name, token)
     }
 
-    /// Waits until the ticket may enter, for so long at the most.
+    /// Waits until the ticket may enter, for `patience` at most.
     pub fn wait<R: Wait + Clock>(&self, rt: &R, ticket: &Ticket, patience: Duration) -> Entry
         ensures { IsReached result }
     {
@@ -119,7 +119,7 @@ impl SharedDirectory {
     /// Takes a ticket for which nobody waits any more, and passes it over once its turn has come.
     ///
     /// # Errors
-    /// There is no memory to keep it. It is handed back.
+    /// Out of memory to keep the ticket, which is handed back.
     pub fn give_up<R: Wait>(&self, rt: &R, ticket: Ticket) -> Result<(), Ticket>
         ensures { IfErr result (λ back. back ≡ ticket) }
     {
@@ -134,7 +134,7 @@ impl SharedDirectory {
         self.state_returned.notify_all();
     }
 
-    /// Closes it: from now on no ticket enters.
+    /// Closes the directory: from now on no ticket enters.
     pub fn close<R: Wait>(&self, rt: &R) {
         self.state.lock(rt).closed = true;
         self.state_returned.notify_all();

@@ -14,13 +14,13 @@ use std::rt::Clock;
 use std::sync::Wait;
 use std::time::Duration;
 
-/// How long a ticket waits at the most before it is looked whether its client is still there.
+/// The most seconds that a ticket waits before the server checks that its client is still there.
 const LOOK_SECONDS: u64 = 1;
 
-/// How long such a look takes at the most, where the client has sent nothing.
+/// The most milliseconds that this check takes, if the client has sent nothing.
 const LOOK_MILLIS: u64 = 1;
 
-/// A connection, and the directory that it asks.
+/// A connection, and the directory that it asks for a ticket.
 #[derive(Drop)]
 pub struct Visitor<'s, R> {
     pub rt: &'s R,
@@ -32,7 +32,7 @@ pub struct Visitor<'s, R> {
 }
 
 impl<'s, R: Wait + Clock + Log> Visitor<'s, R> {
-    /// A visitor who has not asked yet.
+    /// Makes a visitor who has not asked yet.
     pub fn new(
         rt: &'s R,
         directory: &'s SharedDirectory,
@@ -50,7 +50,7 @@ impl<'s, R: Wait + Clock + Log> Visitor<'s, R> {
         }
     }
 
-    /// Asks for a ticket of the user with this name and this token. The first line is there then.
+    /// Lifts the deadline of the first line, and asks for a ticket of the user with this name and this token.
     pub fn hello(&mut self, name: &Name, token: &Token) -> Result<Ticket, Denied> {
         self.deadline.lift(self.stream);
         let asked = self
@@ -60,7 +60,7 @@ impl<'s, R: Wait + Clock + Log> Visitor<'s, R> {
         asked
     }
 
-    /// Waits until the ticket enters. Each second it is looked whether the client is still there, unless bytes of it are held.
+    /// Waits until the ticket enters. Each second it checks that the client is still there, unless bytes of it are held.
     pub fn enter(&mut self, ticket: Ticket, held: bool) -> Result<Lent, Shut>
         ensures ticket { IfOk result (λ lent. lent.ticket ≡ ticket) }
         ensures reached { IfOk result (λ lent. Reached lent.state) }
@@ -86,17 +86,17 @@ impl<'s, R: Wait + Clock + Log> Visitor<'s, R> {
         unreachable!()
     }
 
-    /// Brings a state home.
+    /// Takes a state home.
     pub fn leave(&self, lent: Lent) {
         self.directory.leave(self.rt, lent.ticket, lent.state);
     }
 
-    /// Notes that the user was let in.
+    /// Logs that the user was let in.
     pub fn note_entry(&self) {
         self.note("is in");
     }
 
-    /// Notes how the connection has ended.
+    /// Logs how the connection has ended.
     pub fn note_end(&self, visited: Visited) {
         let number = self.number;
         match visited {
@@ -113,7 +113,7 @@ impl<'s, R: Wait + Clock + Log> Visitor<'s, R> {
         }
     }
 
-    // Notes something of the user.
+    // Logs a message with the user's name.
     fn note(&self, what: &str) {
         let number = self.number;
         if let Some(name) = &self.name {
@@ -122,7 +122,7 @@ impl<'s, R: Wait + Clock + Log> Visitor<'s, R> {
     }
 }
 
-/// Whether the client of a stream is still there: it has sent bytes that were not read yet, or may still send some.
+/// Returns whether the client of a stream is still there: it has sent bytes that were not read yet, or may still send some.
 fn is_there(stream: &TcpStream) -> bool {
     if stream
         .set_read_timeout(Some(Duration::from_millis(LOOK_MILLIS)))

@@ -1,4 +1,4 @@
-//! A pool of workers as a server has it.
+//! The pool of workers of a server.
 ghost use Rattle.std.specs.Prelude.{◌≡◌, None};
 ghost use Rattle.lj_wire.specs.declared.reader.phase.Phase.TheVariants.{Open};
 ghost use Rattle.lj_visit.specs.Visits.{IsVisit};
@@ -20,9 +20,9 @@ pub enum Kept {
     Queue,
 }
 
-/// A pool over whose ends connections are served, and for which workers compute, each with a state of its own.
+/// A pool whose ends serve connections, and for which workers compute, each with a state of its own.
 pub trait WorkerPool: Drop {
-    /// What a worker counts its results by, and pops tasks with.
+    /// The state of a worker: what it counts its results by, and pops tasks with.
     type WorkerState: Send + Drop;
 
     /// Answers a connection from its first line to its end, over an end of the pool.
