@@ -8,8 +8,8 @@ use std::alloc::{AllocError, AllocGlobal};
 use std::process::Abort;
 use std::test::Fail;
 
-/// Any one growth may be refused (`rt try --test --fail-alloc`): it is asked for once more, here and wherever a test
-/// takes memory.
+/// Makes an empty book. Any one growth may be refused (`rt try --test --fail-alloc`): it is asked for once more, here and
+/// wherever a test takes memory.
 fn empty_book(rt: &impl AllocGlobal) -> Result<Book, AllocError> {
     Book::new(rt.alloc()).or_else(|_| Book::new(rt.alloc()))
 }
@@ -22,14 +22,14 @@ fn fill(book: &mut Book, rt: &impl Abort) {
     }
 }
 
-/// One task more is to be handed back.
+/// Posts one more task, which has to be handed back.
 fn refuse_one(book: &mut Book, rt: &impl Abort) {
     let refused = book.post(task(rt, 3, -1)).err().expect(rt, "a refusal");
     let is_it = refused.task.is(&task(rt, 3, -1));
     assert!(rt; is_it);
 }
 
-/// Takes a task, gives its result twice, of which the second is to be handed back, and fetches it.
+/// Takes a task, gives its result twice, where the second one has to be handed back, and fetches it.
 fn work_once(book: &mut Book, rt: &impl Abort) {
     let (key, taken) = book.take(0).expect(rt, "a task");
     let done = compute(taken, &Table::new());

@@ -1,6 +1,6 @@
-//! Tests of the pools: ends that are full, a full pool, tasks that are posted together, posts that are refused, a closed pool, ends that are gone, a user that is
-//! withdrawn, ends that find nothing or poll, tasks that are taken in turn or that a gate sends back, work that goes ahead of the
-//! next command, sessions that are worked on at once, and boxes that serve other tasks.
+//! Tests of the pools: full ends, a full pool, tasks posted together, refused posts, a closed pool, ends that are gone, a user
+//! that is withdrawn, ends that find nothing or poll, tasks taken round robin or sent back by a gate, work ahead of the next
+//! command, sessions computed at once, and boxes that are used again.
 
 mod ahead;
 mod boxes;
@@ -32,21 +32,21 @@ use std::sync::atomic::{AtomicU64, Ordering};
 use std::time::Duration;
 use std::{io, thread};
 
-/// For how many milliseconds a thread sleeps before it does what another waits for.
+/// The milliseconds that a thread sleeps before it does what another waits for.
 const LATE_MILLIS: u64 = 20;
 
-/// How often a gate looks at most before it lets a task pass.
+/// The most checks of a gate before it lets a task pass.
 const TURNS: u64 = 3_000_000;
 
-/// How long it waits after each look, so that other threads get on.
+/// The microseconds that it waits after each check, so that other threads get on.
 const TURN_MICROS: u64 = 20;
 
-/// The next pass or share of those that a pool was made with.
+/// Takes the next pass or share of those that a pool was made with.
 fn next<T>(rt: &impl Abort, items: &mut Vec<T>) -> T {
     items.pop().expect(rt, "one more")
 }
 
-/// Puts a pass or a share back, in the room that it left.
+/// Puts a pass or a share back. There is room for it: it was here before.
 fn put_back<T: Drop>(rt: &impl Abort, items: &mut Vec<T>, item: T) {
     let fits = items.push(item).is_ok();
     assert!(rt; fits);
@@ -61,21 +61,21 @@ fn post_one<P: Pool, R: Abort>(rt: &R, end: &mut P, task: Task) {
     assert!(rt; posted);
 }
 
-/// Posts so many tasks, where the end has room for them.
+/// Posts this many tasks, where the end has room for them.
 fn post_some<P: Pool, R: Abort>(rt: &R, end: &mut P, user: u8, tasks: i64) {
     for step in 0..tasks {
         post_one(rt, end, task(rt, user, step));
     }
 }
 
-/// A new end for a user, which has posted so many tasks of theirs.
+/// Makes an end for a user, and posts this many of the user's tasks.
 fn posting_end<S: Stage<R>, R: Host>(rt: &R, stage: &S, user: u8, tasks: i64) -> S::End {
     let mut end = stage.end(rt, user);
     post_some(rt, &mut end, user, tasks);
     end
 }
 
-/// Sleeps until others wait.
+/// Sleeps so long that others come to wait.
 fn sleep_a_while<R: Clock>(rt: &R) {
     thread::sleep(rt, Duration::from_millis(LATE_MILLIS));
 }
@@ -86,7 +86,7 @@ fn close_late<S: Stage<R>, R: Host>(rt: &R, stage: &S) {
     stage.close(rt);
 }
 
-/// Looks again and again whether something was counted, and answers whether it was.
+/// Checks again and again, up to `TURNS` times, and returns whether something was counted.
 fn wait_for<R: Clock>(rt: &R, count: &AtomicU64) -> bool {
     for _ in 0..TURNS {
         if count.load(Ordering::SeqCst) > 0 {
@@ -97,7 +97,7 @@ fn wait_for<R: Clock>(rt: &R, count: &AtomicU64) -> bool {
     false
 }
 
-/// A writer that counts the replies that begin so.
+/// A writer that counts the replies that begin with `begins`.
 #[derive(Drop)]
 struct Counted<'a, W> {
     output: W,

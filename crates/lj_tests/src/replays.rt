@@ -30,7 +30,7 @@ next 1
 
 const PRINTED: &str = "A 1 OK LOAD a 0 2\nA 1 OK ADVANCE a 1\nA 1 OK SHOW a 1 0 589 0 0\n";
 
-/// How a schedule is replayed to a writer of `N` bytes, and what it was given.
+/// Replays a schedule to a writer of `N` bytes, and returns how that ended and what was written.
 fn replayed<const N: usize>(
     rt: &impl AllocGlobal,
     schedule: &str,

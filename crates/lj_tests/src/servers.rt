@@ -26,10 +26,10 @@ const HELLO: &str = "HELLO A aaaaaaaaaaaaaaaaaaaaaaaaaaaaaaaa\n";
 
 const LOAD: &str = "LOAD a 256 1 131072 rest 28\n2\ndimer\nAr 0 0 0\nAr 1.5 0 0\n";
 
-/// How long a client waits for a reply.
+/// The most seconds that a client waits for a reply.
 const PATIENCE_SECONDS: u64 = 20;
 
-/// How many connections count at once.
+/// The number of connections that count at once.
 const COUNTING: u64 = 8;
 
 /// What a server and its clients have: memory, threads that wait, a clock, notes, and sockets.
@@ -56,7 +56,7 @@ enum Scene {
 }
 
 impl Scene {
-    /// How many connections there are.
+    /// Returns the number of connections.
     fn connections(self) -> u64 {
         match self {
             Scene::Step => 1,
@@ -65,7 +65,7 @@ impl Scene {
         }
     }
 
-    /// All that the clients are told.
+    /// Plays the scene, and returns all replies to the clients.
     fn play<R: Host>(self, rt: &R, address: SocketAddr) -> io::Result<String> {
         let mut told = String::new(rt.alloc());
         match self {
@@ -80,7 +80,7 @@ impl Scene {
     }
 }
 
-/// A connection on which this was said.
+/// Opens a connection, and sends this.
 fn connect<R: Host>(rt: &R, address: SocketAddr, said: &[&str]) -> io::Result<TcpStream> {
     let mut stream = TcpStream::connect(rt, address)?;
     stream.set_read_timeout(Some(Duration::from_secs(PATIENCE_SECONDS)))?;
@@ -90,13 +90,13 @@ fn connect<R: Host>(rt: &R, address: SocketAddr, said: &[&str]) -> io::Result<Tc
     Ok(stream)
 }
 
-/// Adds all that a connection is told until its end.
+/// Reads a connection until its end, and appends the replies.
 fn hear_out<S: Read + Drop>(mut stream: S, told: &mut String) -> io::Result<()> {
     stream.read_to_string(told)?;
     Ok(())
 }
 
-/// The first connection is in while the others come. It leaves last but one.
+/// Keeps the first connection in while the others come. It leaves last but one.
 fn come_back<R: Host>(rt: &R, address: SocketAddr, told: &mut String) -> io::Result<()> {
     let first = connect(rt, address, &[HELLO, LOAD, "TUG a 0 5 0 0\n"])?;
     let mut replies = BufReader::new(rt.alloc(), &first)?;
@@ -114,7 +114,7 @@ fn come_back<R: Host>(rt: &R, address: SocketAddr, told: &mut String) -> io::Res
     hear_out(second, told)
 }
 
-/// What the eight are told comes in the order of their counts.
+/// Lets eight connections count, and appends their replies in the order of their counts.
 fn count<R: Host>(rt: &R, address: SocketAddr, told: &mut String) -> io::Result<()> {
     hear_out(connect(rt, address, &[HELLO, LOAD, "BYE\n"])?, told)?;
     let mut open = Vec::new(rt.alloc());
@@ -127,7 +127,7 @@ fn count<R: Host>(rt: &R, address: SocketAddr, told: &mut String) -> io::Result<
     Ok(())
 }
 
-/// What these connections are told, in the order of the texts.
+/// Returns the replies to these connections, sorted.
 fn in_order<R: Host>(rt: &R, open: Vec<TcpStream>) -> io::Result<Vec<String>> {
     let mut all = Vec::new(rt.alloc());
     for stream in open {
@@ -139,7 +139,7 @@ fn in_order<R: Host>(rt: &R, open: Vec<TcpStream>) -> io::Result<Vec<String>> {
     Ok(all)
 }
 
-/// Serves so many connections. How many tiles were computed, if the users are read and there is memory.
+/// Serves this many connections. Returns the number of tiles computed, if the users are read and there is memory.
 fn serve<R: Host + Sync>(
     rt: &R,
     listener: &TcpListener,
@@ -150,7 +150,7 @@ fn serve<R: Host + Sync>(
     serve_on(rt, rt.alloc(), listener, users, WORKERS, connections, kept).ok()
 }
 
-/// Serves the clients of a scene. How many tiles were computed, and all that the clients were told.
+/// Serves the clients of a scene. Returns the number of tiles computed, and all replies to the clients.
 fn play<R: Host + Sync>(rt: &R, scene: Scene, kept: Kept) -> io::Result<(Option<u64>, String)> {
     let listener = TcpListener::bind(rt, "127.0.0.1:0")?;
     let address = listener.local_addr()?;
@@ -204,7 +204,7 @@ fn connections_of_one_user_count_in_turn(rt: HostRuntime) -> Result<(), Fail> {
     Ok(())
 }
 
-/// What is told if they do: the momentum is n and the kinetic number n² after n tugs.
+/// Returns the replies if they do: the momentum is n and the kinetic number n² after n tugs.
 fn counted(rt: &impl AllocGlobal) -> io::Result<String> {
     let mut told = String::new(rt.alloc());
     told.push_str("OK HELLO A\nOK LOAD a 0 2\nOK BYE\n")?;

@@ -6,7 +6,7 @@ use lj_ring::{Mix, Place, Scale};
 use lj_tile::{Block, Kind, Task, TaskName};
 use std::process::Abort;
 
-/// A task of a user: a block of one atom, at this step.
+/// Makes a task of a user: a block of one atom, at this step.
 pub fn task(rt: &impl Abort, user: u8, step: i64) -> Task {
     let edge = Nano::new(256_000_000_000).expect(rt, "an edge");
     let sigma = Nano::new(1_000_000_000).expect(rt, "a sigma");

@@ -1,4 +1,4 @@
-//! Who leaves a directory by a ticket that has not entered.
+//! A ticket that leaves a directory and has not entered.
 
 use crate::users::{SECRET, users};
 use lj_access::{Directory, NotEntered};

@@ -1,4 +1,4 @@
-//! Two users, A and B, of one token.
+//! Two users, A and B, with one token.
 ghost use Rattle.std.specs.Prelude.{◌≡◌, ◌≤◌, length, false, OnOk, IfOk};
 ghost use Rattle.std.specs.List.{IsDistinct, list_any};
 ghost use Rattle.std.specs.Str.{bytes_eq};
@@ -13,7 +13,7 @@ use std::process::Abort;
 /// Their names, of one letter each.
 pub const USERS: [&str; 2] = ["A", "B"];
 
-/// What both show.
+/// The token of both.
 pub const SECRET: [u8; TOKEN_BYTES] = [b'0'; TOKEN_BYTES];
 
 pub fn name(rt: &impl Abort, word: &str) -> Name {
@@ -36,7 +36,7 @@ fn user(rt: &impl Abort, word: &str) -> User {
     }
 }
 
-/// One user more, of a name that is new.
+/// Adds a user whose name is new.
 fn add(users: &mut Vec<User>, user: User) -> Result<(), AllocError>
     requires fresh { list_any (λ other. bytes_eq user.name other.name) users.old.items ≡ false }
     requires distinct { IsDistinct bytes_eq (names users.old.items) }
@@ -46,7 +46,7 @@ fn add(users: &mut Vec<User>, user: User) -> Result<(), AllocError>
     Ok(())
 }
 
-/// The users.
+/// Makes the users.
 pub fn users(rt: &(impl Abort + AllocGlobal)) -> Result<Vec<User>, AllocError>
     ensures some { IfOk result (λ users. 1 ≤ length users.items) }
     ensures most { IfOk result (λ users. length users.items ≤ MAX_USERS) }

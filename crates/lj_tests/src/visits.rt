@@ -1,4 +1,4 @@
-//! Visits over a backend that notes what happens to it: what a connection is told, and what is asked for it, in order.
+//! Visits over a backend that notes its events: the replies to a connection, and the events, in order.
 ghost use Rattle.std.specs.Prelude.{◌≡◌, ◌++◌, ◌∷◌, []};
 
 use crate::owing::ClosingPool;
@@ -18,7 +18,7 @@ use std::marker::Model;
 use std::process::Abort;
 use std::test::Fail;
 
-/// What has happened to a backend. A state that entered was made of its quota, and has no sessions.
+/// An event of a backend. A state that entered was made of its quota, and has no sessions.
 #[derive(Drop)]
 enum Fact {
     Granted(Name, Vec<u8>, u8, u32),
@@ -31,7 +31,7 @@ enum Fact {
     Closed,
 }
 
-/// One of these, which stands for an event.
+/// One of these as a note, whose model is an event.
 #[derive(Drop)]
 struct Note {
     fact: Fact,
@@ -90,7 +90,7 @@ fn put_note(text: &mut Text, note: &Note) -> fmt::Result {
     }
 }
 
-/// Lets users in, or shuts each of their tickets out. Its ends are closed after so many calls.
+/// A backend that lets users in, or shuts each of their tickets out. Its ends are closed after `calls` calls.
 #[derive(Drop)]
 struct FakeBackend<'t, R> {
     rt: &'t R,
@@ -192,7 +192,7 @@ impl<R: Abort + AllocGlobal> Backend for FakeBackend<'_, R> {
     }
 }
 
-/// A backend of the users A and B.
+/// Makes a backend of the users A and B.
 fn backend<R: Abort + AllocGlobal>(
     rt: &R,
     shut: Option<Shut>,
@@ -207,7 +207,7 @@ fn backend<R: Abort + AllocGlobal>(
     })
 }
 
-/// Its notes, a line each.
+/// Returns its notes, a line each.
 fn text_of<R>(backend: &FakeBackend<'_, R>) -> Result<Text, fmt::Error> {
     let mut text = Text::new();
     for note in &backend.notes {
@@ -216,8 +216,8 @@ fn text_of<R>(backend: &FakeBackend<'_, R>) -> Result<Text, fmt::Error> {
     Ok(text)
 }
 
-/// A connection: what it sends, whether its ticket is shut out, and after how many calls its end is closed; what it is told,
-/// what is noted, and how it has ended.
+/// A connection: what it sends, whether its ticket is shut out, and after how many calls its end is closed; the replies, the
+/// notes, and how it has ended.
 struct Case {
     input: &'static str,
     shut: Option<Shut>,
@@ -250,7 +250,7 @@ const WRONG: Case = Case {
     ..OTHER
 };
 
-/// Two atoms 1.5 sigma apart go on by a step.
+/// The input of user B: two atoms 1.5 sigma apart make a step.
 const STEP: &str = "HELLO B 00000000000000000000000000000000\n\
     LOAD a 256 1 131072 rest 28\n2\ndimer\nAr 0 0 0\nAr 1.5 0 0\nADVANCE a 1\nBYE\n";
 

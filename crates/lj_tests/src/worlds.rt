@@ -1,4 +1,4 @@
-//! Worlds: events of connections and workers that are none. Schedules of many users are replayed by `tests/replay`, and by
+//! Worlds: events at numbers of no connection and no worker. Schedules of many users are replayed by `tests/replay`, and by
 //! `tests/faults` with each growth refused in turn.
 
 use crate::users::{USERS, name, token, users};
@@ -12,14 +12,14 @@ use std::fmt::Write;
 use std::process::Abort;
 use std::test::Fail;
 
-/// What is told.
+/// The replies.
 type Text = ArrayString<4096>;
 
 const LOAD_A: &str = "LOAD a 256 1 131072 rest 28";
 
 const LOAD_B: &str = "LOAD b 256 1 131072 rest 28";
 
-/// The body of both.
+/// The body of both loads.
 const DIMER: &str = "2\ndimer\nAr 0 0 0\nAr 1.5 0 0\n";
 
 /// An event, with the number of its connection or worker, and what is shown, arrives or is picked there.
@@ -32,7 +32,7 @@ enum Step {
     Next(u8),
     Post(u8),
     Fetch(u8, usize),
-    /// Turns this session, or where the word is empty the first one that is ready.
+    /// Turns this session, or the first one that is ready if the word is empty.
     Turn(u8, &'static str),
     Leave(u8),
     By(u8, WorkerEvent),
@@ -69,7 +69,7 @@ const STEPS: [Step; 24] = [
 const TOLD: &str = "A 1 OK LOAD a 0 2\nB 2 OK LOAD b 0 2\nA 1 OK BRANCH a k 0\n\
     A 1 OK LIST 1\na 0 2 1\nB 2 OK ADVANCE b 1\nB 2 OK LIST 1\nb 1 2 0\n";
 
-/// Events of connections and workers that are none.
+/// Events at numbers of no connection and no worker.
 const OF_NOBODY: [Step; 29] = [
     Step::Hello(0, "A"),
     Step::Hello(65, "A"),
@@ -102,7 +102,7 @@ const OF_NOBODY: [Step; 29] = [
     Step::Leave(0),
 ];
 
-/// The item of a line, with the body of two atoms where it is a load.
+/// Returns the item of a line, with the body of two atoms if it is a load.
 fn item(rt: &impl AllocGlobal, line: &str) -> Result<Item, AllocError> {
     let reading = read_line(line.as_bytes());
     if reading.body == 0 {
@@ -144,7 +144,7 @@ fn at(connection: u8, event: ConnectionEvent) -> Event {
     Event::At { connection, event }
 }
 
-/// Adds the events of connections and workers that are none.
+/// Adds the events at numbers of no connection and no worker.
 fn add_events_of_nobody(
     rt: &(impl Abort + AllocGlobal),
     events: &mut Vec<Event>,
@@ -155,7 +155,7 @@ fn add_events_of_nobody(
     Ok(())
 }
 
-/// The events of the two users, after each of which those of nobody come.
+/// Returns the events of the two users, each followed by those of nobody.
 fn events(rt: &(impl Abort + AllocGlobal)) -> Result<Vec<Event>, AllocError> {
     let mut events = Vec::new(rt.alloc());
     for step in &STEPS {
@@ -165,7 +165,7 @@ fn events(rt: &(impl Abort + AllocGlobal)) -> Result<Vec<Event>, AllocError> {
     Ok(events)
 }
 
-/// What the user of an entry is called, the number of the connection, and the text.
+/// Writes the name of the user of an entry, the number of the connection, and the text.
 fn tell(rt: &impl Abort, entry: &Entry, told: &mut Text) {
     let name = USERS.get(usize::from(entry.user)).expect(rt, "a user");
     let text = str::from_utf8(entry.text.as_bytes())
@@ -175,7 +175,7 @@ fn tell(rt: &impl Abort, entry: &Entry, told: &mut Text) {
     assert!(rt; written);
 }
 
-/// What the run tells.
+/// Runs the world, and returns its replies.
 fn run_once(rt: &(impl Abort + AllocGlobal)) -> Result<Text, OutOfMemory> {
     let transcript = World::run(rt.alloc(), users(rt)?, events(rt)?)?;
     let mut told = Text::new();
@@ -185,7 +185,7 @@ fn run_once(rt: &(impl Abort + AllocGlobal)) -> Result<Text, OutOfMemory> {
     Ok(told)
 }
 
-/// Any one growth may be refused (`rt try --test --fail-alloc`): the run is asked for once more.
+/// Runs the world. Any one growth may be refused (`rt try --test --fail-alloc`): the run is asked for once more.
 fn run(rt: &(impl Abort + AllocGlobal)) -> Result<Text, OutOfMemory> {
     match run_once(rt) {
         Ok(told) if !told.as_str().contains("ERR 90 MEMORY") => Ok(told),

@@ -1,4 +1,4 @@
--- The exit status of the program, and of what it can fail.
+-- The exit status of the program, and the faults with which its parts can fail.
 use Rattle.std.specs.Prelude.{ℕ, Result, Ok, Err}
 use Rattle.clap.specs.declared.error.kind.ErrorKind.{ErrorKind}
 use Rattle.clap.specs.declared.error.kind.ErrorKind.TheVariants.{DisplayHelp, DisplayVersion, OutOfMemory}
@@ -11,7 +11,7 @@ abbrev pub exit_of : Result (Unit {0}) Fault → ℕ
 exit_of (Ok done) = 0
 exit_of (Err fault) = status_of fault
 
--- of this a server can fail
+-- the faults with which a server can fail
 abbrev pub IsOfServer : Fault → Type 0
 IsOfServer (Unreadable file) = Unit {0}
 IsOfServer (UsersLine number) = Unit {0}
@@ -20,14 +20,14 @@ IsOfServer Write = Unit {0}
 IsOfServer Memory = Unit {0}
 IsOfServer _ = ⊥
 
--- of this the reading of a file can fail
+-- the faults with which the reading of a file can fail
 abbrev pub IsOfFile : Fault → Type 0
 IsOfFile (Unreadable file) = Unit {0}
 IsOfFile Memory = Unit {0}
 IsOfFile _ = ⊥
 
--- the exit status if the words of the command line are no commands to run: 0 if help or the version is asked for,
--- 3 if there is no memory, and 2 at a usage fault
+-- the exit status if the command line asks for no job: 0 if it asks for help or the version, 3 if there is no memory, and 2 at a
+-- usage fault
 abbrev pub usage_status : ErrorKind → ℕ
 usage_status DisplayHelp = 0
 usage_status DisplayVersion = 0

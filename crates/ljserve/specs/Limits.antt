@@ -7,7 +7,7 @@ use Rattle.ljserve.specs.declared.option_limits.TheConstants.{MAX_ACCEPTED, MAX_
 most_workers : MAX_WORKERS ≡ 16
 most_workers = refl
 
--- they are as many as a schedule can name
+-- as many as a schedule can name
 most_workers_of_world : MAX_WORKERS ≡ world.MAX_WORKERS
 most_workers_of_world = refl
 

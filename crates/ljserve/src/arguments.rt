@@ -1,4 +1,4 @@
-//! The words of the command line.
+//! Parsing the command line.
 ghost use Rattle.std.specs.Prelude.{◌≡◌, ◌↔◌, codes, IfOk};
 ghost use Rattle.lj_serve.specs.declared.serve.worker_pool.Kept.TheVariants.{Queue};
 ghost use Rattle.clap.specs.Values.{kind_of};
@@ -36,15 +36,15 @@ pub struct Service<'a> {
     pub address: &'a str,
     /// The name of the file of its users.
     pub users: &'a str,
-    /// How many threads compute, 1 to 16.
+    /// The number of threads that compute, 1 to 16.
     pub workers: u64,
-    /// How many connections are accepted, 1 to 1,000,000.
+    /// The number of connections that are accepted, 1 to 1,000,000.
     pub connections: u64,
     /// Where the open tasks are kept.
     pub kept: Kept,
 }
 
-/// What the words of the command line ask for. The first word is the program's name.
+/// Parses the words of the command line. The first word is the program's name.
 ///
 /// # Errors
 /// A usage fault, a request for help or for the version, or out of memory.
@@ -68,12 +68,12 @@ pub fn parse_arguments<'a>(alloc: Global, words: &'a [String]) -> Result<Job<'a>
     }))
 }
 
-/// The fault of words that name no file.
+/// Makes the fault of words that name no file.
 fn no_file(alloc: Global) -> Result<Error, AllocError> {
     program(alloc)?.error(ErrorKind::MissingRequiredArgument, "no file is named")
 }
 
-/// The fault of words that are no text.
+/// Makes the fault of words that are not text.
 pub fn no_text(alloc: Global) -> Result<Error, AllocError>
     ensures { IfOk result (λ error. kind_of error ≡ InvalidValue) }
 {
@@ -147,7 +147,7 @@ fn serve_command<'a>(alloc: Global) -> Result<Command<'a>, AllocError> {
         )
 }
 
-/// An option that has to be given.
+/// Makes an option that is required.
 fn required<'a>(alloc: Global, name: &'a str, value: &'a str) -> Arg<'a> {
     Arg::new(alloc, name)
         .long(name)
@@ -155,7 +155,7 @@ fn required<'a>(alloc: Global, name: &'a str, value: &'a str) -> Arg<'a> {
         .required(true)
 }
 
-/// An option whose value is a whole number from 0 to `most`.
+/// Makes an option whose value is a whole number from 0 to `most`.
 fn limit<'a>(alloc: Global, name: &'a str, usual: &'a str, most: i64) -> Arg<'a> {
     Arg::new(alloc, name)
         .long(name)
@@ -174,7 +174,7 @@ fn service_of<'a>(matches: &ArgMatches<'a>) -> Option<Service<'a>> {
     })
 }
 
-/// Where tasks are kept, as this word says, which is one of `POOLS`.
+/// Returns where tasks are kept by this word, which is one of `POOLS`.
 fn kept_as(word: &str) -> Kept
     ensures { (result ≡ Queue) ↔ (word.now ≡ codes "queue") }
 {

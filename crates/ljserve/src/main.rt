@@ -28,7 +28,7 @@ use std::sync::Wait;
 use std::thread::Threads;
 use std::{env, fs, io};
 
-/// The number of standard error.
+/// The file descriptor of standard error.
 const LAST_STREAM: RawFd = 2;
 
 fn main(rt: HostRuntime) -> ExitCode {
@@ -106,13 +106,13 @@ where
     }
 }
 
-/// The standard streams that are closed, opened for reading from where nothing is. So no file and no socket of a server
-/// has the number of one, and a closed output cannot be written to.
+/// Opens each closed standard stream for reading from `/dev/null`. So no file and no socket of a server gets the number of one,
+/// and a closed output cannot be written to.
 fn take_closed_streams(rt: &HostRuntime) -> [Option<File>; 3] {
     [take_closed(rt), take_closed(rt), take_closed(rt)]
 }
 
-/// The first standard stream that is closed.
+/// Opens the first closed standard stream. None where all are open.
 fn take_closed(rt: &HostRuntime) -> Option<File> {
     let file = File::open(rt, "/dev/null").ok()?;
     if file.as_raw_fd() > LAST_STREAM {
@@ -121,7 +121,7 @@ fn take_closed(rt: &HostRuntime) -> Option<File> {
     Some(file)
 }
 
-/// The bytes of a file.
+/// Returns the bytes of a file.
 fn read_file<'a, R: Files + Alloc<A = Global>>(rt: &R, file: &'a str) -> Result<Vec<u8>, Fault<'a>>
     ensures { IfErr result IsOfFile }
 {
@@ -132,7 +132,7 @@ fn read_file<'a, R: Files + Alloc<A = Global>>(rt: &R, file: &'a str) -> Result<
     }
 }
 
-/// The words of the command line. They fail if there is no memory, or if one is no text.
+/// Returns the words of the command line. Fails if there is no memory, or if a word is not text.
 fn words_of(rt: &HostRuntime) -> Result<Vec<String>, Error>
     ensures { IfErr result (λ error. (kind_of error ≡ OutOfMemory) ⊎ (kind_of error ≡ InvalidValue)) }
 {
@@ -143,7 +143,7 @@ fn words_of(rt: &HostRuntime) -> Result<Vec<String>, Error>
     }
 }
 
-/// Prints what the words of the command line are answered. If that can't be printed, the status is 1.
+/// Prints the answer to a command line without a job, and returns the exit status: 1 if that cannot be printed.
 fn usage(rt: &(impl Print + Eprint), error: &Error) -> ExitCode
     ensures printed { exit_status result ≢ 1 → exit_status result ≡ usage_status (kind_of error.now) }
     ensures memory { kind_of error.now ≡ OutOfMemory → exit_status result ≡ 3 }
@@ -157,7 +157,7 @@ fn usage(rt: &(impl Print + Eprint), error: &Error) -> ExitCode
     }
 }
 
-/// Prints the fault of the program, if it has one.
+/// Prints the fault of the program, if there is one, and returns the exit status.
 fn ended(rt: &impl Eprint, outcome: Result<(), Fault<'_>>) -> ExitCode
     ensures { exit_status result ≡ exit_of outcome.entry }
 {

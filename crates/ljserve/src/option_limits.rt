@@ -1,4 +1,4 @@
-//! The most that an option of the command line for a server may say.
+//! The limits of the options for a server.
 
 /// The most threads of a server that compute.
 pub const MAX_WORKERS: u64 = 16;

@@ -18,10 +18,10 @@ use std::thread;
 
 const USER: u8 = 7;
 
-/// What is said.
+/// The commands of the user.
 type Input = ArrayString<2048>;
 
-/// So many sessions of two atoms, each of which is started; then the end.
+/// Writes commands that load this many sessions of two atoms and then start each, and a BYE.
 fn input(rt: &impl Abort, sessions: u8) -> Input {
     let mut input = Input::new();
     for number in 0..sessions {
@@ -36,7 +36,7 @@ fn input(rt: &impl Abort, sessions: u8) -> Input {
     input
 }
 
-/// Loads the session of this number.
+/// Writes the load of the session of this number.
 fn load(rt: &impl Abort, input: &mut Input, number: u8) {
     let written = write!(
         input,
@@ -46,14 +46,14 @@ fn load(rt: &impl Abort, input: &mut Input, number: u8) {
     assert!(rt; written);
 }
 
-/// How many sessions there are, and what is replied when the last one is started.
+/// The number of sessions, and the reply when the last one is started.
 #[derive(Clone, Copy)]
 pub struct Case {
     sessions: u8,
     last: &'static [u8],
 }
 
-/// How many lines are told, how that ends, and whether the state is handed back.
+/// The number of lines written, how serving ended, and whether the state is handed back.
 #[derive(Clone, Copy, PartialEq, Eq, Debug)]
 pub struct Told {
     lines: usize,
@@ -61,7 +61,7 @@ pub struct Told {
     is_handed_back: bool,
 }
 
-/// Serves these sessions over a pool whose tasks nobody computes. It is counted when the last one is started.
+/// Serves these sessions over a pool whose tasks nobody computes, and counts when the last one is started.
 fn serve_starts<S: Stage<R>, R: Host>(rt: &R, stage: &S, case: Case, count: &AtomicU64) -> Told {
     let input = input(rt, case.sessions);
     let mut end = stage.end(rt, USER);
@@ -87,7 +87,7 @@ fn serve_starts<S: Stage<R>, R: Host>(rt: &R, stage: &S, case: Case, count: &Ato
     }
 }
 
-/// The sessions are served over a pool that is closed a while after the last one was started.
+/// Serves the sessions over a pool that is closed a while after the last one was started.
 pub fn serve_until_closed<S: Stage<R> + Sync, R: Host + Sync>(
     rt: &R,
     stage: &S,
@@ -116,7 +116,7 @@ const SIXTEEN: Case = Case {
     last: b"OK START s15 1",
 };
 
-/// With a task more than fifteen the next command is read only once a result has come, and here none comes.
+/// With more than fifteen tasks the next command is read only once a result has come, and here none comes.
 #[test]
 fn fifteen_tasks_are_under_way_while_a_command_is_read(rt: HostRuntime) -> Result<(), Fail> {
     let few = Told {

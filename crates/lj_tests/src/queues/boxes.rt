@@ -1,4 +1,4 @@
-//! Boxes over a queue: whatever becomes of results, their boxes serve other tasks.
+//! Boxes over a queue: whatever becomes of results, their boxes are used for other tasks.
 
 use super::over_queue::over_queue;
 use super::post_some;
@@ -8,15 +8,15 @@ use super::withdrawn::play_last;
 use lj_pool::Pool;
 use std::test::Fail;
 
-/// How many ends come one after another. Together they post more tasks than a pool has boxes.
+/// The number of ends that come one after another. Together they post more tasks than a pool has boxes.
 const ROUNDS: u64 = 90;
 
-/// How many tasks each of them posts.
+/// The number of tasks that each of them posts.
 const TASKS: i64 = 64;
 
 const USER: u8 = 6;
 
-/// Another one.
+/// Another user.
 const OTHER: u8 = 5;
 
 /// What becomes of the results of an end's tasks, once all were given.
@@ -32,7 +32,7 @@ pub enum Fate {
     InHand,
 }
 
-/// Polls so many times. How many results came.
+/// Polls this many times, and returns how many results came.
 fn count_polled<P: Pool>(end: &mut P, times: i64) -> i64 {
     let mut count = 0_i64;
     for _ in 0..times {
@@ -44,7 +44,8 @@ fn count_polled<P: Pool>(end: &mut P, times: i64) -> i64 {
 }
 
 impl Fate {
-    /// An end posts tasks, whose results come to this. Whether all were computed, and those came that were to.
+    /// Posts tasks by an end, and lets this become of their results. Returns whether all were computed, and the expected ones
+    /// came.
     fn befall<S: Stage<R>, R: Host>(self, rt: &R, stage: &S) -> bool {
         let owner = match self {
             Fate::Refused => OTHER,
@@ -65,7 +66,7 @@ impl Fate {
         is_right
     }
 
-    /// Whether that is so for one end after another.
+    /// Returns whether that holds for one end after another.
     fn befall_all<S: Stage<R>, R: Host>(self, rt: &R, stage: &S) -> bool {
         for _ in 0..ROUNDS {
             if !self.befall(rt, stage) {
@@ -75,7 +76,7 @@ impl Fate {
         true
     }
 
-    /// Ends come one after another beside a worker, and then the pool is closed. Whether each was right.
+    /// Lets ends come one after another beside a worker, and then closes the pool. Returns whether each was right.
     pub fn play<S: Stage<R> + Sync, R: Host + Sync>(self, rt: &R, stage: &S) -> bool {
         beside_worker(rt, stage, move || self.befall_all(rt, stage))
     }

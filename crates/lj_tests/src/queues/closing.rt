@@ -15,13 +15,13 @@ use std::thread;
 
 const USER: u8 = 7;
 
-/// Another one.
+/// Another user.
 const OTHER: u8 = 9;
 
 /// The user whose only task is posted after those of the others, so that its result is given after theirs.
 const LAST: u8 = 8;
 
-/// Posts a task that nobody computes, and waits for its result. Whether none came, and the end is closed.
+/// Posts a task that nobody computes, and waits for its result. Returns whether none came, and the end is closed.
 fn wait_in_vain<P: Pool, R: Abort>(rt: &R, end: &mut P) -> bool {
     if end.is_full() || end.post(task(rt, USER, 0), false).is_err() || end.owed() == 0 {
         return false;
@@ -29,7 +29,7 @@ fn wait_in_vain<P: Pool, R: Abort>(rt: &R, end: &mut P) -> bool {
     end.fetch(USER).is_none() && end.closed()
 }
 
-/// Does so while the pool is closed.
+/// Does the same while the pool is closed.
 fn wait_until_closed<S: Stage<R> + Sync, P: Pool, R: Host + Sync>(
     rt: &R,
     stage: &S,
@@ -39,7 +39,7 @@ fn wait_until_closed<S: Stage<R> + Sync, P: Pool, R: Host + Sync>(
     is_closed
 }
 
-/// An end waits for a result until the pool is closed. Whether none came, and the end is closed.
+/// Waits for a result by an end until the pool is closed. Returns whether none came, and the end is closed.
 pub fn end_in_vain<S: Stage<R> + Sync, R: Host + Sync>(rt: &R, stage: &S) -> bool {
     let mut end = stage.end(rt, USER);
     let is_closed = wait_until_closed(rt, stage, &mut end);
@@ -65,18 +65,18 @@ fn who_waits_for_a_result_is_told_of_a_closed_book(rt: HostRuntime) -> Result<()
     Ok(())
 }
 
-/// Polls over a closed pool, and then fetches. Whether nothing comes, and the task is owed still.
+/// Polls over a closed pool, and then fetches. Returns whether nothing came, and the task is still owed.
 fn poll_then_fetch<P: Pool>(end: &mut P) -> bool {
     end.poll(USER).is_none() && end.owed() == 1 && end.fetch(USER).is_none() && end.closed()
 }
 
-/// Fetches over a closed pool, and then polls. Whether nothing comes, and the task is owed still.
+/// Fetches over a closed pool, and then polls. Returns whether nothing came, and the task is still owed.
 fn fetch_then_poll<P: Pool>(end: &mut P) -> bool {
     end.owed() == 1 && end.fetch(OTHER).is_none() && end.closed() && end.poll(OTHER).is_none()
 }
 
-/// Two ends fetch one of two results that were given, so that the other is in hand, and the pool is closed.
-/// Whether neither of these comes any more.
+/// Lets two ends each fetch one of two results, so that the other one is in hand, and closes the pool. Returns whether neither
+/// result in hand comes any more.
 fn drop_in_hand<S: Stage<R>, R: Host>(rt: &R, stage: &S) -> bool {
     let mut end = posting_end(rt, stage, USER, 2);
     let mut other = posting_end(rt, stage, OTHER, 2);
@@ -91,7 +91,7 @@ fn drop_in_hand<S: Stage<R>, R: Host>(rt: &R, stage: &S) -> bool {
     all_given && first_came && are_dropped
 }
 
-/// Ends have results in hand as the pool is closed. Whether these do not come any more.
+/// Closes the pool while ends have results in hand. Returns whether these do not come any more.
 pub fn close_in_hand<S: Stage<R> + Sync, R: Host + Sync>(rt: &R, stage: &S) -> bool {
     beside_worker(rt, stage, move || drop_in_hand(rt, stage))
 }
@@ -103,7 +103,7 @@ fn results_in_hand_do_not_outlive_the_pool(rt: HostRuntime) -> Result<(), Fail> 
     Ok(())
 }
 
-/// The result that came before the close is the last one of each end still.
+/// The result that came before the close is still the last one of each end.
 #[test]
 fn no_result_outlives_a_pool_behind_a_lock(rt: HostRuntime) -> Result<(), Fail> {
     let OverLock { seen, given, .. } = over_lock(&rt, 1, Scene::InHand)?;

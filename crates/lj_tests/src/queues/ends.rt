@@ -10,7 +10,7 @@ use lj_tile::TaskName;
 use std::sync::atomic::{AtomicUsize, Ordering};
 use std::test::Fail;
 
-/// A gate that closes the pool at the last of so many tasks.
+/// A gate that closes the pool at the last of a number of tasks.
 #[derive(Drop)]
 struct Last<'a, S, R> {
     rt: &'a R,
@@ -26,12 +26,12 @@ impl<S: Stage<R>, R: Host> Gate for Last<'_, S, R> {
     }
 }
 
-/// How many results the worker's share has, and the numbers of the passes that came back, of the three ends and of the
+/// The number of results in the worker's share, and the numbers of the passes that came back, of the three ends and of the
 /// worker. They are taken from the last one on.
 pub type Kept = (u64, [Option<usize>; 4]);
 
-/// One end posts three tasks, and another comes in its place and posts two. A third one posts four, and is withdrawn.
-/// A worker computes all nine.
+/// Lets one end post three tasks, another post two in its place, and a third one post four and be withdrawn. A worker computes
+/// all nine.
 pub fn compute_nine<S: Stage<R>, R: Host>(rt: &R, stage: &S) -> Kept {
     let gone = posting_end(rt, stage, 5, 3);
     let present = posting_end(rt, stage, 5, 2);
@@ -52,7 +52,7 @@ pub fn compute_nine<S: Stage<R>, R: Host>(rt: &R, stage: &S) -> Kept {
     (worked.credited, numbers)
 }
 
-/// Of nine results the two are kept that an end waits for which is not gone.
+/// Of nine results the two are kept that are for an end that is not gone.
 #[test]
 fn results_for_ends_that_are_gone_are_dropped(rt: HostRuntime) -> Result<(), Fail> {
     let OverQueue {

@@ -12,14 +12,14 @@ use std::test::Fail;
 
 const USER: u8 = 9;
 
-/// What an end is that was given tasks without waiting.
+/// The state of an end that was given tasks without waiting.
 #[derive(Clone, Copy, PartialEq, Eq, Debug)]
 pub struct Given {
     owed: usize,
     full: bool,
 }
 
-/// Posts so many tasks, none of which waits.
+/// Posts this many tasks without waiting.
 fn give<P: Pool, R: Abort>(rt: &R, end: &mut P, tasks: i64) -> Given {
     post_some(rt, end, USER, tasks);
     Given {
@@ -28,12 +28,12 @@ fn give<P: Pool, R: Abort>(rt: &R, end: &mut P, tasks: i64) -> Given {
     }
 }
 
-/// What an end is after so many tasks, and after one more.
+/// Returns the state of an end after this many tasks, and after one more.
 fn give_twice<P: Pool, R: Abort>(rt: &R, end: &mut P, tasks: i64) -> [Given; 2] {
     [give(rt, end, tasks), give(rt, end, 1)]
 }
 
-/// An end is given 63 tasks, and one more.
+/// Gives an end 63 tasks, and one more.
 pub fn fill_end<S: Stage<R>, R: Host>(rt: &R, stage: &S) -> [Given; 2] {
     let mut end = stage.end(rt, USER);
     let given = give_twice(rt, &mut end, 63);

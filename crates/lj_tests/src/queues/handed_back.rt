@@ -1,4 +1,4 @@
-//! A gate that sends each task back once: two users are told the same over either pool.
+//! A gate that sends each task back once: two users get the same replies over either pool.
 
 use super::over_lock::{OverLock, over_lock};
 use super::over_queue::{OverQueue, over_queue};
@@ -27,12 +27,12 @@ const HELD: u8 = 0;
 struct SendBack<'a, R> {
     rt: &'a R,
     sent_back: Mutex<Vec<TaskName>>,
-    /// How many tasks passed.
+    /// The number of tasks that passed.
     passed: AtomicU64,
-    /// How often the one that is held was answered its ADVANCE, and the other its MEASURE.
+    /// The number of replies to the ADVANCE of the user that is held, and to the MEASURE of the other one.
     advanced: AtomicU64,
     measured: AtomicU64,
-    /// How often the gate saw the second answer, and not the first.
+    /// How often the gate saw the second reply, and not the first.
     seen: AtomicU64,
 }
 
@@ -65,7 +65,7 @@ impl<'a, R: AllocGlobal + Wait> SendBack<'a, R> {
         }
     }
 
-    /// How many tasks were sent back, how many passed, and how often the other answer was seen first.
+    /// Returns how many tasks were sent back, how many passed, and how often the other reply was seen first.
     fn counts(&self) -> (usize, u64, u64) {
         (
             self.sent_back.lock(self.rt).len(),
@@ -75,15 +75,15 @@ impl<'a, R: AllocGlobal + Wait> SendBack<'a, R> {
     }
 }
 
-/// What a user is told.
+/// The replies to a user.
 type Output = ArrayVec<u8, 128>;
 
-/// What the user is asked whose step is held back, and what the other one is.
+/// The commands of the user whose step is held back, and those of the other one.
 const ADVANCES: &str = "LOAD a 256 1 131072 rest 28\n2\ndimer\nAr 0 0 0\nAr 1.5 0 0\nADVANCE a 1\n";
 
 const MEASURES: &str = "LOAD a 256 1 131072 rest 28\n2\ndimer\nAr 0 0 0\nAr 1.5 0 0\nMEASURE a\n";
 
-/// Serves what is asked of this user.
+/// Serves the commands of this user.
 fn serve_user<S: Stage<R>, R: Host>(rt: &R, stage: &S, user: u8, gate: &SendBack<R>) -> Output {
     let (input, begins, count) = if user == HELD {
         (ADVANCES, b"OK ADVANCE".as_slice(), &gate.advanced)
@@ -119,7 +119,7 @@ fn serve_both<S: Stage<R> + Sync, R: Host + Sync>(
     told
 }
 
-/// What both users are told, how many results the workers' shares have, and what the gate counted.
+/// The replies to both users, the number of results in the workers' shares, and the counts of the gate.
 #[derive(Drop)]
 struct Told {
     held: Output,
@@ -128,7 +128,7 @@ struct Told {
     gate: (usize, u64, u64),
 }
 
-/// Two users are served at once, beside two workers. Whether all was right.
+/// Serves two users at once, beside two workers. Returns whether all was right.
 pub fn serve_beside_workers<S: Stage<R> + Sync, R: Host + Sync>(rt: &R, stage: &S) -> bool {
     let gate = SendBack::new(rt);
     let keeper = &gate;
@@ -145,7 +145,7 @@ pub fn serve_beside_workers<S: Stage<R> + Sync, R: Host + Sync>(rt: &R, stage: &
     })
 }
 
-/// Both users are to be told what they are told alone, and each task is to be sent back once and computed once.
+/// Returns whether both users got the replies that they get alone, and each task was sent back once and computed once.
 fn is_right(told: &Told) -> bool {
     let held = b"OK LOAD a 0 2\nOK ADVANCE a 1\n".as_slice();
     let other = b"OK LOAD a 0 2\nOK MEASURE a 0 2 0 0 0 0 -5349132\n".as_slice();

@@ -1,4 +1,4 @@
-//! The order in which tasks are taken, over both pools: in turn of their keys, and not from the least one on each time.
+//! The order in which tasks are taken, over both pools: round robin by their keys, and not from the least one on each time.
 
 use super::over_lock::over_lock;
 use super::over_queue::over_queue;
@@ -26,7 +26,7 @@ struct Noting<'a, R> {
     rt: &'a R,
     /// Their steps, each a digit.
     order: AtomicU64,
-    /// How often the one that is held came, and how often it was let go.
+    /// How often the held task came, and how often it was let go.
     held: AtomicU64,
     let_go: AtomicU64,
 }
@@ -44,14 +44,14 @@ impl<R: Clock + Wait> Gate for Noting<'_, R> {
     }
 }
 
-/// Whether all came, and in which order their tasks were taken.
+/// Whether all results came, and in which order the tasks were taken.
 #[derive(Clone, Copy, PartialEq, Eq, Debug)]
 pub struct Taken {
     all_came: bool,
     order: u64,
 }
 
-/// Fetches so many results. Whether all came.
+/// Fetches this many results, and returns whether all came.
 fn fetch_some<P: Pool>(end: &mut P, results: u8) -> bool {
     for _ in 0..results {
         if end.owed() == 0 || end.fetch(USER).is_none() {
@@ -62,7 +62,7 @@ fn fetch_some<P: Pool>(end: &mut P, results: u8) -> bool {
 }
 
 /// Fetches the first result while the second task is held, so that its key is vacant, and posts a fourth task under it. Then
-/// fetches the others, and closes the pool. Whether all came.
+/// fetches the others, and closes the pool. Returns whether all came.
 fn post_fourth<S: Stage<R>, P: Pool, R: Host>(
     rt: &R,
     stage: &S,
@@ -87,7 +87,7 @@ fn post_three<P: Pool, R: Abort>(rt: &R, end: &mut P) {
     }
 }
 
-/// An end posts three tasks. Then a worker comes.
+/// Posts three tasks by an end, and then lets a worker come.
 pub fn take_in_turn<S: Stage<R> + Sync, R: Host + Sync>(rt: &R, stage: &S) -> Taken {
     let mut end = stage.end(rt, USER);
     post_three(rt, &mut end);
@@ -115,7 +115,7 @@ const EXPECTED: Taken = Taken {
     order: 1234,
 };
 
-/// The fourth task stands under the least key then, before the third one.
+/// The fourth task is then under the least key, before the third one.
 #[test]
 fn tasks_of_a_book_are_taken_in_turn_of_their_keys(rt: HostRuntime) -> Result<(), Fail> {
     assert_eq!(rt;

@@ -1,4 +1,4 @@
-//! Fetches and polls that find nothing over an open pool of either kind: these are no close.
+//! Fetches and polls that find nothing over an open pool of either kind: the end does not take that for a close.
 
 use super::over_lock::over_lock;
 use super::over_queue::over_queue;
@@ -13,12 +13,12 @@ use std::thread;
 
 const USER: u8 = 7;
 
-/// Polls where nothing is there. Whether nothing came, and the end is not told that the pool is closed.
+/// Polls where nothing is there. Returns whether nothing came, and the end has not seen the pool closed.
 fn poll_nothing<P: Pool>(end: &mut P) -> bool {
     end.poll(USER).is_none() && !end.closed()
 }
 
-/// Fetches the result of the task that is owed, and polls once more. Whether it came, and the end is not told that the pool is
+/// Fetches the result of the task that is owed, and polls once more. Returns whether it came, and the end has not seen the pool
 /// closed.
 fn fetch_one<P: Pool, R: Abort>(rt: &R, end: &mut P) -> bool {
     if end.owed() == 0 {
@@ -30,7 +30,7 @@ fn fetch_one<P: Pool, R: Abort>(rt: &R, end: &mut P) -> bool {
     came && !end.closed() && poll_nothing(end)
 }
 
-/// Fetches what no worker has computed yet, since it comes after a while.
+/// Fetches a result before it is computed, by a worker that comes after a while.
 fn fetch_early<S: Stage<R> + Sync, P: Pool, R: Host + Sync>(
     rt: &R,
     stage: &S,
@@ -51,7 +51,7 @@ fn fetch_early<S: Stage<R> + Sync, P: Pool, R: Host + Sync>(
     came
 }
 
-/// An end polls while nothing is owed to it, and while there is no worker. Then it fetches until one comes.
+/// Polls by an end while nothing is owed to it, and while there is no worker. Then fetches until a result comes.
 pub fn find_nothing<S: Stage<R> + Sync, R: Host + Sync>(rt: &R, stage: &S) -> bool {
     let mut end = stage.end(rt, USER);
     let none_owed = poll_nothing(&mut end);

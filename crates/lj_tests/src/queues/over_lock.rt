@@ -57,7 +57,7 @@ impl<'p, L: Ledger + Send + Sync, R: Host + Sync> Stage<R> for LockStage<'p, L, 
     }
 }
 
-/// What was seen, how many results the pool was given, and the counts of its book at last.
+/// What was seen, the number of results given to the pool, and the counts of its book at last.
 #[derive(Drop)]
 pub struct OverLock {
     pub seen: Seen,
@@ -95,7 +95,7 @@ fn play_once<R: Host + Sync>(rt: &R, workers: u8, scene: Scene) -> Result<OverLo
     play::<Brand, R>(rt, Blank::new(u64::from(workers)), workers, scene)
 }
 
-/// Plays a scene over a pool behind a lock, for so many workers; once more if memory was refused.
+/// Plays a scene over a pool behind a lock for this many workers; once more if memory was refused.
 ///
 /// # Errors
 /// Out of memory.

@@ -15,7 +15,7 @@ use std::alloc::{AllocError, AllocGlobal};
 use std::marker::Brand;
 use std::sync::Mutex;
 
-/// A pool with a queue, with the passes and shares that nobody has.
+/// A pool with a queue, with its free passes and shares.
 #[derive(Drop)]
 struct QueueStage<'p, L: PoolIdentity, R> {
     rt: &'p R,
@@ -66,7 +66,7 @@ impl<'p, L: PoolIdentity + Send + Sync, R: Host + Sync> Stage<R> for QueueStage<
     }
 }
 
-/// What was seen, how many results the pool was given, and what its passes pushed and popped.
+/// What was seen, the number of results given to the pool, and what its passes pushed and popped.
 #[derive(Drop)]
 pub struct OverQueue {
     pub seen: Seen,
@@ -110,7 +110,7 @@ fn play_once<R: Host + Sync>(rt: &R, workers: u8, scene: Scene) -> Result<OverQu
     play::<Brand, R>(rt, blank, workers, scene)
 }
 
-/// Plays a scene over a pool with a queue, for so many workers; once more if memory was refused.
+/// Plays a scene over a pool with a queue for this many workers; once more if memory was refused.
 ///
 /// # Errors
 /// Out of memory.

@@ -1,5 +1,5 @@
-//! Ends that poll, over both pools: a result that is not there is not waited for, a worker that sleeps is told of its task,
-//! and a pool that is closed is not noted.
+//! Ends that poll, over both pools: a poll does not wait for a result, a sleeping worker is woken for the task, and the end does
+//! not note that the pool is closed.
 
 use super::over_lock::over_lock;
 use super::over_queue::over_queue;
@@ -14,15 +14,15 @@ use std::test::Fail;
 use std::thread;
 use std::time::Duration;
 
-/// How often a result is polled for at most.
+/// The most polls for a result.
 const POLLS: u64 = 200_000;
 
-/// How long it is until the next poll.
+/// The microseconds until the next poll.
 const POLL_MICROS: u64 = 20;
 
 const USER: u8 = 7;
 
-/// What polls answer.
+/// What polls return.
 #[derive(Clone, Copy, PartialEq, Eq, Debug)]
 pub struct Polled {
     /// Whether nothing came while there was no worker.
@@ -39,7 +39,7 @@ const EXPECTED: Polled = Polled {
     none_of_closed: true,
 };
 
-/// Polls until a result comes. Whether it is that of the user's task at this step.
+/// Polls until a result comes. Returns whether it is that of the user's task at this step.
 fn poll_for<P: Pool, R: Clock + Abort>(rt: &R, end: &mut P, step: i64) -> bool {
     for _ in 0..POLLS {
         if let Some(done) = end.poll(USER) {
@@ -50,13 +50,13 @@ fn poll_for<P: Pool, R: Clock + Abort>(rt: &R, end: &mut P, step: i64) -> bool {
     false
 }
 
-/// Posts a task that nobody computes yet. Whether nothing came of it.
+/// Posts a task that nobody computes yet. Returns whether nothing came of it.
 fn post_first<P: Pool, R: Abort>(rt: &R, end: &mut P) -> bool {
     post_one(rt, end, task(rt, USER, 0));
     end.poll(USER).is_none() && end.owed() == 1
 }
 
-/// Polls for its result, and for that of a second task. Posts a third one. Whether both came.
+/// Polls for its result, and for that of a second task. Posts a third one. Returns whether both came.
 fn poll_for_both<P: Pool, R: Clock + Abort>(rt: &R, end: &mut P) -> bool {
     let first_came = poll_for(rt, end, 0);
     sleep_a_while(rt);
@@ -66,7 +66,7 @@ fn poll_for_both<P: Pool, R: Clock + Abort>(rt: &R, end: &mut P) -> bool {
     first_came && second_came
 }
 
-/// Does so beside a worker, and then closes the pool.
+/// Does the same beside a worker, and then closes the pool.
 fn poll_beside<S: Stage<R> + Sync, P: Pool, R: Host + Sync>(
     rt: &R,
     stage: &S,
@@ -75,12 +75,12 @@ fn poll_beside<S: Stage<R> + Sync, P: Pool, R: Host + Sync>(
     beside_worker(rt, stage, || poll_for_both(rt, end))
 }
 
-/// Polls over a closed pool. Whether nothing came, the third task is still owed, and the end has not noted the close.
+/// Polls over a closed pool. Returns whether nothing came, the third task is still owed, and the end has not noted the close.
 fn poll_closed<P: Pool>(end: &mut P) -> bool {
     end.poll(USER).is_none() && end.owed() == 1 && !end.closed()
 }
 
-/// An end polls while there is no worker, beside one, and once the pool is closed.
+/// Polls by an end while there is no worker, beside one, and once the pool is closed.
 pub fn poll_in_turn<S: Stage<R> + Sync, R: Host + Sync>(rt: &R, stage: &S) -> Polled {
     let mut end = stage.end(rt, USER);
     let none_at_first = post_first(rt, &mut end);

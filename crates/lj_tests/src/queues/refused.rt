@@ -17,19 +17,19 @@ use std::sync::atomic::{AtomicU64, Ordering};
 use std::test::Fail;
 use std::thread;
 
-/// How many posts are refused: more than a pool has rooms.
+/// The number of posts that are refused: more than a pool has places.
 const REFUSED: u64 = 1100;
 
-/// How many tasks each end posts.
+/// The number of tasks that each end posts.
 const TASKS: u64 = 64;
 
-/// A gate that holds each task until it stands open.
+/// A gate that holds each task until it is open.
 #[derive(Drop)]
 struct Barrier<'a, R> {
     rt: &'a R,
-    /// How many tasks came to it.
+    /// The number of tasks that came to it.
     came: AtomicU64,
-    /// 1 where it stands open, else 0.
+    /// 1 where it is open, else 0.
     open: AtomicU64,
 }
 
@@ -43,17 +43,17 @@ impl<R: Clock + Wait> Gate for Barrier<'_, R> {
 /// What came of the posts.
 #[derive(Clone, Copy, PartialEq, Eq, Debug)]
 pub struct Told {
-    /// How many found no room.
+    /// The number of posts that found no room.
     refused: u64,
-    /// What one more was told while a worker had taken a task, and given no result.
+    /// The answer to one more while a worker had taken a task, and given no result.
     beside_taken: Answer,
-    /// How many results came once it went on.
+    /// The number of results that came once the worker went on.
     fetched: u64,
-    /// How many tasks found room when there were no others.
+    /// The number of tasks that found room when there were no others.
     posted: u64,
 }
 
-/// Posts again and again where there is no room. How many posts were refused.
+/// Posts again and again where there is no room, and returns how many posts were refused.
 fn post_in_vain<P: Pool, R: Abort>(rt: &R, last: &mut P) -> u64 {
     let mut refused = 0_u64;
     for _ in 0..REFUSED {
@@ -64,7 +64,7 @@ fn post_in_vain<P: Pool, R: Abort>(rt: &R, last: &mut P) -> u64 {
     refused
 }
 
-/// Fetches all that is owed to the end of a user. How many results came.
+/// Fetches all that is owed to the end of a user, and returns how many results came.
 fn fetch_owed<P: Pool>(end: &mut P, user: u8) -> u64 {
     let mut fetched = 0_u64;
     for _ in 0..TASKS {
@@ -75,7 +75,7 @@ fn fetch_owed<P: Pool>(end: &mut P, user: u8) -> u64 {
     fetched
 }
 
-/// Fetches all that is owed to ends. How many results came.
+/// Fetches all that is owed to ends, and returns how many results came.
 fn fetch_all<P: Pool>(ends: &mut Vec<P>) -> u64 {
     let mut fetched = 0_u64;
     for user in 0..ENDS {
@@ -86,7 +86,7 @@ fn fetch_all<P: Pool>(ends: &mut Vec<P>) -> u64 {
     fetched
 }
 
-/// Posts tasks of a user, which may not wait. How many found room.
+/// Posts tasks of a user without waiting, and returns how many found room.
 fn post_some<P: Pool, R: Abort>(rt: &R, end: &mut P, user: u8) -> u64 {
     let mut posted = 0_u64;
     for _ in 0..TASKS {
@@ -97,7 +97,7 @@ fn post_some<P: Pool, R: Abort>(rt: &R, end: &mut P, user: u8) -> u64 {
     posted
 }
 
-/// Posts tasks by each end, which may not wait. How many found room.
+/// Posts tasks by each end without waiting, and returns how many found room.
 fn post_all<P: Pool, R: Abort>(rt: &R, ends: &mut Vec<P>) -> u64 {
     let mut posted = 0_u64;
     for user in 0..ENDS {
@@ -108,8 +108,8 @@ fn post_all<P: Pool, R: Abort>(rt: &R, ends: &mut Vec<P>) -> u64 {
     posted
 }
 
-/// Posts one more task while the first one is held, fetches the results of all, posts as many anew while one of these is held
-/// at most, and closes the pool.
+/// Posts one more task while the first one is held, fetches the results of all, posts as many again while at most one of these is
+/// held, and closes the pool.
 fn go_on<S: Stage<R>, P: Pool, R: Host>(
     rt: &R,
     stage: &S,
@@ -133,7 +133,7 @@ fn go_on<S: Stage<R>, P: Pool, R: Host>(
     }
 }
 
-/// A full pool refuses many posts. Then a worker comes.
+/// Lets a full pool refuse many posts. Then a worker comes.
 ///
 /// # Errors
 /// Out of memory.
@@ -162,7 +162,7 @@ pub fn refuse_many<S: Stage<R> + Sync, R: Host + Sync>(
     Ok(Told { refused, ..told })
 }
 
-/// A task that is taken has its room in the book until its result is fetched.
+/// A task that is taken keeps its place in the book until its result is fetched.
 #[test]
 fn no_room_of_a_book_is_lost_by_refused_posts(rt: HostRuntime) -> Result<(), Fail> {
     let OverLock { seen, counts, .. } = over_lock(&rt, 1, Scene::Refused)?;
@@ -176,7 +176,7 @@ fn no_room_of_a_book_is_lost_by_refused_posts(rt: HostRuntime) -> Result<(), Fai
     Ok(())
 }
 
-/// A task that is taken leaves its room in the queue.
+/// A task that is taken frees its place in the queue.
 #[test]
 fn no_room_of_a_queue_is_lost_by_refused_posts(rt: HostRuntime) -> Result<(), Fail> {
     let OverQueue { seen, settled, .. } = over_queue(&rt, 1, Scene::Refused)?;

@@ -1,5 +1,5 @@
-//! A pool that is full: who may not wait is refused, and who waits goes on once there is room, or is told that the pool
-//! is closed.
+//! A full pool: a post that may not wait is refused, and one that waits goes on once there is room, or fails when the pool is
+//! closed.
 
 use super::over_lock::{OverLock, over_lock};
 use super::over_queue::{OverQueue, over_queue};
@@ -15,13 +15,13 @@ use std::process::Abort;
 use std::test::Fail;
 use std::thread;
 
-/// So many ends with 64 tasks each are all that a queue or a book takes.
+/// The number of ends with 64 tasks each that fill a queue or a book.
 pub const ENDS: u8 = 16;
 
 /// The user who comes last.
 pub const LAST: u8 = 16;
 
-/// What a post answers.
+/// The answer to a post.
 #[derive(Clone, Copy, PartialEq, Eq, Debug)]
 pub enum Answer {
     Posted,
@@ -33,7 +33,7 @@ pub enum Answer {
     Other,
 }
 
-/// The ends that fill the pool, of which the first one posts only so many tasks.
+/// Makes ends that fill the pool, except that the first one posts only `first` tasks.
 ///
 /// # Errors
 /// Out of memory.
@@ -50,7 +50,7 @@ pub fn fill_from<S: Stage<R>, R: Host>(
     Ok(ends)
 }
 
-/// Ends that fill the pool.
+/// Makes ends that fill the pool.
 ///
 /// # Errors
 /// Out of memory.
@@ -72,7 +72,7 @@ pub fn post_last<P: Pool, R: Abort>(rt: &R, end: &mut P, wait: bool) -> Answer {
     }
 }
 
-/// Posts a task that may wait for room, fetches its result, and closes the pool. Whether the result came.
+/// Posts a task that may wait for room, fetches its result, and closes the pool. Returns the answer, and whether the result came.
 fn post_and_fetch<S: Stage<R>, P: Pool, R: Host>(rt: &R, stage: &S, end: &mut P) -> (Answer, bool) {
     let waited = post_last(rt, end, true);
     let fetched = if end.owed() > 0 {
@@ -85,7 +85,7 @@ fn post_and_fetch<S: Stage<R>, P: Pool, R: Host>(rt: &R, stage: &S, end: &mut P)
     (waited, came)
 }
 
-/// What the end that comes last is told at once, what once it waited, and whether its result came.
+/// The answers to the end that comes last, at once and after it waited, and whether its result came.
 pub type Told = (Answer, Answer, bool);
 
 /// What happens to a full pool, after a while.
@@ -99,8 +99,7 @@ pub enum Relief {
     Close,
 }
 
-/// A pool is filled. The end that comes last is refused, and then waits for room until there is some, or until the pool is
-/// closed.
+/// A full pool, where the end that comes last is refused, and then waits until there is room or the pool is closed.
 #[derive(Clone, Copy)]
 pub struct Crowd {
     relief: Relief,
@@ -118,7 +117,7 @@ impl Crowd {
         stage.work(rt, &());
     }
 
-    /// The end that comes last waits beside that.
+    /// Lets the end that comes last wait meanwhile.
     fn wait<S: Stage<R> + Sync, P: Pool, R: Host + Sync>(
         &self,
         rt: &R,
@@ -133,7 +132,7 @@ impl Crowd {
         told
     }
 
-    /// What the end that comes last is told.
+    /// Fills the pool, and returns the answers to the end that comes last.
     ///
     /// # Errors
     /// Out of memory.

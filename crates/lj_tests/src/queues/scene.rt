@@ -1,4 +1,4 @@
-//! Scenes: what is played over a pool of either kind that is empty and open.
+//! Scenes, which are played over an empty and open pool of either kind.
 
 use super::boxes::Fate;
 use super::room::Crowd;
@@ -9,7 +9,7 @@ use super::{
 };
 use std::alloc::AllocError;
 
-/// What is played. Its file says what that is.
+/// A scene. Its file says what is played.
 #[derive(Clone, Copy)]
 pub enum Scene {
     Ahead(ahead::Case),

@@ -1,5 +1,5 @@
-//! Two sessions of one user, which are worked on at once while the user says nothing: a gate holds the task of one of them
-//! until it is called for that of the other, over both pools.
+//! Two sessions of one user, computed at once while the user sends nothing: over both pools, a gate holds the task of one of them
+//! until it is called for that of the other.
 
 use super::over_lock::over_lock;
 use super::over_queue::over_queue;
@@ -30,7 +30,7 @@ struct HoldFirst<'a, R> {
     second: AtomicU64,
     /// How many tasks of `a` passed since then.
     first: AtomicU64,
-    /// How often it was called for `b` while the user said nothing.
+    /// How often it was called for `b` while the user sent nothing.
     silent: AtomicU64,
 }
 
@@ -54,7 +54,7 @@ impl<'a, R> HoldFirst<'a, R> {
         }
     }
 
-    /// How many tasks of `a` passed, how often it was called for one of `b`, and how often in silence.
+    /// Returns how many tasks of `a` passed, how often it was called for one of `b`, and how often while the user sent nothing.
     fn counts(&self) -> [u64; 3] {
         [
             self.first.load(Ordering::SeqCst),
@@ -64,7 +64,7 @@ impl<'a, R> HoldFirst<'a, R> {
     }
 }
 
-/// What the user says: first this, and then that, once the gate was called for a task of `b`.
+/// The input of the user: `first`, and `then` once the gate was called for a task of `b`.
 #[derive(Drop)]
 struct Words<'a, R> {
     gate: &'a HoldFirst<'a, R>,
@@ -84,14 +84,14 @@ impl<R: Clock + Wait> Read for Words<'_, R> {
     }
 }
 
-/// What the user is told.
+/// The replies to the user.
 type Output = ArrayVec<u8, 128>;
 
-/// Both sessions are started.
+/// The commands that start both sessions.
 const STARTS: &str = "LOAD a 256 1 131072 rest 28\n2\ndimer\nAr 0 0 0\nAr 1.5 0 0\n\
     LOAD b 256 1 131072 rest 28\n2\ndimer\nAr 0 0 0\nAr 1.5 0 0\nSTART a 1\nSTART b 1\n";
 
-/// The first one is shown.
+/// The command that shows the first one.
 const SHOW: &str = "SHOW a 0\n";
 
 const TOLD: &str =
@@ -114,7 +114,7 @@ fn serve_starts<S: Stage<R>, R: Host>(rt: &R, stage: &S, gate: &HoldFirst<'_, R>
     writer.into_inner()
 }
 
-/// A user is served beside two workers. Whether all was right.
+/// Serves a user beside two workers. Returns whether all was right.
 pub fn serve_beside_workers<S: Stage<R> + Sync, R: Host + Sync>(rt: &R, stage: &S) -> bool {
     let gate = HoldFirst::new(rt);
     let keeper = &gate;
@@ -126,8 +126,8 @@ pub fn serve_beside_workers<S: Stage<R> + Sync, R: Host + Sync>(rt: &R, stage: &
     is_right(&output, gate.counts())
 }
 
-/// The session is to be shown as it is alone, and its task is to have passed after the gate was called for the other one,
-/// while the user said nothing.
+/// Returns whether the session is shown as it is alone, and its task passed after the gate was called for the other one, while
+/// the user sent nothing.
 fn is_right(told: &Output, counts: [u64; 3]) -> bool {
     told.as_slice() == TOLD.as_bytes() && counts == [1, 1, 1]
 }

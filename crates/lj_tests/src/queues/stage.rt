@@ -1,4 +1,4 @@
-//! What scenes are played over: a pool of either kind, at which ends and workers come and go.
+//! The stages of scenes: a pool of either kind, whose ends and workers come and go.
 ghost use Rattle.std.specs.Prelude.{◌≡◌, []};
 
 use lj_book::Counts;
@@ -18,7 +18,7 @@ impl<R: AllocGlobal + Threads + Wait + Clock + Abort> Host for R {}
 /// What a worker did.
 #[derive(Clone, Copy, PartialEq, Eq, Debug)]
 pub struct Worked {
-    /// How many results its share was credited since it began: a late worker may have the share of one that has ended.
+    /// The number of results credited to its share since it began: a late worker may have the share of one that has ended.
     pub credited: u64,
     /// The number of its pass, if the pool has passes.
     pub pass: Option<usize>,
@@ -28,14 +28,14 @@ pub struct Worked {
 pub trait Stage<R: Host> {
     type End: Pool + Send + Drop;
 
-    /// A new end for a user.
+    /// Makes an end for a user.
     fn end(&self, rt: &R, user: u8) -> Self::End
         ensures { (Self.End.seen result).owed ≡ [] };
 
-    /// Takes back what an end needed. The number of its pass, if the pool has passes.
+    /// Takes back what an end needed, and returns the number of its pass, if the pool has passes.
     fn leave(&self, rt: &R, end: Self::End) -> Option<usize>;
 
-    /// A worker computes tasks until the pool is closed.
+    /// Computes tasks, as a worker does, until the pool is closed.
     fn work<G: Gate>(&self, rt: &R, gate: &G) -> Worked;
 
     /// Drops what the pool has of a user.
@@ -44,7 +44,7 @@ pub trait Stage<R: Host> {
     /// Closes the pool.
     fn close(&self, rt: &R);
 
-    /// The counts of its book, if it has one.
+    /// Returns the counts of its book, if it has one.
     fn counts(&self, rt: &R) -> Option<Counts>;
 }
 
@@ -68,7 +68,7 @@ pub fn beside_worker<S: Stage<R> + Sync, A, F: FnOnce() -> A, R: Host + Sync>(
     seen
 }
 
-/// Two workers compute tasks until the pool is closed. What both did.
+/// Computes tasks by two workers until the pool is closed, and returns what both did.
 pub fn work_both<S: Stage<R> + Sync, G: Gate + Sync, R: Host + Sync>(
     rt: &R,
     stage: &S,

@@ -1,5 +1,5 @@
-//! Four tasks posted together, over both pools: the first ones where there is no room for all of them, and none where there is
-//! no room or the pool is closed.
+//! Four tasks posted together, over both pools: only the first ones are posted where there is no room for all of them, and none
+//! where there is no room or the pool is closed.
 
 use super::over_lock::{OverLock, over_lock};
 use super::over_queue::{OverQueue, over_queue};
@@ -12,7 +12,7 @@ use std::alloc::AllocError;
 use std::process::Abort;
 use std::test::Fail;
 
-/// How many were posted, how many are owed to the end then, and whether it has seen the pool closed.
+/// The number of tasks posted, the number then owed to the end, and whether it has seen the pool closed.
 #[derive(Clone, Copy, PartialEq, Eq, Debug)]
 pub struct Told {
     posted: usize,
@@ -33,7 +33,7 @@ fn post_four<P: Pool, R: Abort>(rt: &R, end: &mut P) -> Told {
     }
 }
 
-/// What an end is told that posts four tasks over a pool with room for two, four more over a full one, and four over a closed one.
+/// Posts four tasks by an end over a pool with room for two, four more over a full one, and four over a closed one.
 ///
 /// # Errors
 /// Out of memory.

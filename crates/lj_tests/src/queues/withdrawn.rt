@@ -16,10 +16,10 @@ const GONE: u8 = 6;
 
 const GONE_TASKS: i64 = 20;
 
-/// So many of them are in hand over a book once the first one was handed out.
+/// The number of them in hand over a book once the first one was handed out.
 const IN_HAND: i64 = 16;
 
-/// How many more it posts once it has those in hand.
+/// The number of tasks that it posts once it has those in hand.
 const MORE_TASKS: i64 = 2;
 
 /// Its neighbour.
@@ -47,7 +47,7 @@ const EXPECTED: Left = Left {
     neighbour: NEIGHBOUR_TASKS,
 };
 
-/// Posts the last task, and waits for its result. Whether it came.
+/// Posts the last task, and waits for its result. Returns whether it came.
 pub fn play_last<S: Stage<R>, R: Host>(rt: &R, stage: &S) -> bool {
     let mut last = posting_end(rt, stage, LAST, 1);
     let came = last.owed() > 0 && last.fetch(LAST).is_some();
@@ -55,7 +55,7 @@ pub fn play_last<S: Stage<R>, R: Host>(rt: &R, stage: &S) -> bool {
     came
 }
 
-/// Polls for results of a user's tasks, from this step on and before that. How many came, in order.
+/// Polls for the results of a user's tasks at these steps, the last one not included. Returns how many came, in order.
 fn count_polled<P: Pool, R: Abort>(rt: &R, end: &mut P, user: u8, steps: (i64, i64)) -> i64 {
     let mut count = 0_i64;
     for step in steps.0..steps.1 {
@@ -68,7 +68,7 @@ fn count_polled<P: Pool, R: Abort>(rt: &R, end: &mut P, user: u8, steps: (i64, i
 }
 
 /// Withdraws a user once all results were given, when its end has some of them in hand: these are still handed out. The
-/// neighbour's end also posts a task of that user, of which nothing comes.
+/// neighbour's end also posts a task of that user, whose result does not come.
 fn leave_with_end<S: Stage<R>, R: Host>(rt: &R, stage: &S) -> Left {
     let mut gone = posting_end(rt, stage, GONE, GONE_TASKS);
     let mut neighbour = posting_end(rt, stage, NEIGHBOUR, NEIGHBOUR_TASKS);
@@ -92,13 +92,13 @@ fn leave_with_end<S: Stage<R>, R: Host>(rt: &R, stage: &S) -> Left {
     }
 }
 
-/// A user is withdrawn beside a worker, and then the pool is closed.
+/// Withdraws a user beside a worker, and then closes the pool.
 pub fn withdraw_with_end<S: Stage<R> + Sync, R: Host + Sync>(rt: &R, stage: &S) -> Left {
     beside_worker(rt, stage, move || leave_with_end(rt, stage))
 }
 
-/// All results are kept but the one of the task that was posted by another user's end. Those in hand come, and the two that
-/// the pool had do not.
+/// All results are kept except that of the task that another user's end posted. Those in hand come, and the two that the pool had
+/// do not.
 #[test]
 fn a_withdrawal_over_a_queue_leaves_the_neighbour(rt: HostRuntime) -> Result<(), Fail> {
     let OverQueue { seen, given, .. } = over_queue(&rt, 1, Scene::WithEnd)?;
@@ -110,7 +110,7 @@ fn a_withdrawal_over_a_queue_leaves_the_neighbour(rt: HostRuntime) -> Result<(),
     Ok(())
 }
 
-/// The results in hand come, and those that stood in the book do not.
+/// The results in hand come, and those in the book do not.
 #[test]
 fn a_withdrawal_over_a_book_leaves_what_is_in_hand(rt: HostRuntime) -> Result<(), Fail> {
     let seen = over_lock(&rt, 1, Scene::WithEnd)?.seen;
@@ -147,7 +147,7 @@ fn leave_without_end<S: Stage<R>, R: Host>(rt: &R, stage: &S) -> LeftAndCounts {
     (left, standing, withdrawn)
 }
 
-/// A user whose end is gone is withdrawn beside a worker, and then the pool is closed.
+/// Withdraws a user whose end is gone beside a worker, and then closes the pool.
 pub fn withdraw_without_end<S: Stage<R> + Sync, R: Host + Sync>(
     rt: &R,
     stage: &S,
@@ -155,8 +155,8 @@ pub fn withdraw_without_end<S: Stage<R> + Sync, R: Host + Sync>(
     beside_worker(rt, stage, move || leave_without_end(rt, stage))
 }
 
-/// An entry stands until it is fetched or withdrawn, also that of an end which is gone. With the first result those that are
-/// in hand then are fetched.
+/// An entry stays until it is fetched or withdrawn, also that of an end that is gone. With the first result those that are then
+/// in hand are fetched.
 #[test]
 fn a_withdrawal_over_a_book_leaves_the_neighbour(rt: HostRuntime) -> Result<(), Fail> {
     let seen = over_lock(&rt, 1, Scene::WithoutEnd)?.seen;
