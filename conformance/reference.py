@@ -210,7 +210,7 @@ def frame_at(lines: List[Words], at: int, species: Words, atoms: Optional[int] =
     return rows, at + 2 + count
 
 
-# A user and its commands: lj_session/specs/Users, Loads, Substances and Answers; lj_wire/specs/Texts
+# A user and its commands: lj_session/specs/Users, Loads, Interactions and Answers; lj_wire/specs/Texts
 
 
 @dataclass

@@ -457,7 +457,7 @@ BLOCKS = {
     "docs/PROOFS.md": {
         "pub fn image": stands_in("crates/lj_ring/src/coordinates.rt"),
         "-- z is the least image": stands_in("crates/lj_ring/specs/Ring.antt"),
-        "pub fn steps_are_undone": stands_in("crates/lj_step/src/laws.rt"),
+        "pub fn steps_are_undone": stands_in("crates/lj_step/src/motion_laws.rt"),
         "pub fn hello": stands_in("crates/lj_access/src/directory.rt"),
         "cd crates/lj_step": NEEDS_KIT,
     },

@@ -73,7 +73,7 @@ def test_each_promise_has_its_row() -> None:
     lines = [line for path in TOP.glob("crates/*/src/**/*.rt") for line in path.read_text().splitlines() if "/// Promise: " in line]
     found = rows(documents.promises())
     assert len(found) == len(lines) > 60
-    assert [promise for crate, name, promise in found if name == "`laws::steps_are_undone`"] == [
+    assert [promise for crate, name, promise in found if name == "`motion_laws::steps_are_undone`"] == [
         "for every n and every simulation, n steps, a reversal, n steps and a reversal give back the simulation"
     ]
 

@@ -9,7 +9,7 @@ ghost use Rattle.lj_access.specs.Rows.{first_row, user_with, HasTicketLeft, next
 
 use crate::ticket::{Denied, NotEntered, Ticket};
 use crate::user::User;
-use crate::user_row::Row;
+use crate::user_row::UserRow;
 use lj_base::Name;
 use lj_session::UserState;
 use std::alloc::{AllocError, Global};
@@ -22,7 +22,7 @@ pub const MAX_USERS: usize = 64;
 /// Users, numbered from 0, with their tickets and their states. A user's state is either at home or lent to one ticket.
 #[derive(Drop)]
 pub struct Directory {
-    rows: Vec<Row>,
+    rows: Vec<UserRow>,
 }
 
 impl Model for Directory {
@@ -30,7 +30,7 @@ impl Model for Directory {
     ghost use Rattle.lj_access.specs.Rows as known;
     ghost use Rattle.lj_access.specs.Directories.{IsDirectory};
 
-    ghost Value = { List known.Row };
+    ghost Value = { List known.UserRow };
 
     ghost view = { λ directory. directory.rows.items };
 
@@ -164,12 +164,12 @@ impl Directory {
     }
 }
 
-fn opening_rows(alloc: Global, users: Vec<User>) -> Result<Vec<Row>, AllocError>
+fn opening_rows(alloc: Global, users: Vec<User>) -> Result<Vec<UserRow>, AllocError>
     ensures { IfOk result (λ rows. rows.items ≡ map first_row users.items) }
 {
     users
         .into_iter()
-        .map(|user| Row::new(alloc, user))
+        .map(|user| UserRow::new(alloc, user))
         .collect(alloc)
 }
 

@@ -14,7 +14,7 @@ pub const MAX_TICKETS: u64 = 4_294_967_296;
 
 /// A user: the number of tickets granted and of those that have left, and the state while it is at home.
 #[derive(Drop)]
-pub(crate) struct Row {
+pub(crate) struct UserRow {
     name: Name,
     token: Token,
     granted: u64,
@@ -22,20 +22,20 @@ pub(crate) struct Row {
     home: Option<UserState>,
 }
 
-impl Model for Row {
+impl Model for UserRow {
     ghost use Rattle.lj_access.specs.Rows as rows;
 
-    ghost Value = { rows.Row };
+    ghost Value = { rows.UserRow };
 
     ghost view = { λ row. record { name = row.name; token = row.token; granted = row.granted; past = row.past; home = row.home } };
 }
 
-impl Row {
+impl UserRow {
     /// Makes the row of a user without tickets, whose state has no sessions.
-    pub(crate) fn new(alloc: Global, user: User) -> Row
+    pub(crate) fn new(alloc: Global, user: User) -> UserRow
         ensures { result ≡ first_row user }
     {
-        Row {
+        UserRow {
             name: user.name,
             token: user.token,
             granted: 0,

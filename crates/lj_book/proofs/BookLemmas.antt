@@ -1,91 +1,91 @@
--- A book whose slab and marks change at one key is a book, and the marks tell what stands under the keys.
+-- A book whose slab and states change at one key is a book, and the states tell what stands under the keys.
 use Rattle.std.proofs.Common.{◌≡◌, ◌≢◌, ℕ, ◌+◌, ◌<◌, ◌≤◌, Bool, true, false, List, [], ◌∷◌, length, Option, None, Some, is_some, cond, count_by, refl, sym, ap, ◌∙◌, inl, inr, arith, length-set, get_or-set_same, get_or-set_other}
 use Rattle.std.proofs.lemmas.Bool.{cases_eq, cases_lt}
 use Rattle.std.proofs.lemmas.List.{get_or_past}
 use Rattle.std.proofs.lemmas.List.Sums.{sum_by-cons}
 use Rattle.std.specs.Prelude.{slice_set}
 use Rattle.slab.specs.Slab.{Slab, Updates, get, slab_len}
-use Rattle.lj_book.specs.declared.entries.TheConstants.{MAX_ENTRIES}
-use Rattle.lj_book.specs.declared.marks.Mark.{Mark}
-use Rattle.lj_book.specs.declared.marks.Mark.TheVariants.{Vacant, ToTake, Taken, ToFetch}
-use Rattle.lj_book.specs.Book.{BookOf, Entry, Open, Out, Done, IsBook, Puts, entry_at, entry_count, mark_of, waiting_count, weight}
+use Rattle.lj_book.specs.declared.book_entry.TheConstants.{MAX_ENTRIES}
+use Rattle.lj_book.specs.declared.key_states.KeyState.{KeyState}
+use Rattle.lj_book.specs.declared.key_states.KeyState.TheVariants.{Vacant, ToTake, Taken, ToFetch}
+use Rattle.lj_book.specs.Book.{BookOf, BookEntry, Open, Out, Done, IsBook, Puts, entry_at, entry_count, key_state_of, waiting_count, weight}
 use Rattle.lj_book.specs.Boxes.{has_box_by}
-use Rattle.lj_book.specs.Marks.{HasMark, mark_at}
+use Rattle.lj_book.specs.KeyStates.{HasKeyState, key_state_at}
 use Rattle.lj_book.specs.Picks.{IsPick}
 use Rattle.lj_book.proofs.CountLemmas.{sum_changed}
 
--- a key with another mark than that of vacant ones is one of the list
-pub key_within : (marks : List Mark) (key : ℕ) → mark_at marks key ≢ Vacant → key < length marks
-key_within marks key marked =
-    elim (cases_lt key (length marks)) [
+-- a key with another state than that of vacant ones is one of the list
+pub key_within : (key_states : List KeyState) (key : ℕ) → key_state_at key_states key ≢ Vacant → key < length key_states
+key_within key_states key marked =
+    elim (cases_lt key (length key_states)) [
       | inl less ↦ less
-      | inr past ↦ absurd (marked (get_or_past marks key Vacant past))
+      | inr past ↦ absurd (marked (get_or_past key_states key Vacant past))
     ]
 
-module _ {P K : Type 0} (slab : Slab (Entry P K)) (marks : List Mark) (marked : (k : ℕ) → mark_at marks k ≡ mark_of (get slab k)) where
-  -- what is picked by its mark is picked by what stands there
-  pub picked : (mark : Mark) (pick key : ℕ) → mark ≢ Vacant → IsPick (HasMark marks mark) pick key
-      → IsPick (λ k. mark_of (get slab k) ≡ mark) pick key
-  picked mark pick key other is = record {
+module _ {P K : Type 0} (slab : Slab (BookEntry P K)) (key_states : List KeyState) (marked : (k : ℕ) → key_state_at key_states k ≡ key_state_of (get slab k)) where
+  -- what is picked by its state is picked by what stands there
+  pub picked : (key_state : KeyState) (pick key : ℕ) → key_state ≢ Vacant → IsPick (HasKeyState key_states key_state) pick key
+      → IsPick (λ k. key_state_of (get slab k) ≡ key_state) pick key
+  picked key_state pick key other is = record {
     passes = sym (marked key) ∙ is.passes.is;
     least = λ from k here. is.least from k (has k here);
     around = λ below k here. is.around below k (has k here);
   }
     where
-      has : (k : ℕ) → mark_of (get slab k) ≡ mark → HasMark marks mark k
+      has : (k : ℕ) → key_state_of (get slab k) ≡ key_state → HasKeyState key_states key_state k
       has k here = record {
-        within = key_within marks k (λ vacant. other (sym (marked k ∙ here) ∙ vacant));
+        within = key_within key_states k (λ vacant. other (sym (marked k ∙ here) ∙ vacant));
         is = marked k ∙ here;
       }
 
-  module _ (new : Slab (Entry P K)) (key : ℕ) (slot : Option (Entry P K)) (mark : Mark) (within : key < length marks)
-      (updates : Updates slab new key slot) (is : mark ≡ mark_of slot) where
-    still_marked : (k : ℕ) → mark_at (slice_set marks key mark) k ≡ mark_of (get new k)
+  module _ (new : Slab (BookEntry P K)) (key : ℕ) (slot : Option (BookEntry P K)) (key_state : KeyState) (within : key < length key_states)
+      (updates : Updates slab new key slot) (is : key_state ≡ key_state_of slot) where
+    still_marked : (k : ℕ) → key_state_at (slice_set key_states key key_state) k ≡ key_state_of (get new k)
     still_marked k =
         elim (cases_eq k key) [
-          | inl same ↦ rw (same, get_or-set_same marks key mark Vacant within) (is ∙ ap mark_of (sym updates.changed))
+          | inl same ↦ rw (same, get_or-set_same key_states key key_state Vacant within) (is ∙ ap key_state_of (sym updates.changed))
           | inr other ↦
-              rw (get_or-set_other marks key k mark Vacant other) (marked k ∙ ap mark_of (sym (updates.others k other)))
+              rw (get_or-set_other key_states key k key_state Vacant other) (marked k ∙ ap key_state_of (sym (updates.others k other)))
         ]
 
-    pub changed_book : length marks ≡ slab.capacity → MAX_ENTRIES ≤ slab.capacity → new.capacity ≡ slab.capacity
+    pub changed_book : length key_states ≡ slab.capacity → MAX_ENTRIES ≤ slab.capacity → new.capacity ≡ slab.capacity
         → (posted given fetched withdrawn : ℕ) → posted ≡ fetched + withdrawn + slab_len new
         → given + waiting_count new.slots ≤ posted → slab_len new ≤ MAX_ENTRIES
-        → IsBook new (slice_set marks key mark) posted given fetched withdrawn
+        → IsBook new (slice_set key_states key key_state) posted given fetched withdrawn
     changed_book keys room capacity posted given fetched withdrawn balance waits most = record {
       balance = balance;
       given_or_waiting = waits;
       most = most;
       room = omega (arith, room, capacity);
-      keys = length-set marks key mark ∙ keys ∙ sym capacity;
+      keys = length-set key_states key key_state ∙ keys ∙ sym capacity;
       marked = still_marked;
     }
 
--- 1 for the mark of a task without its result, else 0
-abbrev pub mark_weight : Mark → ℕ
-mark_weight Vacant = 0
-mark_weight ToTake = 1
-mark_weight Taken = 1
-mark_weight (ToFetch user) = 0
+-- 1 for the state of a task without its result, else 0
+abbrev pub key_state_weight : KeyState → ℕ
+key_state_weight Vacant = 0
+key_state_weight ToTake = 1
+key_state_weight Taken = 1
+key_state_weight (ToFetch user) = 0
 
-weight_marked : {P K : Type 0} (slot : Option (Entry P K)) → weight slot ≡ mark_weight (mark_of slot)
+weight_marked : {P K : Type 0} (slot : Option (BookEntry P K)) → weight slot ≡ key_state_weight (key_state_of slot)
 weight_marked None = refl
 weight_marked (Some (Open opened)) = refl
 weight_marked (Some (Out kept)) = refl
 weight_marked (Some (Done work)) = refl
 
 -- where an entry takes the place of another, it is still a book
-module _ {P K : Type 0} (slab : Slab (Entry P K)) (marks : List Mark) (posted given fetched withdrawn : ℕ)
-    (held : IsBook slab marks posted given fetched withdrawn) where
-  pub put_book : (new : Slab (Entry P K)) (key : ℕ) (entry : Entry P K) (was mark : Mark) → mark_of (get slab key) ≡ was
-      → was ≢ Vacant → mark ≡ mark_of (Some entry) → Updates slab new key (Some entry) → slab_len new ≡ slab_len slab
-      → new.capacity ≡ slab.capacity → (given_now : ℕ) → given_now + weight (Some entry) ≡ given + mark_weight was
-      → IsBook new (slice_set marks key mark) posted given_now fetched withdrawn
-  put_book new key entry was mark there stands is updates len capacity given_now counts =
+module _ {P K : Type 0} (slab : Slab (BookEntry P K)) (key_states : List KeyState) (posted given fetched withdrawn : ℕ)
+    (held : IsBook slab key_states posted given fetched withdrawn) where
+  pub put_book : (new : Slab (BookEntry P K)) (key : ℕ) (entry : BookEntry P K) (was key_state : KeyState) → key_state_of (get slab key) ≡ was
+      → was ≢ Vacant → key_state ≡ key_state_of (Some entry) → Updates slab new key (Some entry) → slab_len new ≡ slab_len slab
+      → new.capacity ≡ slab.capacity → (given_now : ℕ) → given_now + weight (Some entry) ≡ given + key_state_weight was
+      → IsBook new (slice_set key_states key key_state) posted given_now fetched withdrawn
+  put_book new key entry was key_state there stands is updates len capacity given_now counts =
       let waits = sum_changed weight refl slab.slots new.slots key updates.others in
-      let before : weight (get slab key) ≡ mark_weight was = weight_marked (get slab key) ∙ ap mark_weight there in
-      changed_book slab marks held.marked new key (Some entry) mark
-      (key_within marks key (λ vacant. stands (sym (held.marked key ∙ there) ∙ vacant)))
+      let before : weight (get slab key) ≡ key_state_weight was = weight_marked (get slab key) ∙ ap key_state_weight there in
+      changed_book slab key_states held.marked new key (Some entry) key_state
+      (key_within key_states key (λ vacant. stands (sym (held.marked key ∙ there) ∙ vacant)))
       updates is held.keys held.room capacity posted given_now fetched withdrawn
       (omega (arith, held.balance, len))
       (omega (arith, held.given_or_waiting, waits, before, ap weight updates.changed, counts))
@@ -96,12 +96,12 @@ abbrev pub one_if : Bool → ℕ
 one_if passes = cond passes 1 0
 
 -- how many entries pass a test, where one changes
-module _ {P K : Type 0} (old new : BookOf P K) (key : ℕ) (was slot : Option (Entry P K)) (there : entry_at old key ≡ was)
+module _ {P K : Type 0} (old new : BookOf P K) (key : ℕ) (was slot : Option (BookEntry P K)) (there : entry_at old key ≡ was)
     (puts : Puts old new key slot) where
-  pub count_put : (test : Option (Entry P K) → Bool) → test None ≡ false
+  pub count_put : (test : Option (BookEntry P K) → Bool) → test None ≡ false
       → count_by test new.slots + one_if (test was) ≡ count_by test old.slots + one_if (test slot)
   count_put test nothing =
-      let f : Option (Entry P K) → ℕ = λ s. one_if (test s) in
+      let f : Option (BookEntry P K) → ℕ = λ s. one_if (test s) in
       let changed = sum_changed f (ap one_if nothing) old.slots new.slots key puts.others in
       omega (arith, changed, ap f there, ap f puts.changed)
 
@@ -111,21 +111,21 @@ module _ {P K : Type 0} (old new : BookOf P K) (key : ℕ) (was slot : Option (E
 
 -- where a box lies in each entry, there are as many as entries
 module _ {P K : Type 0} where
-  abbrev boxed : Option (Entry P K) → Bool
+  abbrev boxed : Option (BookEntry P K) → Bool
   boxed = has_box_by (λ opened. true) (λ kept. true)
 
-  one_boxed : (slot : Option (Entry P K)) → one_if (boxed slot) ≡ one_if (is_some slot)
+  one_boxed : (slot : Option (BookEntry P K)) → one_if (boxed slot) ≡ one_if (is_some slot)
   one_boxed None = refl
   one_boxed (Some (Open opened)) = refl
   one_boxed (Some (Out kept)) = refl
   one_boxed (Some (Done work)) = refl
 
-  pub all_boxed : (slots : List (Option (Entry P K))) → count_by boxed slots ≡ count_by is_some slots
+  pub all_boxed : (slots : List (Option (BookEntry P K))) → count_by boxed slots ≡ count_by is_some slots
   all_boxed [] = refl
   all_boxed (slot ∷ slots) = omega (
     arith,
     one_boxed slot,
     all_boxed slots,
     sum_by-cons (λ s. one_if (boxed s)) slot slots,
-    sum_by-cons (λ (s : Option (Entry P K)). one_if (is_some s)) slot slots,
+    sum_by-cons (λ (s : Option (BookEntry P K)). one_if (is_some s)) slot slots,
   )

@@ -5,18 +5,18 @@ use Rattle.std.specs.Prelude.{Vec, IfSome, IfNone}
 use Rattle.std.specs.Global.{Global}
 use Rattle.lj_tile.specs.Task.{Task}
 use Rattle.lj_book.specs.Picks.{IsPick}
-use Rattle.lj_book.specs.Book.{BookOf, Entry, Open, Out, Done, Puts, Posts, LetsOut, Reopens, Finishes, Fetches, IsDoneAt, entry_at}
-use Rattle.lj_book.specs.Boxes.{AreOlder, BoxBook, FetchesBox, GivesBox, HandsBackBox, IsBelow, IsBoxBook, Lent, Numbered, PostsBox, Slip, TakesBox, numbered_of, slip_of}
+use Rattle.lj_book.specs.Book.{BookOf, BookEntry, Open, Out, Done, Puts, Posts, LetsOut, Reopens, Finishes, Fetches, IsDoneAt, entry_at}
+use Rattle.lj_book.specs.Boxes.{AreOlder, BoxBook, FetchesBox, GivesBox, HandsBackBox, IsBelow, IsBoxBook, LentTask, Numbered, PostsBox, Slip, TakesBox, numbered_of, slip_of}
 use Rattle.lj_book.proofs.BookLemmas.{entries_put}
 
 -- a number that is below one is below a greater one
-below_more : (slot : Option (Entry Numbered Slip)) (less more : ℕ) → less ≤ more → IsBelow less slot → IsBelow more slot
+below_more : (slot : Option (BookEntry Numbered Slip)) (less more : ℕ) → less ≤ more → IsBelow less slot → IsBelow more slot
 below_more None less more grows below = tt
 below_more (Some (Open opened)) less more grows below = omega (arith, grows, below)
 below_more (Some (Out kept)) less more grows below = omega (arith, grows, below)
 below_more (Some (Done work)) less more grows below = tt
 
-module _ (old new : BookOf Numbered Slip) (key : ℕ) (was slot : Option (Entry Numbered Slip)) (there : entry_at old key ≡ was)
+module _ (old new : BookOf Numbered Slip) (key : ℕ) (was slot : Option (BookEntry Numbered Slip)) (there : entry_at old key ≡ was)
     (puts : Puts old new key slot) where
   pub older_put : AreOlder old → old.posted ≤ new.posted → IsBelow new.posted slot → AreOlder new
   older_put older grows newest k = elim (cases_eq k key) [
@@ -38,7 +38,7 @@ module _ (old : BoxBook) (new : BookOf Numbered Slip) where
     boxes = omega (arith, entries_put old.held new key _ _ p.was p.puts);
   }
 
-  pub takes_box : (lent : Lent) → LetsOut old.held new lent.key (numbered_of lent) (slip_of lent) → TakesBox old (with_held new old) lent
+  pub takes_box : (lent : LentTask) → LetsOut old.held new lent.key (numbered_of lent) (slip_of lent) → TakesBox old (with_held new old) lent
   takes_box lent t = record {
     takes = t;
     spare = refl;
@@ -46,7 +46,7 @@ module _ (old : BoxBook) (new : BookOf Numbered Slip) where
     boxes = omega (arith, entries_put old.held new lent.key _ _ t.was t.puts);
   }
 
-  pub hands_back_box : (lent : Lent) → Reopens old.held new lent.key (slip_of lent) (numbered_of lent)
+  pub hands_back_box : (lent : LentTask) → Reopens old.held new lent.key (slip_of lent) (numbered_of lent)
       → HandsBackBox old (with_held new old) lent
   hands_back_box lent h = record {
     hands_back = h;
@@ -55,7 +55,7 @@ module _ (old : BoxBook) (new : BookOf Numbered Slip) where
     boxes = omega (arith, entries_put old.held new lent.key _ _ h.was h.puts);
   }
 
-  pub gives_box : (lent : Lent) → Finishes old.held new lent.key (slip_of lent) lent.work → GivesBox old (with_held new old) lent
+  pub gives_box : (lent : LentTask) → Finishes old.held new lent.key (slip_of lent) lent.work → GivesBox old (with_held new old) lent
   gives_box lent g = record {
     gives = g;
     spare = refl;

@@ -1,5 +1,5 @@
 mod BookLemmas
 mod BoxLemmas
 mod CountLemmas
-mod MarkLemmas
+mod KeyStateLemmas
 mod RefusedLemmas

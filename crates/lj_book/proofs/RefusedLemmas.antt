@@ -1,8 +1,8 @@
 -- Why a box that has left stays refused.
 use Rattle.std.proofs.Common.{◌≡◌, ◌≢◌, ℕ, zero, suc, ◌<◌, ◌≤◌, Bool, true, false, Option, Some, None, cond, nat_eq, refl, sym, ap, subst, ◌∙◌, inl, inr, arith}
 use Rattle.std.proofs.lemmas.Bool.{cases_eq}
-use Rattle.lj_book.specs.Book.{BookOf, Entry, Out, Puts, entry_at, slot_left, user_of}
-use Rattle.lj_book.specs.Boxes.{AreOlder, BoxBook, GivesBox, IsBelow, IsOut, Lent, Numbered, Slip, WithdrawsBox, is_slot_of, slip_of}
+use Rattle.lj_book.specs.Book.{BookOf, BookEntry, Out, Puts, entry_at, slot_left, user_of}
+use Rattle.lj_book.specs.Boxes.{AreOlder, BoxBook, GivesBox, IsBelow, IsOut, LentTask, Numbered, Slip, WithdrawsBox, is_slot_of, slip_of}
 use Rattle.lj_book.specs.Refused.{Changes, Posting, Taking, Giving, Handing_back, Fetching, Withdrawing, Stocking, HasLeft, Runs, number_at}
 
 -- no number stands there
@@ -10,9 +10,9 @@ none_there : (slot : Option ℕ) (number : ℕ) → slot ≡ None → slot ≢ S
 none_there slot number none some = let e : None ≡ Some number = sym none ∙ some in cc
 
 -- where a slot changes, and its number is not the one, the one has still left
-module _ (old new : BoxBook) (key : ℕ) (slot : Option (Entry Numbered Slip)) (puts : Puts old.held new.held key slot)
+module _ (old new : BoxBook) (key : ℕ) (slot : Option (BookEntry Numbered Slip)) (puts : Puts old.held new.held key slot)
     (grows : old.held.posted ≤ new.held.posted) where
-  pub left_put : (lent : Lent) → HasLeft old lent → (lent.key ≡ key → number_at slot ≢ Some lent.number) → HasLeft new lent
+  pub left_put : (lent : LentTask) → HasLeft old lent → (lent.key ≡ key → number_at slot ≢ Some lent.number) → HasLeft new lent
   left_put lent left other = record {
     number = omega (arith, left.number, grows);
     gone = elim (cases_eq lent.key key) [
@@ -22,19 +22,19 @@ module _ (old new : BoxBook) (key : ℕ) (slot : Option (Entry Numbered Slip)) (
   }
 
 -- what was there had another number
-was_other : (old : BoxBook) (lent : Lent) (key number : ℕ) → HasLeft old lent → number_at (entry_at old.held key) ≡ Some number
+was_other : (old : BoxBook) (lent : LentTask) (key number : ℕ) → HasLeft old lent → number_at (entry_at old.held key) ≡ Some number
     → lent.key ≡ key → Some number ≢ Some lent.number
 was_other old lent key number left there same some =
     left.gone (ap (λ k. number_at (entry_at old.held k)) same ∙ there ∙ some)
 
 -- a slot after a withdrawal has no number that it had not before
-left_slot : (mine : Option (Entry Numbered Slip) → Bool) (slot : Option (Entry Numbered Slip)) (passes : Bool) (number : ℕ)
+left_slot : (mine : Option (BookEntry Numbered Slip) → Bool) (slot : Option (BookEntry Numbered Slip)) (passes : Bool) (number : ℕ)
     → number_at slot ≢ Some number → number_at (cond passes None slot) ≢ Some number
 left_slot mine slot true number apart some = none_there None number refl some
 left_slot mine slot false number apart some = apart some
 
 -- each call keeps that a box has left
-pub change_keeps : (old new : BoxBook) (lent : Lent) → Changes old new → HasLeft old lent → HasLeft new lent
+pub change_keeps : (old new : BoxBook) (lent : LentTask) → Changes old new → HasLeft old lent → HasLeft new lent
 change_keeps old new lent (Posting work key p) left =
     left_put old new key _ p.posts.puts (omega (arith, p.posts.posted)) lent left
     (λ same some. let e : old.held.posted ≡ lent.number = cc in omega (arith, left.number, e))
@@ -59,19 +59,19 @@ change_keeps old new lent (Stocking same) left = record {
 }
 
 -- so do any number of calls
-pub run_keeps : (calls : ℕ) (old new : BoxBook) (lent : Lent) → Runs calls old new → HasLeft old lent → HasLeft new lent
+pub run_keeps : (calls : ℕ) (old new : BoxBook) (lent : LentTask) → Runs calls old new → HasLeft old lent → HasLeft new lent
 run_keeps zero old new lent same left = subst (λ book. HasLeft book lent) (sym same) left
 run_keeps (suc calls) old new lent run left = run_keeps calls run.0 new lent run.2 (change_keeps old run.0 lent run.1 left)
 
 -- what is out has a number below the count of posts
-out_below : (old : BoxBook) (lent : Lent) → AreOlder old.held → IsOut old lent → lent.number < old.held.posted
+out_below : (old : BoxBook) (lent : LentTask) → AreOlder old.held → IsOut old lent → lent.number < old.held.posted
 out_below old lent older out = subst (IsBelow old.held.posted) out (older lent.key)
 
 -- a user is that user
 same_user : (user : ℕ) → nat_eq user user ≡ true
 same_user user = grind arith
 
-pub withdrawn_left : (old new : BoxBook) (lent : Lent) → AreOlder old.held → IsOut old lent → WithdrawsBox (user_of lent.work) old new
+pub withdrawn_left : (old new : BoxBook) (lent : LentTask) → AreOlder old.held → IsOut old lent → WithdrawsBox (user_of lent.work) old new
     → HasLeft new lent
 withdrawn_left old new lent older out w = record {
   number = omega (arith, out_below old lent older out, w.withdraws.posted);
@@ -80,11 +80,11 @@ withdrawn_left old new lent older out w = record {
       ∙ ap (λ passes. number_at (cond passes None (Some (Out (slip_of lent))))) (same_user (user_of lent.work)));
 }
 
-pub given_left : (old new : BoxBook) (lent : Lent) → AreOlder old.held → GivesBox old new lent → HasLeft new lent
+pub given_left : (old new : BoxBook) (lent : LentTask) → AreOlder old.held → GivesBox old new lent → HasLeft new lent
 given_left old new lent older g = record {
   number = omega (arith, out_below old lent older g.gives.was, g.gives.posted);
   gone = none_there _ lent.number (ap number_at g.gives.puts.changed);
 }
 
-pub left_refused : (book : BoxBook) (lent : Lent) → HasLeft book lent → ¬ IsOut book lent
+pub left_refused : (book : BoxBook) (lent : LentTask) → HasLeft book lent → ¬ IsOut book lent
 left_refused book lent left out = left.gone (ap number_at out)

@@ -2,17 +2,17 @@
 use Rattle.std.specs.Prelude.{◌≡◌, ◌≢◌, ℕ, ◌+◌, ◌-◌, ◌^◌, ◌≤◌, ◌<◌, Bool, true, false, List, Option, Some, None, is_some, count_by, cond, nat_eq, slice_index_or, length}
 use Rattle.slab.specs.Slab.{Slab, get, slab_len}
 use Rattle.lj_tile.specs.Task.{Task}
-use Rattle.lj_book.specs.declared.marks.Mark.{Mark}
-use Rattle.lj_book.specs.declared.marks.Mark.TheVariants.{Vacant, ToTake, Taken, ToFetch}
-use Rattle.lj_book.specs.declared.entries.TheConstants.{MAX_ENTRIES}
-use Rattle.lj_book.specs.Marks.{mark_at}
-pub use Rattle.lj_book.specs.declared.entries.Entry.{Entry}
-pub use Rattle.lj_book.specs.declared.entries.Entry.TheVariants.{Open, Out, Done}
+use Rattle.lj_book.specs.declared.key_states.KeyState.{KeyState}
+use Rattle.lj_book.specs.declared.key_states.KeyState.TheVariants.{Vacant, ToTake, Taken, ToFetch}
+use Rattle.lj_book.specs.declared.book_entry.TheConstants.{MAX_ENTRIES}
+use Rattle.lj_book.specs.KeyStates.{key_state_at}
+pub use Rattle.lj_book.specs.declared.book_entry.BookEntry.{BookEntry}
+pub use Rattle.lj_book.specs.declared.book_entry.BookEntry.TheVariants.{Open, Out, Done}
 
 -- the entry or None under each key from 0 on, and how many tasks were ever posted, results given, results fetched, and
 -- entries withdrawn. P is the type of open entries, and K that of what is stored while one is out.
 pub record BookOf (P K : Type 0) : Type 0 where
-  pub slots : List (Option (Entry P K))
+  pub slots : List (Option (BookEntry P K))
   pub posted : ℕ
   pub given : ℕ
   pub fetched : ℕ
@@ -28,7 +28,7 @@ user_of work = work.name.label.user
 
 module _ {P K : Type 0} where
   -- the entry under a key
-  abbrev pub entry_at : BookOf P K → ℕ → Option (Entry P K)
+  abbrev pub entry_at : BookOf P K → ℕ → Option (BookEntry P K)
   entry_at held key = slice_index_or held.slots key None
 
   -- the number of entries
@@ -39,15 +39,15 @@ module _ {P K : Type 0} where
   abbrev pub HasRoom : BookOf P K → Type 0
   HasRoom held = (entry_count held < MAX_ENTRIES) × (held.posted < 2 ^ 64 - 1)
 
-  -- the mark of the entry under a key
-  abbrev pub mark_of : Option (Entry P K) → Mark
-  mark_of None = Vacant
-  mark_of (Some (Open opened)) = ToTake
-  mark_of (Some (Out kept)) = Taken
-  mark_of (Some (Done work)) = ToFetch work.name.label.user
+  -- the state of the entry under a key
+  abbrev pub key_state_of : Option (BookEntry P K) → KeyState
+  key_state_of None = Vacant
+  key_state_of (Some (Open opened)) = ToTake
+  key_state_of (Some (Out kept)) = Taken
+  key_state_of (Some (Done work)) = ToFetch work.name.label.user
 
   -- what is stored for an entry that is out
-  abbrev pub kept_at : Option (Entry P K) → Option K
+  abbrev pub kept_at : Option (BookEntry P K) → Option K
   kept_at None = None
   kept_at (Some (Open opened)) = None
   kept_at (Some (Out kept)) = Some kept
@@ -55,14 +55,14 @@ module _ {P K : Type 0} where
 
   -- the entry under the key is open
   abbrev pub IsOpenAt : BookOf P K → ℕ → Type 0
-  IsOpenAt held key = mark_of (entry_at held key) ≡ ToTake
+  IsOpenAt held key = key_state_of (entry_at held key) ≡ ToTake
 
   -- the entry under the key is a result of this user
   abbrev pub IsDoneAt : ℕ → BookOf P K → ℕ → Type 0
-  IsDoneAt user held key = mark_of (entry_at held key) ≡ ToFetch user
+  IsDoneAt user held key = key_state_of (entry_at held key) ≡ ToFetch user
 
   -- this is the entry under the key, and every other key has its old one
-  pub record Puts (old new : BookOf P K) (key : ℕ) (slot : Option (Entry P K)) : Type 0 where
+  pub record Puts (old new : BookOf P K) (key : ℕ) (slot : Option (BookEntry P K)) : Type 0 where
     pub changed : entry_at new key ≡ slot
     pub others : (k : ℕ) → k ≢ key → entry_at new k ≡ entry_at old k
 
@@ -113,32 +113,32 @@ module _ {P K : Type 0} where
     pub withdrawn : new.withdrawn ≡ old.withdrawn
 
   -- the entry is a task without its result
-  abbrev pub is_waiting : Option (Entry P K) → Bool
+  abbrev pub is_waiting : Option (BookEntry P K) → Bool
   is_waiting None = false
   is_waiting (Some (Open opened)) = true
   is_waiting (Some (Out kept)) = true
   is_waiting (Some (Done work)) = false
 
   -- how many tasks have no result yet
-  abbrev pub waiting_count : List (Option (Entry P K)) → ℕ
+  abbrev pub waiting_count : List (Option (BookEntry P K)) → ℕ
   waiting_count slots = count_by is_waiting slots
 
   -- 1 for a task without its result, else 0
-  abbrev pub weight : Option (Entry P K) → ℕ
+  abbrev pub weight : Option (BookEntry P K) → ℕ
   weight slot = cond (is_waiting slot) 1 0
 
   -- the invariant of a book
-  pub record IsBook (slab : Slab (Entry P K)) (marks : List Mark) (posted given fetched withdrawn : ℕ) : Type 0 where
+  pub record IsBook (slab : Slab (BookEntry P K)) (key_states : List KeyState) (posted given fetched withdrawn : ℕ) : Type 0 where
     pub balance : posted ≡ fetched + withdrawn + slab_len slab
     pub given_or_waiting : given + waiting_count slab.slots ≤ posted
     pub most : slab_len slab ≤ MAX_ENTRIES
     pub room : MAX_ENTRIES ≤ slab.capacity
-    pub keys : length marks ≡ slab.capacity
-    pub marked : (k : ℕ) → mark_at marks k ≡ mark_of (get slab k)
+    pub keys : length key_states ≡ slab.capacity
+    pub marked : (k : ℕ) → key_state_at key_states k ≡ key_state_of (get slab k)
 
-  module _ (mine : Option (Entry P K) → Bool) where
+  module _ (mine : Option (BookEntry P K) → Bool) where
     -- the entry, unless it is to be withdrawn
-    abbrev pub slot_left : Option (Entry P K) → Option (Entry P K)
+    abbrev pub slot_left : Option (BookEntry P K) → Option (BookEntry P K)
     slot_left slot = cond (mine slot) None slot
 
     -- the entry under the key has left the book if it was to be withdrawn, and is counted
@@ -167,13 +167,13 @@ module _ {P K : Type 0} where
       pub fetched : new.fetched ≡ old.fetched
 
   -- the user of an entry, by the user of an open one, and of what is stored
-  abbrev pub whose_by : (P → ℕ) → (K → ℕ) → Entry P K → ℕ
+  abbrev pub whose_by : (P → ℕ) → (K → ℕ) → BookEntry P K → ℕ
   whose_by of_open of_kept (Open opened) = of_open opened
   whose_by of_open of_kept (Out kept) = of_kept kept
   whose_by of_open of_kept (Done work) = user_of work
 
   -- the entry is one of this user
-  abbrev pub is_of_by : (P → ℕ) → (K → ℕ) → ℕ → Option (Entry P K) → Bool
+  abbrev pub is_of_by : (P → ℕ) → (K → ℕ) → ℕ → Option (BookEntry P K) → Bool
   is_of_by of_open of_kept user None = false
   is_of_by of_open of_kept user (Some entry) = nat_eq (whose_by of_open of_kept entry) user
 
@@ -190,7 +190,7 @@ abbrev pub Gives : Book → Book → ℕ → Task → Type 0
 Gives old new key work = Finishes old new key work work
 
 -- the entry is one of this user
-abbrev pub is_of : ℕ → Option (Entry Task Task) → Bool
+abbrev pub is_of : ℕ → Option (BookEntry Task Task) → Bool
 is_of user = is_of_by user_of user_of user
 
 -- every entry of the user has left the book, and these are counted

@@ -3,18 +3,18 @@ use Rattle.std.specs.Prelude.{◌≡◌, ℕ, ◌+◌, ◌≤◌, ◌<◌, Bool,
 use Rattle.std.specs.Global.{Global}
 use Rattle.std.specs.Vec.{vec_capacity}
 use Rattle.lj_tile.specs.Task.{Task}
-use Rattle.lj_book.specs.declared.entries.TheConstants.{MAX_ENTRIES}
-use Rattle.lj_book.specs.Book.{BookOf, Entry, Open, Out, Done, entry_at, entry_count, user_of, is_of_by, Posts, LetsOut, Reopens, Finishes, Fetches, Removes}
+use Rattle.lj_book.specs.declared.book_entry.TheConstants.{MAX_ENTRIES}
+use Rattle.lj_book.specs.Book.{BookOf, BookEntry, Open, Out, Done, entry_at, entry_count, user_of, is_of_by, Posts, LetsOut, Reopens, Finishes, Fetches, Removes}
 
 -- the entry holds a box, by whether an open one does, and what is stored while it is out
-abbrev pub has_box_by : {P K : Type 0} → (P → Bool) → (K → Bool) → Option (Entry P K) → Bool
+abbrev pub has_box_by : {P K : Type 0} → (P → Bool) → (K → Bool) → Option (BookEntry P K) → Bool
 has_box_by in_open in_kept None = false
 has_box_by in_open in_kept (Some (Open opened)) = in_open opened
 has_box_by in_open in_kept (Some (Out kept)) = in_kept kept
 has_box_by in_open in_kept (Some (Done work)) = true
 
 -- how many entries hold a box
-abbrev pub box_count_by : {P K : Type 0} → (P → Bool) → (K → Bool) → List (Option (Entry P K)) → ℕ
+abbrev pub box_count_by : {P K : Type 0} → (P → Bool) → (K → Bool) → List (Option (BookEntry P K)) → ℕ
 box_count_by in_open in_kept slots = count_by (has_box_by in_open in_kept) slots
 
 -- By value each entry holds a box, and of MAX_ENTRIES + 1 boxes one more is always spare, to change an entry. All fit
@@ -35,13 +35,13 @@ pub record Slip : Type 0 where
   pub user : ℕ
 
 -- a task that is out in its box, with its key and the number of its post
-pub record Lent : Type 0 where
+pub record LentTask : Type 0 where
   pub key : ℕ
   pub number : ℕ
   pub work : Task
 
 -- the lent task as an open one
-abbrev pub numbered_of : Lent → Numbered
+abbrev pub numbered_of : LentTask → Numbered
 numbered_of lent = record { number = lent.number; work = lent.work }
 
 -- what is stored for a task while its box is out
@@ -49,7 +49,7 @@ abbrev pub slip_for : Numbered → Slip
 slip_for opened = record { number = opened.number; user = user_of opened.work }
 
 -- what is stored for the lent task
-abbrev pub slip_of : Lent → Slip
+abbrev pub slip_of : LentTask → Slip
 slip_of lent = slip_for (numbered_of lent)
 
 -- entries and counts, how many boxes are spare, and how many were made
@@ -59,11 +59,11 @@ pub record BoxBook : Type 0 where
   pub made : ℕ
 
 -- the entry holds a box, which none does while it is out
-abbrev pub has_box : Option (Entry Numbered Slip) → Bool
+abbrev pub has_box : Option (BookEntry Numbered Slip) → Bool
 has_box = has_box_by (λ opened. true) (λ kept. false)
 
 -- how many entries hold a box: all but those that are out
-abbrev pub box_count : List (Option (Entry Numbered Slip)) → ℕ
+abbrev pub box_count : List (Option (BookEntry Numbered Slip)) → ℕ
 box_count = box_count_by (λ opened. true) (λ kept. false)
 
 -- how many boxes the book accounts for: the spare ones, and one for each entry, in it or out with its task; the others
@@ -76,11 +76,11 @@ abbrev pub boxes_inside : BoxBook → ℕ
 boxes_inside book = book.spare + box_count book.held.slots
 
 -- the lent task is out under its key, with the number of its post
-abbrev pub IsOut : BoxBook → Lent → Type 0
+abbrev pub IsOut : BoxBook → LentTask → Type 0
 IsOut book lent = entry_at book.held lent.key ≡ Some (Out (slip_of lent))
 
 -- the number of the entry, if it has one, is below this one
-abbrev pub IsBelow : ℕ → Option (Entry Numbered Slip) → Type 0
+abbrev pub IsBelow : ℕ → Option (BookEntry Numbered Slip) → Type 0
 IsBelow posted None = Unit {0}
 IsBelow posted (Some (Open opened)) = opened.number < posted
 IsBelow posted (Some (Out kept)) = kept.number < posted
@@ -97,7 +97,7 @@ pub record IsBoxBook (held : BookOf Numbered Slip) (spare : Vec Task Global) (ma
   pub older : AreOlder held
 
 -- the entry is one of this user
-abbrev pub is_slot_of : ℕ → Option (Entry Numbered Slip) → Bool
+abbrev pub is_slot_of : ℕ → Option (BookEntry Numbered Slip) → Bool
 is_slot_of = is_of_by (λ opened. user_of opened.work) (λ kept. kept.user)
 
 -- a book without entries, whose boxes are all spare
@@ -116,21 +116,21 @@ pub record PostsBox (old new : BoxBook) (work : Task) (key : ℕ) : Type 0 where
   pub boxes : boxes new ≡ boxes old + 1
 
 -- the task that stood open is out, and its box with it
-pub record TakesBox (old new : BoxBook) (lent : Lent) : Type 0 where
+pub record TakesBox (old new : BoxBook) (lent : LentTask) : Type 0 where
   pub takes : LetsOut old.held new.held lent.key (numbered_of lent) (slip_of lent)
   pub spare : new.spare ≡ old.spare
   pub made : new.made ≡ old.made
   pub boxes : boxes new ≡ boxes old
 
 -- the task that was out is open again, in its box
-pub record HandsBackBox (old new : BoxBook) (lent : Lent) : Type 0 where
+pub record HandsBackBox (old new : BoxBook) (lent : LentTask) : Type 0 where
   pub hands_back : Reopens old.held new.held lent.key (slip_of lent) (numbered_of lent)
   pub spare : new.spare ≡ old.spare
   pub made : new.made ≡ old.made
   pub boxes : boxes new ≡ boxes old
 
 -- the task that was out has its result, in its box
-pub record GivesBox (old new : BoxBook) (lent : Lent) : Type 0 where
+pub record GivesBox (old new : BoxBook) (lent : LentTask) : Type 0 where
   pub gives : Finishes old.held new.held lent.key (slip_of lent) lent.work
   pub spare : new.spare ≡ old.spare
   pub made : new.made ≡ old.made

@@ -1,5 +1,5 @@
 pub mod Picks
-pub mod Marks
+pub mod KeyStates
 pub mod Book
 pub mod Boxes
 pub mod Refused

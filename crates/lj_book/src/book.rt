@@ -3,11 +3,11 @@ ghost use Rattle.std.specs.Prelude.{◌≡◌, true, false, ◌≤◌, ◌<◌, 
 ghost use Rattle.lj_book.specs.Picks.{IsPick};
 ghost use Rattle.lj_book.specs.Book.{entry_at, entry_count, IsOpenAt, IsDoneAt, Posts, Takes, Gives, HandsBack, Fetches, Withdraws};
 
+use crate::book_entry::{BookEntry, MAX_ENTRIES};
 use crate::book_faults::{Full, NoRoom, NotOut};
 use crate::book_of::BookOf;
-use crate::boxes::{TaskBox, boxes, spare_box};
 use crate::counts::Counts;
-use crate::entries::{Entry, MAX_ENTRIES};
+use crate::task_box::{TaskBox, boxes, spare_box};
 use lj_tile::{Done, Task};
 use std::alloc::{AllocError, Global};
 use std::marker::Model;
@@ -18,7 +18,7 @@ pub type Key = usize;
 /// The book of tasks. A task is posted, and is open; a worker takes it, and it is out; the worker gives its result, and
 /// the user fetches that. Only `new` takes memory.
 ///
-/// Tasks and results are large, so they pass by reference, to a box of the book or to `room`; `post`, `take`, `give`
+/// Tasks and results are large, so they pass by reference, to a box of the book or to `out`; `post`, `take`, `give`
 /// and `fetch` copy them.
 #[derive(Drop)]
 pub struct Book {
@@ -88,19 +88,19 @@ impl Book {
         }
     }
 
-    /// Takes the open task of the least key from `pick` on, else of the least key, copies it to `room`, and returns its
-    /// key. The task is then out. If no task is open, `room` is unchanged.
-    pub fn take_into(&mut self, pick: usize, room: &mut Task) -> Option<Key>
-        ensures some { IfSome result (λ key. Takes self.old self.new key room.new) }
+    /// Takes the open task of the least key from `pick` on, else of the least key, copies it to `out`, and returns its
+    /// key. The task is then out. If no task is open, `out` is unchanged.
+    pub fn take_into(&mut self, pick: usize, out: &mut Task) -> Option<Key>
+        ensures some { IfSome result (λ key. Takes self.old self.new key out.new) }
         ensures picked { IfSome result (λ key. IsPick (IsOpenAt self.old) pick key) }
         ensures none { IfNone result ((k : ℕ) → ¬ IsOpenAt self.old k) }
         ensures unchanged { IfNone result (self.new ≡ self.old) }
-        ensures same_room { IfNone result (room.new ≡ room.old) }
+        ensures same_out { IfNone result (out.new ≡ out.old) }
     {
         let key = self.held.find_open(pick)?;
-        room.copy_from(self.held.open_at(key).task());
+        out.copy_from(self.held.open_at(key).task());
         let mut kept = spare_box(&mut self.spare);
-        kept.copy_from(room);
+        kept.copy_from(out);
         let opened = self.held.let_out(key, kept);
         self.spare.push_reserved(opened);
         Some(key)
@@ -116,9 +116,9 @@ impl Book {
         ensures none { IfNone result ((k : ℕ) → ¬ IsOpenAt self.old k) }
         ensures unchanged { IfNone result (self.new ≡ self.old) }
     {
-        let mut room = Task::blank();
-        let key = self.take_into(pick, &mut room)?;
-        Some((key, room))
+        let mut out = Task::blank();
+        let key = self.take_into(pick, &mut out)?;
+        Some((key, out))
     }
 
     /// Gives a copy of the result of the task that is out under a key. Its user can then fetch it.
@@ -126,7 +126,7 @@ impl Book {
     /// # Errors
     /// `NotOut` if that very task is not out under that key. Nothing has changed then.
     pub fn give_from(&mut self, key: Key, done: &Done) -> Result<(), NotOut>
-        ensures given { IsOk result ↔ (entry_at self.old key ≡ Some (Entry.Out done.now)) }
+        ensures given { IsOk result ↔ (entry_at self.old key ≡ Some (BookEntry.Out done.now)) }
         ensures gives { OnOk result (Gives self.old self.new key done.now) }
         ensures unchanged { OnErr result (self.new ≡ self.old) }
     {
@@ -147,7 +147,7 @@ impl Book {
     /// Promise: a result is accepted exactly where that very task is out under that key; else it is handed back, and
     /// nothing has changed.
     pub fn give(&mut self, key: Key, done: Done) -> Result<(), Done>
-        ensures given { IsOk result ↔ (entry_at self.old key ≡ Some (Entry.Out done)) }
+        ensures given { IsOk result ↔ (entry_at self.old key ≡ Some (BookEntry.Out done)) }
         ensures gives { OnOk result (Gives self.old self.new key done) }
         ensures handed_back { IfErr result (λ refused. refused ≡ done) }
         ensures unchanged { OnErr result (self.new ≡ self.old) }
@@ -163,7 +163,7 @@ impl Book {
     /// # Errors
     /// `NotOut` if that very task is not out under that key. Nothing has changed then.
     pub fn hand_back(&mut self, key: Key, task: &Task) -> Result<(), NotOut>
-        ensures was_out { IsOk result ↔ (entry_at self.old key ≡ Some (Entry.Out task.now)) }
+        ensures was_out { IsOk result ↔ (entry_at self.old key ≡ Some (BookEntry.Out task.now)) }
         ensures hands_back { OnOk result (HandsBack self.old self.new key task.now) }
         ensures unchanged { OnErr result (self.new ≡ self.old) }
     {
@@ -177,19 +177,19 @@ impl Book {
         Ok(())
     }
 
-    /// Fetches the user's result of the least key from `pick` on, else of the least key: copies it to `room`, and
-    /// removes its entry. Returns false if there is none; `room` is unchanged then.
-    pub fn fetch_into(&mut self, user: u8, pick: usize, room: &mut Done) -> bool
-        ensures some { result ≡ true → (key : ℕ) × Fetches self.old self.new room.new key
+    /// Fetches the user's result of the least key from `pick` on, else of the least key: copies it to `out`, and
+    /// removes its entry. Returns false if there is none; `out` is unchanged then.
+    pub fn fetch_into(&mut self, user: u8, pick: usize, out: &mut Done) -> bool
+        ensures some { result ≡ true → (key : ℕ) × Fetches self.old self.new out.new key
             × IsPick (IsDoneAt user self.old) pick key }
         ensures none { result ≡ false → (k : ℕ) → ¬ IsDoneAt user self.old k }
         ensures unchanged { result ≡ false → self.new ≡ self.old }
-        ensures same_room { result ≡ false → room.new ≡ room.old }
+        ensures same_out { result ≡ false → out.new ≡ out.old }
     {
         let Some(done) = self.held.fetch(user, pick) else {
             return false;
         };
-        room.copy_from(&done.done());
+        out.copy_from(&done.done());
         self.spare.push_reserved(done.into_task());
         true
     }
@@ -204,11 +204,11 @@ impl Book {
         ensures none { IfNone result ((k : ℕ) → ¬ IsDoneAt user self.old k) }
         ensures unchanged { IfNone result (self.new ≡ self.old) }
     {
-        let mut room = Done::blank();
-        if !self.fetch_into(user, pick, &mut room) {
+        let mut out = Done::blank();
+        if !self.fetch_into(user, pick, &mut out) {
             return None;
         }
-        Some(room)
+        Some(out)
     }
 
     /// Removes every entry of the user, also those of tasks that are out.
@@ -223,7 +223,7 @@ impl Book {
 
     /// Returns whether this very task is out under the key.
     fn is_out(&self, key: Key, task: &Task) -> bool
-        ensures { IsTrue result ↔ (entry_at self.now key ≡ Some (Entry.Out task.now)) }
+        ensures { IsTrue result ↔ (entry_at self.now key ≡ Some (BookEntry.Out task.now)) }
     {
         match self.held.kept_at(key) {
             Some(kept) => kept.task().is(task),

@@ -2,24 +2,24 @@
 ghost use Rattle.std.specs.Prelude.{◌≡◌, true, false, ◌≤◌, ◌<◌, ◌+◌, ◌-◌, ◌^◌, ◌↔◌, ℕ, List, [], Some, None, length, vec_len, IfOk, IfSome, IfNone, IsSome, IsTrue};
 ghost use Rattle.std.specs.Option.{option_copied};
 ghost use Rattle.std.specs.Vec.{vec_capacity};
-ghost use Rattle.lj_book.specs.declared.marks.Mark.TheVariants.{Taken};
+ghost use Rattle.lj_book.specs.declared.key_states.KeyState.TheVariants.{Taken};
 ghost use Rattle.lj_book.specs.Picks.{IsPick};
-ghost use Rattle.lj_book.specs.Book.{entry_at, entry_count, mark_of, kept_at, HasRoom, IsOpenAt, IsDoneAt, Posts, LetsOut, Reopens, Finishes, Fetches, Puts, Removes, RemovesAt, is_of_by};
+ghost use Rattle.lj_book.specs.Book.{entry_at, entry_count, key_state_of, kept_at, HasRoom, IsOpenAt, IsDoneAt, Posts, LetsOut, Reopens, Finishes, Fetches, Puts, Removes, RemovesAt, is_of_by};
 ghost use Rattle.lj_book.specs.Boxes.{box_count_by};
 
-use crate::boxes::{DoneBox, TaskBox};
+use crate::book_entry::{BookEntry, Keeps, MAX_ENTRIES, put_for};
 use crate::counts::Counts;
-use crate::entries::{Entry, Keeps, MAX_ENTRIES, put_for};
-use crate::marks::{Mark, Marks};
+use crate::key_states::{KeyState, KeyStates};
+use crate::task_box::{DoneBox, TaskBox};
 use slab::Slab;
 use std::alloc::{AllocError, Global};
 use std::marker::Model;
 
-/// Entries, a mark for each key, and counts. Only `new` takes memory.
+/// Entries, a state for each key, and counts. Only `new` takes memory.
 #[derive(Drop)]
 pub(crate) struct BookOf<P, K> {
-    entries: Slab<Entry<P, K>>,
-    marks: Marks,
+    entries: Slab<BookEntry<P, K>>,
+    key_states: KeyStates,
     posted: u64,
     given: u64,
     fetched: u64,
@@ -39,7 +39,7 @@ impl<P, K> Model for BookOf<P, K> {
       withdrawn = b.withdrawn;
     } };
 
-    ghost invariant = { λ b. IsBook b.entries b.marks b.posted b.given b.fetched b.withdrawn };
+    ghost invariant = { λ b. IsBook b.entries b.key_states b.posted b.given b.fetched b.withdrawn };
 }
 
 impl<P: Drop, K: Drop> BookOf<P, K> {
@@ -49,10 +49,10 @@ impl<P: Drop, K: Drop> BookOf<P, K> {
             book ≡ record { slots = []; posted = 0; given = 0; fetched = 0; withdrawn = 0 }) }
     {
         let entries = Slab::with_capacity(alloc, MAX_ENTRIES)?;
-        let marks = Marks::new(alloc, entries.capacity())?;
+        let key_states = KeyStates::new(alloc, entries.capacity())?;
         Ok(BookOf {
             entries,
-            marks,
+            key_states,
             posted: 0,
             given: 0,
             fetched: 0,
@@ -86,8 +86,8 @@ impl<P: Drop, K: Drop> BookOf<P, K> {
         requires { HasRoom self.old }
         ensures { (key : ℕ) × Posts self.old self.new opened key }
     {
-        let key = self.entries.insert_reserved(Entry::Open(opened));
-        self.marks.set(key, Mark::ToTake);
+        let key = self.entries.insert_reserved(BookEntry::Open(opened));
+        self.key_states.set(key, KeyState::ToTake);
         self.posted += 1;
     }
 
@@ -96,16 +96,16 @@ impl<P: Drop, K: Drop> BookOf<P, K> {
         ensures some { IfSome result (λ key. IsPick (IsOpenAt self.now) pick key) }
         ensures none { IfNone result ((k : ℕ) → ¬ IsOpenAt self.now k) }
     {
-        self.marks.find(Mark::ToTake, pick)
+        self.key_states.find(KeyState::ToTake, pick)
     }
 
     /// Returns the open entry under a key.
     pub(crate) fn open_at(&self, key: usize) -> &P
         requires { IsOpenAt self.now key }
-        ensures { entry_at self.now key ≡ Some (Entry.Open result.now) }
+        ensures { entry_at self.now key ≡ Some (BookEntry.Open result.now) }
     {
         match self.entries.get(key) {
-            Some(Entry::Open(opened)) => opened,
+            Some(BookEntry::Open(opened)) => opened,
             _ => unreachable!(),
         }
     }
@@ -115,7 +115,7 @@ impl<P: Drop, K: Drop> BookOf<P, K> {
         ensures { option_copied result ≡ kept_at (entry_at self.now key) }
     {
         match self.entries.get(key) {
-            Some(Entry::Out(kept)) => Some(kept),
+            Some(BookEntry::Out(kept)) => Some(kept),
             _ => None,
         }
     }
@@ -125,38 +125,38 @@ impl<P: Drop, K: Drop> BookOf<P, K> {
         requires { IsOpenAt self.old key }
         ensures { LetsOut self.old self.new key result kept }
     {
-        let was = put_for(&mut self.entries, key, Entry::Out(kept));
-        self.marks.set(key, Mark::Taken);
+        let was = put_for(&mut self.entries, key, BookEntry::Out(kept));
+        self.key_states.set(key, KeyState::Taken);
         match was {
-            Entry::Open(opened) => opened,
+            BookEntry::Open(opened) => opened,
             _ => unreachable!(),
         }
     }
 
     /// Opens an entry again that is out, and returns what was stored in its place.
     pub(crate) fn reopen(&mut self, key: usize, opened: P) -> K
-        requires { mark_of (entry_at self.old key) ≡ Taken }
+        requires { key_state_of (entry_at self.old key) ≡ Taken }
         ensures { Reopens self.old self.new key result opened }
     {
-        let was = put_for(&mut self.entries, key, Entry::Open(opened));
-        self.marks.set(key, Mark::ToTake);
+        let was = put_for(&mut self.entries, key, BookEntry::Open(opened));
+        self.key_states.set(key, KeyState::ToTake);
         match was {
-            Entry::Out(kept) => kept,
+            BookEntry::Out(kept) => kept,
             _ => unreachable!(),
         }
     }
 
     /// Stores the result of an entry that is out, and returns what was stored in its place.
     pub(crate) fn finish(&mut self, key: usize, done: DoneBox) -> K
-        requires { mark_of (entry_at self.old key) ≡ Taken }
+        requires { key_state_of (entry_at self.old key) ≡ Taken }
         ensures { Finishes self.old self.new key result done }
     {
         let user = done.done().task().name().label.user;
-        let was = put_for(&mut self.entries, key, Entry::Done(done));
-        self.marks.set(key, Mark::ToFetch(user));
+        let was = put_for(&mut self.entries, key, BookEntry::Done(done));
+        self.key_states.set(key, KeyState::ToFetch(user));
         self.given += 1;
         match was {
-            Entry::Out(kept) => kept,
+            BookEntry::Out(kept) => kept,
             _ => unreachable!(),
         }
     }
@@ -168,12 +168,12 @@ impl<P: Drop, K: Drop> BookOf<P, K> {
         ensures none { IfNone result ((k : ℕ) → ¬ IsDoneAt user self.old k) }
         ensures unchanged { IfNone result (self.new ≡ self.old) }
     {
-        let key = self.marks.find(Mark::ToFetch(user), pick)?;
+        let key = self.key_states.find(KeyState::ToFetch(user), pick)?;
         let was = self.entries.remove(key);
-        self.marks.set(key, Mark::Vacant);
+        self.key_states.set(key, KeyState::Vacant);
         self.fetched += 1;
         match was {
-            Entry::Done(done) => Some(done),
+            BookEntry::Done(done) => Some(done),
             _ => unreachable!(),
         }
     }
@@ -243,7 +243,7 @@ impl<P: Keeps, K: Keeps> BookOf<P, K> {
     }
 
     /// Removes the entry under the key, and counts it as withdrawn.
-    fn remove(&mut self, key: usize) -> Entry<P, K>
+    fn remove(&mut self, key: usize) -> BookEntry<P, K>
         requires { IsSome (entry_at self.old key) }
         ensures was { entry_at self.old key ≡ Some result }
         ensures puts { Puts self.old self.new key None }
@@ -253,7 +253,7 @@ impl<P: Keeps, K: Keeps> BookOf<P, K> {
         ensures fetched { self.new.fetched ≡ self.old.fetched }
     {
         let removed = self.entries.remove(key);
-        self.marks.set(key, Mark::Vacant);
+        self.key_states.set(key, KeyState::Vacant);
         self.withdrawn += 1;
         removed
     }

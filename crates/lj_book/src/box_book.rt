@@ -4,11 +4,11 @@ ghost use Rattle.lj_book.specs.Picks.{IsPick};
 ghost use Rattle.lj_book.specs.Book.{entry_at, entry_count, HasRoom, IsOpenAt, IsDoneAt};
 ghost use Rattle.lj_book.specs.Boxes.{AreOlder, FetchesBox, GivesBox, HandsBackBox, IsOut, PostsBox, TakesBox, WithdrawsBox, boxes as boxes_of, empty_box_book};
 
+use crate::book_entry::BookEntry;
 use crate::book_of::BookOf;
-use crate::boxes::{DoneBox, TaskBox, boxes};
 use crate::counts::Counts;
-use crate::entries::Entry;
-use crate::lent::{Lent, LentDone, Numbered, Slip};
+use crate::lent_task::{LentDone, LentTask, Numbered, Slip};
+use crate::task_box::{DoneBox, TaskBox, boxes};
 use std::alloc::{AllocError, Global};
 use std::marker::Model;
 
@@ -105,7 +105,7 @@ impl BoxBook {
     ///
     /// Promise: the open task of the least key from `pick` on, else of the least key, is out then, and its box is handed
     /// out; none exactly where none is open.
-    pub fn take_box(&mut self, pick: usize) -> Option<Lent>
+    pub fn take_box(&mut self, pick: usize) -> Option<LentTask>
         ensures some { IfSome result (λ lent. TakesBox self.old self.new lent) }
         ensures picked { IfSome result (λ lent. IsPick (IsOpenAt self.old.held) pick lent.key) }
         ensures none { IfNone result ((k : ℕ) → ¬ IsOpenAt self.old.held k) }
@@ -114,7 +114,7 @@ impl BoxBook {
         let key = self.held.find_open(pick)?;
         let slip = self.held.open_at(key).slip();
         let Numbered { number, task, .. } = self.held.let_out(key, slip);
-        Some(Lent { key, number, task })
+        Some(LentTask { key, number, task })
     }
 
     /// Gives the result of a task that is out. Its user can then fetch it.
@@ -143,13 +143,13 @@ impl BoxBook {
     ///
     /// # Errors
     /// The box, if no task is out under that key with that number. Nothing has changed then.
-    pub fn hand_back_box(&mut self, lent: Lent) -> Result<(), TaskBox>
+    pub fn hand_back_box(&mut self, lent: LentTask) -> Result<(), TaskBox>
         ensures was_out { IsOk result ↔ IsOut self.old lent }
         ensures hands_back { OnOk result (HandsBackBox self.old self.new lent) }
         ensures handed_back { IfErr result (λ refused. refused ≡ lent.work) }
         ensures unchanged { OnErr result (self.new ≡ self.old) }
     {
-        let Lent { key, number, task } = lent;
+        let LentTask { key, number, task } = lent;
         let user = task.task().name().label.user;
         if !self.is_out(key, number, user) {
             return Err(task);
@@ -197,7 +197,7 @@ impl BoxBook {
 
     /// Returns whether a task of this user is out under the key with this number.
     fn is_out(&self, key: usize, number: u64, user: u8) -> bool
-        ensures { IsTrue result ↔ (entry_at self.now.held key ≡ Some (Entry.Out (record { number = number; user = user }))) }
+        ensures { IsTrue result ↔ (entry_at self.now.held key ≡ Some (BookEntry.Out (record { number = number; user = user }))) }
     {
         match self.held.kept_at(key) {
             Some(kept) => kept.number == number && kept.user == user,

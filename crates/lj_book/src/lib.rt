@@ -2,20 +2,20 @@
 #![tactic(auto)]
 
 mod book;
+mod book_entry;
 mod book_faults;
 mod book_of;
 mod box_book;
-mod boxes;
+pub mod box_laws;
 mod counts;
-mod entries;
-pub mod laws;
-mod lent;
-mod marks;
+mod key_states;
+mod lent_task;
+mod task_box;
 
 pub use book::{Book, Key};
+pub use book_entry::MAX_ENTRIES;
 pub use book_faults::{Full, NoRoom, NotOut};
 pub use box_book::BoxBook;
-pub use boxes::{DoneBox, TaskBox};
 pub use counts::Counts;
-pub use entries::MAX_ENTRIES;
-pub use lent::{Lent, LentDone};
+pub use lent_task::{LentDone, LentTask};
+pub use task_box::{DoneBox, TaskBox};

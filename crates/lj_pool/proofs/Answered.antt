@@ -21,8 +21,8 @@ use Rattle.lj_session.specs.Users.{User}
 use Rattle.lj_session.specs.Answers.{session_named, can_advance, command_result}
 use Rattle.lj_session.specs.Turns.{turns, waits_for, advance_turns}
 use Rattle.lj_session.specs.Begins.{OnRefusal}
-use Rattle.lj_session.specs.UserState.{HeldSession, UserState, IsAtWork, IsIdleIn, StepsAfter, StepsFollow, OthersKept}
-use Rattle.lj_session.specs.UserState.{OtherSessionsKept, session_meant, held_session, owed_in, names, with_session_changed, with_more_owed, with_start, steps_before, turns_before}
+use Rattle.lj_session.specs.UserState.{LiveSession, UserState, IsAtWork, IsIdleIn, StepsAfter, StepsFollow, OthersKept}
+use Rattle.lj_session.specs.UserState.{OtherSessionsKept, settled_session, live_session, owed_in, names, with_session_changed, with_more_owed, with_start, steps_before, turns_before}
 use Rattle.lj_session.specs.UserState.{is_whole_in, is_measured, kind_owed}
 use Rattle.lj_session.specs.Owner.{Owner, IsAnswered, user_in, label_of, is_waited_for, IsLastTurn}
 use Rattle.lj_session.proofs.AtWork.{at_work-follows, kind-none}
@@ -43,12 +43,12 @@ use Rattle.lj_session.proofs.Waiting.{same_name}
 use Rattle.lj_pool.proofs.Begun.{start-waits, whole-open, whole-left, whole-owes}
 
 -- what is posted, and how many tiles are to come, of one session before and after
-pub record Settles (old new : UserState) (posted : (o : Option HeldSession) → List Task) (name : List ℕ) : Type 0 where
-  pub posted_is : posted (held_session new name) ≡ posted (held_session old name)
-  pub gathered : (held : HeldSession) → held_session new name ≡ Some held → IsGathered held
+pub record Settles (old new : UserState) (posted : (o : Option LiveSession) → List Task) (name : List ℕ) : Type 0 where
+  pub posted_is : posted (live_session new name) ≡ posted (live_session old name)
+  pub gathered : (held : LiveSession) → live_session new name ≡ Some held → IsGathered held
 
 module _ (owner : Owner) (owed : List Task) (t : Gathers owner owed) (next : Owner) (number : next.number ≡ owner.number) where
-  posted_next : (name : List ℕ) (o : Option HeldSession) → tasks_posted_of (label_of next name) o ≡ tasks_posted_of (label_of owner name) o
+  posted_next : (name : List ℕ) (o : Option LiveSession) → tasks_posted_of (label_of next name) o ≡ tasks_posted_of (label_of owner name) o
   posted_next name o = ap (λ n. tasks_posted_of (record { user = n; session = name }) o) number
 
   -- what an owner to whom nothing waits is owed
@@ -59,45 +59,45 @@ module _ (owner : Owner) (owed : List Task) (t : Gathers owner owed) (next : Own
     waits = subst (λ w. IfSome w (IsOpenFor next.state)) (sym idle) tt;
     distinct = distinct;
     gathered = λ name. (settles name).gathered;
-    each = λ name. t.each name ∙ sym (posted_next name (held_session next.state name) ∙ (settles name).posted_is);
+    each = λ name. t.each name ∙ sym (posted_next name (live_session next.state name) ∙ (settles name).posted_is);
   }
 
-  settles_same : (name : List ℕ) → held_session next.state name ≡ held_session owner.state name
+  settles_same : (name : List ℕ) → live_session next.state name ≡ live_session owner.state name
       → Settles owner.state next.state (tasks_posted_of (label_of owner name)) name
   settles_same name same = record {
     posted_is = ap (tasks_posted_of (label_of owner name)) same;
     gathered = λ held found. t.gathered name held (sym same ∙ found);
   }
 
-idle_posted : (owned : UserState) (name : List ℕ) (label : Label) → IsIdleIn owned name → tasks_posted_of label (held_session owned name) ≡ []
-idle_posted owned name label idle = by (held_session owned name) refl
+idle_posted : (state : UserState) (name : List ℕ) (label : Label) → IsIdleIn state name → tasks_posted_of label (live_session state name) ≡ []
+idle_posted state name label idle = by (live_session state name) refl
   where
-    by : (o : Option HeldSession) → held_session owned name ≡ o → tasks_posted_of label (held_session owned name) ≡ []
+    by : (o : Option LiveSession) → live_session state name ≡ o → tasks_posted_of label (live_session state name) ≡ []
     by None e = ap (tasks_posted_of label) e
     by (Some held) e = ap (tasks_posted_of label) e ∙ closed-posted held label (closed-part held.live.part (idle held e).closed)
 
 -- a number of a session, if it is there
-abbrev number_in : (HeldSession → ℕ) → UserState → List ℕ → ℕ
-number_in f owned name = option_map_or f (held_session owned name) 0
+abbrev number_in : (LiveSession → ℕ) → UserState → List ℕ → ℕ
+number_in f state name = option_map_or f (live_session state name) 0
 
 -- none is owed to an idle session
-idle_owed : (owned : UserState) (name : List ℕ) → IsIdleIn owned name → owed_in owned name ≡ 0
-idle_owed owned name idle = by (held_session owned name) refl
+idle_owed : (state : UserState) (name : List ℕ) → IsIdleIn state name → owed_in state name ≡ 0
+idle_owed state name idle = by (live_session state name) refl
   where
-    by : (o : Option HeldSession) → held_session owned name ≡ o → owed_in owned name ≡ 0
-    by None e = ap (λ o. option_map_or (λ (h : HeldSession). h.owed) o 0) e
-    by (Some held) e = ap (λ o. option_map_or (λ (h : HeldSession). h.owed) o 0) e ∙ (idle held e).owed
+    by : (o : Option LiveSession) → live_session state name ≡ o → owed_in state name ≡ 0
+    by None e = ap (λ o. option_map_or (λ (h : LiveSession). h.owed) o 0) e
+    by (Some held) e = ap (λ o. option_map_or (λ (h : LiveSession). h.owed) o 0) e ∙ (idle held e).owed
 
 -- how many steps are owed to a session, if it is there
-abbrev owed_of : Option HeldSession → ℕ
-owed_of o = option_map_or (λ (h : HeldSession). h.owed) o 0
+abbrev owed_of : Option LiveSession → ℕ
+owed_of o = option_map_or (λ (h : LiveSession). h.owed) o 0
 
 -- a START owes its steps to its session
-more_owed : (n : ℕ) (held : HeldSession) → (with_more_owed n held).owed ≡ held.owed + n
+more_owed : (n : ℕ) (held : LiveSession) → (with_more_owed n held).owed ≡ held.owed + n
 more_owed n held = by_test (nat_lt 0 n && nat_le held.owed 0) (λ t. rw t refl) (λ t. rw t refl)
 
-start_owed : (n : ℕ) (held : HeldSession) → (with_start n held).owed ≡ held.owed + advance_turns (Some (session_meant held)) n
-start_owed n held = by_test (can_advance (session_meant held) n) (λ t. rw t (more_owed n held)) (λ t. rw t (omega arith))
+start_owed : (n : ℕ) (held : LiveSession) → (with_start n held).owed ≡ held.owed + advance_turns (Some (settled_session held)) n
+start_owed n held = by_test (can_advance (settled_session held) n) (λ t. rw t (more_owed n held)) (λ t. rw t (omega arith))
 
 started_there_is : (user : User) (name : List ℕ) (n : ℕ)
     → steps_started user (Start name n) name ≡ advance_turns (value_named name user.sessions) n
@@ -125,7 +125,7 @@ module _ (owner : Owner) (owed : List Task) (t : Gathers owner owed) (idle : own
   outcome_of name is = outcome owner.state next.state command reply work answered unchanged_state steps at_once name is
 
   -- each session is that of the command, or another, which is kept
-  of_each : {P : List ℕ → Type 0} → ((name : List ℕ) → held_session next.state name ≡ held_session owner.state name → P name)
+  of_each : {P : List ℕ → Type 0} → ((name : List ℕ) → live_session next.state name ≡ live_session owner.state name → P name)
       → ((name : List ℕ) → session_named command ≡ Some name → P name) → (name : List ℕ) → P name
   of_each {P} other own name = by (session_named command) refl
     where
@@ -136,7 +136,7 @@ module _ (owner : Owner) (owed : List Task) (t : Gathers owner owed) (idle : own
           (λ b. other name (others name (λ same. true≢false (sym ((bytes_eq-Decides session name).1
           (same_name_of session name (sym e ∙ same))) ∙ b))))
 
-  work_of : (name : List ℕ) (held : HeldSession) → held_session owner.state name ≡ Some held → kind_of held.live.part ≡ kind_owed None [] held
+  work_of : (name : List ℕ) (held : LiveSession) → live_session owner.state name ≡ Some held → kind_of held.live.part ≡ kind_owed None [] held
   work_of name held found = work name held found
 
   settles : (name : List ℕ) → Settles owner.state next.state (tasks_posted_of (label_of owner name)) name
@@ -187,8 +187,8 @@ module _ (owner : Owner) (owed : List Task) (t : Gathers owner owed) (idle : own
       omega (arith, fewer, none))
       (λ t. let most = most_is name false t in omega (arith, fewer, most))
 
-  started_within : (name : List ℕ) (n : ℕ) (before : HeldSession) → command ≡ Start name n
-      → held_session owner.state name ≡ Some before → held_session next.state name ≡ Some (with_start n before)
+  started_within : (name : List ℕ) (n : ℕ) (before : LiveSession) → command ≡ Start name n
+      → live_session owner.state name ≡ Some before → live_session next.state name ≡ Some (with_start n before)
       → owed_in next.state name ≤ most_after (user_in owner) (Ordered command) name (owed_in owner.state name)
   started_within name n before start was is =
       let most = most_is name false (ap (λ o. option_map_or (λ session. bytes_eq session name) o false) (start-waits command name n start)) in
@@ -216,15 +216,15 @@ module _ (owner : Owner) (owed : List Task) (t : Gathers owner owed) (idle : own
       by name (inr (inr s)) = started_within name s.n s.before s.start s.was s.is
 
   -- the tiles of each session
-  tiles_below : ((name : List ℕ) (n : ℕ) → command ≡ Start name n → ⊥) → (name : List ℕ) (held : HeldSession)
-      → held_session owner.state name ≡ Some held → tiles_of_session held ≤ number_in tiles_of_session next.state name
-  tiles_below no_start name held found = of_each {P = λ name. (held : HeldSession) → held_session owner.state name ≡ Some held
+  tiles_below : ((name : List ℕ) (n : ℕ) → command ≡ Start name n → ⊥) → (name : List ℕ) (held : LiveSession)
+      → live_session owner.state name ≡ Some held → tiles_of_session held ≤ number_in tiles_of_session next.state name
+  tiles_below no_start name held found = of_each {P = λ name. (held : LiveSession) → live_session owner.state name ≡ Some held
       → tiles_of_session held ≤ number_in tiles_of_session next.state name}
       (λ name same held found. let is = ap (λ o. option_map_or tiles_of_session o 0) (same ∙ found) in omega (arith, is))
       (λ name is. by name (outcome_of name is)) name held found
     where
-      by : (name : List ℕ) → Outcome owner.state next.state command name → (held : HeldSession)
-          → held_session owner.state name ≡ Some held → tiles_of_session held ≤ number_in tiles_of_session next.state name
+      by : (name : List ℕ) → Outcome owner.state next.state command name → (held : LiveSession)
+          → live_session owner.state name ≡ Some held → tiles_of_session held ≤ number_in tiles_of_session next.state name
       by name (inl rests) held found = let none = idle-tiles held (rests.before held found) in omega (arith, none)
       by name (inr (inl s)) held found =
           let same = same-tiles s.before s.after s.same.live s.same.passed s.same.owed in
@@ -233,15 +233,15 @@ module _ (owner : Owner) (owed : List Task) (t : Gathers owner owed) (idle : own
           omega (arith, same, is, was)
       by name (inr (inr s)) held found = absurd (no_start name s.n s.start)
 
-  tiles_within : ((name : List ℕ) (n : ℕ) → command ≡ Start name n → ⊥) → (name : List ℕ) (held : HeldSession)
-      → held_session next.state name ≡ Some held → tiles_of_session held ≤ number_in tiles_of_session owner.state name
-  tiles_within no_start name held found = of_each {P = λ name. (held : HeldSession) → held_session next.state name ≡ Some held
+  tiles_within : ((name : List ℕ) (n : ℕ) → command ≡ Start name n → ⊥) → (name : List ℕ) (held : LiveSession)
+      → live_session next.state name ≡ Some held → tiles_of_session held ≤ number_in tiles_of_session owner.state name
+  tiles_within no_start name held found = of_each {P = λ name. (held : LiveSession) → live_session next.state name ≡ Some held
       → tiles_of_session held ≤ number_in tiles_of_session owner.state name}
       (λ name same held found. let is = ap (λ o. option_map_or tiles_of_session o 0) (sym same ∙ found) in omega (arith, is))
       (λ name is. by name (outcome_of name is)) name held found
     where
-      by : (name : List ℕ) → Outcome owner.state next.state command name → (held : HeldSession)
-          → held_session next.state name ≡ Some held → tiles_of_session held ≤ number_in tiles_of_session owner.state name
+      by : (name : List ℕ) → Outcome owner.state next.state command name → (held : LiveSession)
+          → live_session next.state name ≡ Some held → tiles_of_session held ≤ number_in tiles_of_session owner.state name
       by name (inl rests) held found = let none = idle-tiles held (rests.after held found) in omega (arith, none)
       by name (inr (inl s)) held found =
           let same = same-tiles s.before s.after s.same.live s.same.passed s.same.owed in
@@ -270,90 +270,90 @@ module _ (owner : Owner) (owed : List Task) (t : Gathers owner owed) (idle : own
     abbrev given : UserState
     given = with_session_changed session (with_start n) owner.state
 
-    kept_else : (name : List ℕ) → (session ≡ name → ⊥) → held_session next.state name ≡ held_session owner.state name
+    kept_else : (name : List ℕ) → (session ≡ name → ⊥) → live_session next.state name ≡ live_session owner.state name
     kept_else name apart = others name (λ same. apart (same_name_of session name (sym session_is ∙ same)))
 
-    start_tiles_is : (held : HeldSession) → held_session owner.state session ≡ Some held
-        → command_tiles (user_in owner) (Start session n) ≡ advance_tiles (Some (session_meant held)) n
+    start_tiles_is : (held : LiveSession) → live_session owner.state session ≡ Some held
+        → command_tiles (user_in owner) (Start session n) ≡ advance_tiles (Some (settled_session held)) n
     unfolding command_tiles
     start_tiles_is held found = ap (λ o. advance_tiles o n) (named-held owner.state session held found)
 
-    start_tiles_none : held_session owner.state session ≡ None → command_tiles (user_in owner) (Start session n) ≡ 0
+    start_tiles_none : live_session owner.state session ≡ None → command_tiles (user_in owner) (Start session n) ≡ 0
     unfolding command_tiles
     start_tiles_none absent = ap (λ o. advance_tiles o n) (named-absent owner.state session absent)
 
-    answered_start_at : (before : HeldSession) → held_session owner.state session ≡ Some before
-        → held_session next.state session ≡ Some (with_start n before)
+    answered_start_at : (before : LiveSession) → live_session owner.state session ≡ Some before
+        → live_session next.state session ≡ Some (with_start n before)
         → tiles_to_come next.state ≡ tiles_to_come owner.state + command_tiles (user_in owner) command
     answered_start_at before was is =
         let sum = sum-changed owner.state session (with_start n) tiles_of_session before was in
         let more = started-tiles before n (work_of session before was) in
-        let tiles : command_tiles (user_in owner) command ≡ advance_tiles (Some (session_meant before)) n =
+        let tiles : command_tiles (user_in owner) command ≡ advance_tiles (Some (settled_session before)) n =
         ap (command_tiles (user_in owner)) which ∙ start_tiles_is before was in
         let distinct = subst (IsDistinct bytes_eq) (sym (names-changed owner.state session (with_start n))) t.distinct in
         let below = sum-below tiles_of_session given.sessions next.state.sessions distinct below_each in
         let within = sum-below tiles_of_session next.state.sessions given.sessions distinct_next within_each in
         omega (arith, sum, more, tiles, below, within)
       where
-        lookup_is : (name : List ℕ) → held_session given name ≡ held_session next.state name
+        lookup_is : (name : List ℕ) → live_session given name ≡ live_session next.state name
         lookup_is name = by_test (bytes_eq session name)
             (λ b. let same = (bytes_eq-Decides session name).0 b in
-            subst (λ (m : List ℕ). held_session given m ≡ held_session next.state m) same
+            subst (λ (m : List ℕ). live_session given m ≡ live_session next.state m) same
             (there-changed owner.state session (with_start n) before was ∙ sym is))
             (λ b. let apart : session ≡ name → ⊥ = λ same. true≢false (sym ((bytes_eq-Decides session name).1 same) ∙ b) in
             other-changed owner.state session (with_start n) name apart ∙ sym (kept_else name apart))
 
-        below_each : (name : List ℕ) (held : HeldSession) → held_session given name ≡ Some held
+        below_each : (name : List ℕ) (held : LiveSession) → live_session given name ≡ Some held
             → tiles_of_session held ≤ number_in tiles_of_session next.state name
         below_each name held found =
             let is = ap (λ o. option_map_or tiles_of_session o 0) (sym (lookup_is name) ∙ found) in omega (arith, is)
 
-        within_each : (name : List ℕ) (held : HeldSession) → held_session next.state name ≡ Some held
+        within_each : (name : List ℕ) (held : LiveSession) → live_session next.state name ≡ Some held
             → tiles_of_session held ≤ number_in tiles_of_session given name
         within_each name held found =
             let is = ap (λ o. option_map_or tiles_of_session o 0) (lookup_is name ∙ found) in omega (arith, is)
 
     -- a session that was not there has no tiles to come
-    absent_within : held_session owner.state session ≡ None → (name : List ℕ) (held : HeldSession)
-        → held_session next.state name ≡ Some held → tiles_of_session held ≤ number_in tiles_of_session owner.state name
-    absent_within w name held found = of_each {P = λ name. (held : HeldSession) → held_session next.state name ≡ Some held
+    absent_within : live_session owner.state session ≡ None → (name : List ℕ) (held : LiveSession)
+        → live_session next.state name ≡ Some held → tiles_of_session held ≤ number_in tiles_of_session owner.state name
+    absent_within w name held found = of_each {P = λ name. (held : LiveSession) → live_session next.state name ≡ Some held
         → tiles_of_session held ≤ number_in tiles_of_session owner.state name}
         (λ name same held found. let is = ap (λ o. option_map_or tiles_of_session o 0) (sym same ∙ found) in omega (arith, is))
         (λ name is. by name (same_name_of session name (sym session_is ∙ is)) (outcome_of name is)) name held found
       where
-        absent : (name : List ℕ) → session ≡ name → (held : HeldSession) → held_session owner.state name ≡ Some held → ⊥
-        absent name same held there = none-some held (sym w ∙ ap (held_session owner.state) same ∙ there)
+        absent : (name : List ℕ) → session ≡ name → (held : LiveSession) → live_session owner.state name ≡ Some held → ⊥
+        absent name same held there = none-some held (sym w ∙ ap (live_session owner.state) same ∙ there)
 
-        by : (name : List ℕ) → session ≡ name → Outcome owner.state next.state command name → (held : HeldSession)
-            → held_session next.state name ≡ Some held → tiles_of_session held ≤ number_in tiles_of_session owner.state name
+        by : (name : List ℕ) → session ≡ name → Outcome owner.state next.state command name → (held : LiveSession)
+            → live_session next.state name ≡ Some held → tiles_of_session held ≤ number_in tiles_of_session owner.state name
         by name same (inl rests) held found = let none = idle-tiles held (rests.after held found) in omega (arith, none)
         by name same (inr (inl s)) held found = absurd (absent name same s.before s.was)
         by name same (inr (inr s)) held found = absurd (absent name same s.before s.was)
 
     answered_start : tiles_to_come next.state ≡ tiles_to_come owner.state + command_tiles (user_in owner) command
-    answered_start = by (held_session owner.state session) refl (outcome_of session session_is)
+    answered_start = by (live_session owner.state session) refl (outcome_of session session_is)
       where
-        by : (o : Option HeldSession) → held_session owner.state session ≡ o → Outcome owner.state next.state command session
+        by : (o : Option LiveSession) → live_session owner.state session ≡ o → Outcome owner.state next.state command session
             → tiles_to_come next.state ≡ tiles_to_come owner.state + command_tiles (user_in owner) command
         by None w o =
             let none : command_tiles (user_in owner) command ≡ 0 = ap (command_tiles (user_in owner)) which ∙ start_tiles_none w in
             let below = sum-below tiles_of_session owner.state.sessions next.state.sessions t.distinct (λ name held found.
-            let same = kept_else name (λ is. none-some held (sym w ∙ ap (held_session owner.state) is ∙ found)) in
+            let same = kept_else name (λ is. none-some held (sym w ∙ ap (live_session owner.state) is ∙ found)) in
             let is = ap (λ o. option_map_or tiles_of_session o 0) (same ∙ found) in omega (arith, is)) in
             let within = sum-below tiles_of_session next.state.sessions owner.state.sessions distinct_next (absent_within w) in
             omega (arith, none, below, within)
-        by (Some before) w o = answered_start_at before w (started_by (held_session next.state session) refl)
+        by (Some before) w o = answered_start_at before w (started_by (live_session next.state session) refl)
           where
-            started_by : (p : Option HeldSession) → held_session next.state session ≡ p → held_session next.state session ≡ Some (with_start n before)
+            started_by : (p : Option LiveSession) → live_session next.state session ≡ p → live_session next.state session ≡ Some (with_start n before)
             started_by None e = absurd (staying owner.state next.state command reply work answered unchanged_state steps at_once
                 session session_is (λ held found. still-there (user_in owner) session (command_result (user_in owner) command answered.mark)
                 (ap is_some (named-held owner.state session held found))
                 (subst (λ (k : Command). Stays session (command_result (user_in owner) k answered.mark)) (sym which)
                 (start_stays (user_in owner) session n answered.mark))) before w e)
             started_by (Some after) e =
-                let s : StepsAfter (Start session n) (held_session owner.state session) after =
-                subst (λ (k : Command). StepsAfter k (held_session owner.state session) after) which (steps session after session_is e) in
-                e ∙ ap (λ (h : HeldSession). Some h) (subst (λ o. IsSomeAnd o (λ held. after ≡ with_start n held)) w s)
+                let s : StepsAfter (Start session n) (live_session owner.state session) after =
+                subst (λ (k : Command). StepsAfter k (live_session owner.state session) after) which (steps session after session_is e) in
+                e ∙ ap (λ (h : LiveSession). Some h) (subst (λ o. IsSomeAnd o (λ held. after ≡ with_start n held)) w s)
 
   pub answered_tiles : tiles_to_come next.state ≡ tiles_to_come owner.state + command_tiles (user_in owner) command
   answered_tiles = by command refl
@@ -392,7 +392,7 @@ module _ (owner : Owner) (owed : List Task) (t : Gathers owner owed) (name : Lis
 
   work_next : IsAtWork None next.state
   work_next other held found =
-      of_each_session {P = λ other. (held : HeldSession) → held_session next.state other ≡ Some held
+      of_each_session {P = λ other. (held : LiveSession) → live_session next.state other ≡ Some held
       → kind_of held.live.part ≡ kind_owed None other held}
       (λ held found. let i = rests held found in i.closed ∙ sym (kind-none None name held i.owed refl))
       (λ other apart held found.
@@ -416,7 +416,7 @@ module _ (owner : Owner) (owed : List Task) (t : Gathers owner owed) (name : Lis
   pub ended_owes : OwesNoMore owner next.state
   ended_owes other quiet = of_each_session {P = λ other. owed_in next.state other ≤ owed_in owner.state other}
       (let none = idle_owed next.state name rests in omega (arith, none))
-      (λ other apart. let same = ap (λ o. option_map_or (λ (h : HeldSession). h.owed) o 0) (others other apart) in omega (arith, same))
+      (λ other apart. let same = ap (λ o. option_map_or (λ (h : LiveSession). h.owed) o 0) (others other apart) in omega (arith, same))
       other
 
   pub ended_rests : OwesNoneWhereWaited owner next.state
@@ -426,19 +426,19 @@ module _ (owner : Owner) (owed : List Task) (t : Gathers owner owed) (name : Lis
       (idle_owed next.state name rests)
 
   -- no tile of the session was to come
-  none_here : (held : HeldSession) → held_session owner.state name ≡ Some held → tiles_of_session held ≡ 0
+  none_here : (held : LiveSession) → live_session owner.state name ≡ Some held → tiles_of_session held ≡ 0
   none_here held found =
       let open_there = whole-open owner owed t name whole in
       let same = same_Some open_there.held held (sym open_there.there ∙ found) in
       let left = whole-left owner owed t name whole in
       let owed : held.owed ≤ 1 =
       let steps = ap (λ o. option_map_or (owed_in owner.state) o 0) waited.waits in
-      let is = ap (λ o. option_map_or (λ (h : HeldSession). h.owed) o 0) found in
+      let is = ap (λ o. option_map_or (λ (h : LiveSession). h.owed) o 0) found in
       let few = one in omega (arith, steps, is, few) in
       let later : tiles_after held ≡ 0 =
       ap (λ n. steps_tiles held.live.composition n (next_simulation held.live.composition held.live.sim))
       (let none : held.owed - 1 ≡ 0 = omega (arith, owed) in none) in
-      subst (λ (h : HeldSession). tiles_after h ≡ 0 → tiles_of_session h ≡ 0) same (λ l. omega (arith, left, l)) later
+      subst (λ (h : LiveSession). tiles_after h ≡ 0 → tiles_of_session h ≡ 0) same (λ l. omega (arith, left, l)) later
 
   own_none : waiting_tiles_of owner owner.waiting ≡ 0
   own_none = ap (waiting_tiles_of owner) waited.is ∙ by_test (nat_lt 0 (steps_before owner.state waited.command))
@@ -450,13 +450,13 @@ module _ (owner : Owner) (owed : List Task) (t : Gathers owner owed) (name : Lis
   pub ended_tiles : tiles_coming next ≡ tiles_coming owner
   ended_tiles =
       let below = sum-below tiles_of_session owner.state.sessions next.state.sessions t.distinct
-      (of_each_session {P = λ other. (held : HeldSession) → held_session owner.state other ≡ Some held
+      (of_each_session {P = λ other. (held : LiveSession) → live_session owner.state other ≡ Some held
       → tiles_of_session held ≤ number_in tiles_of_session next.state other}
       (λ held found. let none = none_here held found in omega (arith, none))
       (λ other apart held found. let is = ap (λ o. option_map_or tiles_of_session o 0) (others other apart ∙ found) in
       omega (arith, is))) in
       let within = sum-below tiles_of_session next.state.sessions owner.state.sessions distinct
-      (of_each_session {P = λ other. (held : HeldSession) → held_session next.state other ≡ Some held
+      (of_each_session {P = λ other. (held : LiveSession) → live_session next.state other ≡ Some held
       → tiles_of_session held ≤ number_in tiles_of_session owner.state other}
       (λ held found. let none = idle-tiles held (rests held found) in omega (arith, none))
       (λ other apart held found. let is = ap (λ o. option_map_or tiles_of_session o 0) (sym (others other apart) ∙ found) in

@@ -8,8 +8,8 @@ use Rattle.std.specs.Str.{bytes_eq}
 use Rattle.std.proofs.lemmas.Bool.{ltb-true, ltb-false, lt-ltb, true≢false}
 use Rattle.std.proofs.lemmas.Option.{none-some}
 use Rattle.std.proofs.lemmas.Slice.Eq.{bytes_eq-Decides}
-use Rattle.lj_tile.specs.declared.names.Kind.{Kind}
-use Rattle.lj_tile.specs.declared.names.Kind.TheVariants.{Force, Energy}
+use Rattle.lj_tile.specs.declared.task_name.Kind.{Kind}
+use Rattle.lj_tile.specs.declared.task_name.Kind.TheVariants.{Force, Energy}
 use Rattle.lj_tile.specs.Task.{Task}
 use Rattle.lj_step.specs.Sim.{OpenStep}
 use Rattle.lj_step.specs.OpenSteps.{kind_of}
@@ -20,8 +20,8 @@ use Rattle.lj_session.specs.declared.command.Command.TheVariants.{Measure}
 use Rattle.lj_session.specs.Users.{Session, User}
 use Rattle.lj_session.specs.Answers.{can_advance}
 use Rattle.lj_session.specs.Turns.{turns, waits_for, advance_turns}
-use Rattle.lj_session.specs.UserState.{HeldSession, UserState, IsAtWork, IsIdle, user_of, session_meant, held_session, owed_in, with_session_changed, with_more_owed, with_step}
-use Rattle.lj_session.specs.UserState.{with_step_passed, steps_before, turns_before, is_whole_in, is_measured}
+use Rattle.lj_session.specs.UserState.{LiveSession, UserState, IsAtWork, IsIdle, user_of, settled_session, live_session, owed_in, with_session_changed, with_more_owed, with_step}
+use Rattle.lj_session.specs.UserState.{with_step_finished, steps_before, turns_before, is_whole_in, is_measured}
 use Rattle.lj_session.specs.Owner.{Owner, user_in, owner_begun, state_taking_up, rest_of, label_of, with_state, is_waited_for, owner_turned}
 use Rattle.lj_session.specs.Owner.{IsLastTurn}
 use Rattle.lj_session.proofs.AtWork.{at_work-changed, at_work-waits, at_work-measured, kind-owing, kind-some, kind-none, kind-passed}
@@ -51,33 +51,33 @@ some-open : (part : Option OpenStep) (kind : Kind) → kind_of part ≡ Some kin
 some-open part kind e = let s = some-part part kind e in subst IsSome (sym s.1) refl
 
 -- where steps are owed to the session that a command waits for, one is open there
-pub open-owed : (waiting : Option Command) (owned : UserState) (command : Command) → IsAtWork waiting owned
-    → 0 < steps_before owned command → IsOpenFor owned command
-open-owed waiting owned command work some = by (waits_for command) refl
+pub open-owed : (waiting : Option Command) (state : UserState) (command : Command) → IsAtWork waiting state
+    → 0 < steps_before state command → IsOpenFor state command
+open-owed waiting state command work some = by (waits_for command) refl
   where
-    at : (name : List ℕ) → 0 < owed_in owned name → (o : Option HeldSession) → held_session owned name ≡ o
-        → IsSomeAnd (held_session owned name) (λ held. IsSome held.live.part)
+    at : (name : List ℕ) → 0 < owed_in state name → (o : Option LiveSession) → live_session state name ≡ o
+        → IsSomeAnd (live_session state name) (λ held. IsSome held.live.part)
     at name more None e = absurd (let none = rw e at more in omega (arith, none))
     at name more (Some held) e =
         subst (λ o. IsSomeAnd o (λ held. IsSome held.live.part)) (sym e)
         (some-open held.live.part Force (work name held e ∙ kind-some waiting name held (rw e at more)))
 
-    by : (o : Option (List ℕ)) → waits_for command ≡ o → IsOpenFor owned command
-    by None e = absurd (let none = ap (λ o. option_map_or (owed_in owned) o 0) e in omega (arith, none, some))
+    by : (o : Option (List ℕ)) → waits_for command ≡ o → IsOpenFor state command
+    by None e = absurd (let none = ap (λ o. option_map_or (owed_in state) o 0) e in omega (arith, none, some))
     by (Some name) e =
-        subst (λ o. IsSomeAnd o (λ name. IsSomeAnd (held_session owned name) (λ held. IsSome held.live.part))) (sym e)
-        (at name (subst (λ o. 0 < option_map_or (owed_in owned) o 0) e some) (held_session owned name) refl)
+        subst (λ o. IsSomeAnd o (λ name. IsSomeAnd (live_session state name) (λ held. IsSome held.live.part))) (sym e)
+        (at name (subst (λ o. 0 < option_map_or (owed_in state) o 0) e some) (live_session state name) refl)
 
 -- the tiles of a command that takes steps
-pub advance-tiles-is : (owned : UserState) (name : List ℕ) (n : ℕ) (held : HeldSession) → held_session owned name ≡ Some held
-    → command_tiles (user_of owned) (Advance name n) ≡ advance_tiles (Some (session_meant held)) n
+pub advance-tiles-is : (state : UserState) (name : List ℕ) (n : ℕ) (held : LiveSession) → live_session state name ≡ Some held
+    → command_tiles (user_of state) (Advance name n) ≡ advance_tiles (Some (settled_session held)) n
 unfolding command_tiles
-advance-tiles-is owned name n held found = ap (λ o. advance_tiles o n) (named-held owned name held found)
+advance-tiles-is state name n held found = ap (λ o. advance_tiles o n) (named-held state name held found)
 
-measure-tiles-is : (owned : UserState) (name : List ℕ) (held : HeldSession) → held_session owned name ≡ Some held
-    → command_tiles (user_of owned) (Measure name) ≡ measure_tiles (Some (session_meant held))
+measure-tiles-is : (state : UserState) (name : List ℕ) (held : LiveSession) → live_session state name ≡ Some held
+    → command_tiles (user_of state) (Measure name) ≡ measure_tiles (Some (settled_session held))
 unfolding command_tiles
-measure-tiles-is owned name held found = ap measure_tiles (named-held owned name held found)
+measure-tiles-is state name held found = ap measure_tiles (named-held state name held found)
 
 none-tiles : (user : User) (name : List ℕ) → command_tiles user (Advance name 0) ≡ 0
 unfolding command_tiles
@@ -128,18 +128,18 @@ module _ (base : Owner) (owed : List Task) (t : Gathers base owed) (idle : base.
       })
 
   -- the session of a command that takes steps of its own
-  idle-held : (name : List ℕ) (held : HeldSession) → held_session base.state name ≡ Some held → owed_in base.state name ≡ 0 → IsIdle held
+  idle-held : (name : List ℕ) (held : LiveSession) → live_session base.state name ≡ Some held → owed_in base.state name ≡ 0 → IsIdle held
   idle-held name held there none =
       let n = owed-of base.state name held there none in
       record { owed = n; closed = work name held there ∙ kind-none None name held n refl }
 
-  no-posted : (name : List ℕ) (held : HeldSession) → held_session base.state name ≡ Some held → IsIdle held
+  no-posted : (name : List ℕ) (held : LiveSession) → live_session base.state name ≡ Some held → IsIdle held
       → filter (is_of name) owed ≡ []
   no-posted name held there i =
       t.each name ∙ ap (tasks_posted_of (label_of base name)) there
       ∙ closed-posted held (label_of base name) (closed-part held.live.part i.closed)
 
-  meant-sim : (held : HeldSession) → held.owed ≡ 0 → (session_meant held).sim ≡ held.live.sim
+  meant-sim : (held : LiveSession) → held.owed ≡ 0 → (settled_session held).sim ≡ held.live.sim
   meant-sim held none = rw none refl
 
   begins-advance : (name : List ℕ) (n : ℕ) → owed_in base.state name ≡ 0 → 0 < n → Goes base.state name n
@@ -153,7 +153,7 @@ module _ (base : Owner) (owed : List Task) (t : Gathers base owed) (idle : base.
       let after = there-changed base.state name (with_more_owed n) g.held g.there in
       let tiles : command_tiles (user_in base) (Advance name n) ≡ steps_tiles g.held.live.composition n g.held.live.sim =
       advance-tiles-is base.state name n g.held g.there
-      ∙ ap (λ b. if b then steps_tiles g.held.live.composition n (session_meant g.held).sim else 0) g.near
+      ∙ ap (λ b. if b then steps_tiles g.held.live.composition n (settled_session g.held).sim else 0) g.near
       ∙ ap (steps_tiles g.held.live.composition n) (meant-sim g.held i.owed) in
       let own : waiting_tiles next ≡ 0 =
       if-none (nat_lt 0 (steps_before (with_session_changed name (with_more_owed n) base.state) (Advance name 0))) _
@@ -167,7 +167,7 @@ module _ (base : Owner) (owed : List Task) (t : Gathers base owed) (idle : base.
       let owed_then = owed-owing n g.held in
       let owed_sum = sum (λ held. held.owed) g.held g.there in
       let turns_then = none-turns (user_of (with_session_changed name (with_more_owed n) base.state)) name in
-      let turns_before = advance-turns-near (user_in base) name n (session_meant g.held)
+      let turns_before = advance-turns-near (user_in base) name n (settled_session g.held)
       (named-held base.state name g.held g.there) g.near in
       record {
         gathers = gathers_changed base owed t name g.held g.there (with_more_owed n) (Some (Advance name 0)) owed
@@ -183,7 +183,7 @@ module _ (base : Owner) (owed : List Task) (t : Gathers base owed) (idle : base.
         turns = omega (arith, owed_then, owed_sum, turns_then, turns_before);
       }
 
-  begins-measure : (name : List ℕ) (held : HeldSession) → held_session base.state name ≡ Some held → owed_in base.state name ≡ 0
+  begins-measure : (name : List ℕ) (held : LiveSession) → live_session base.state name ≡ Some held → owed_in base.state name ≡ 0
       → Begins base owed (Measure name)
       (record { state = with_session_changed name (with_step Energy) base.state; number = base.number; waiting = Some (Measure name) })
   unfolding waits_for
@@ -196,7 +196,7 @@ module _ (base : Owner) (owed : List Task) (t : Gathers base owed) (idle : base.
       measure-tiles-is base.state name held there
       ∙ ap (frame_tiles held.live.composition) (meant-sim held i.owed) in
       let no_steps : steps_before (with_session_changed name (with_step Energy) base.state) (Measure name) ≡ 0 =
-      ap (λ o. option_map_or (λ (h : HeldSession). h.owed) o 0) after ∙ i.owed in
+      ap (λ o. option_map_or (λ (h : LiveSession). h.owed) o 0) after ∙ i.owed in
       let own : waiting_tiles next ≡ 0 =
       ap (λ n. if nat_lt 0 n then command_tiles (user_in next) (Measure name) else 0) no_steps in
       let later : tiles_after held ≡ 0 = rw i.owed refl in
@@ -227,7 +227,7 @@ module _ (base : Owner) (owed : List Task) (t : Gathers base owed) (idle : base.
   unfolding state_taking_up rest_of waits_for
   begins-on (Advance name n) none some =
       let g = goes base.state name n some in
-      let n_is = advance-turns-near (user_in base) name n (session_meant g.held)
+      let n_is = advance-turns-near (user_in base) name n (settled_session g.held)
       (named-held base.state name g.held g.there) g.near in
       rw none (begins-advance name n none (omega (arith, some, n_is)) g)
   begins-on (Measure name) none some =
@@ -269,14 +269,14 @@ begun-waits command owner name = by_test (nat_lt 0 (steps_before owner.state com
     (λ t. rw t (rest-waits command name))
 
 -- as many steps are owed to every other session
-taken-owes : (command : Command) (owned : UserState) (name : List ℕ) → is_waited_for (Some command) name ≡ false
-    → owed_in (state_taking_up command owned) name ≡ owed_in owned name
+taken-owes : (command : Command) (state : UserState) (name : List ℕ) → is_waited_for (Some command) name ≡ false
+    → owed_in (state_taking_up command state) name ≡ owed_in state name
 unfolding state_taking_up waits_for
-taken-owes (Advance session n) owned name apart =
-    ap (λ o. option_map_or (λ (h : HeldSession). h.owed) o 0)
-    (other-changed owned session (with_more_owed n) name (λ is. true≢false (sym ((bytes_eq-Decides session name).1 is) ∙ apart)))
-taken-owes (Measure session) owned name apart = owed-changed owned session (with_step Energy) (λ held. refl) name
-taken-owes command owned name apart = refl
+taken-owes (Advance session n) state name apart =
+    ap (λ o. option_map_or (λ (h : LiveSession). h.owed) o 0)
+    (other-changed state session (with_more_owed n) name (λ is. true≢false (sym ((bytes_eq-Decides session name).1 is) ∙ apart)))
+taken-owes (Measure session) state name apart = owed-changed state session (with_step Energy) (λ held. refl) name
+taken-owes command state name apart = refl
 
 pub begun-owes : (command : Command) (owner : Owner) (name : List ℕ) → is_waited_for (Some command) name ≡ false
     → owed_in (owner_begun command owner).state name ≡ owed_in owner.state name
@@ -286,7 +286,7 @@ begun-owes command owner name apart = by_test (nat_lt 0 (steps_before owner.stat
 
 -- a turn: the step of its session is passed, and what waits for the session begins again
 abbrev passed_in : List ℕ → Owner → Owner
-passed_in name owner = with_state (with_session_changed name with_step_passed owner.state) owner
+passed_in name owner = with_state (with_session_changed name with_step_finished owner.state) owner
 
 turned-passed : (name : List ℕ) (owner : Owner) → is_waited_for owner.waiting name ≡ false → owner_turned name owner ≡ passed_in name owner
 turned-passed name owner other = rw other refl
@@ -320,7 +320,7 @@ turned-owes name owner other apart = turned-either (λ (o : Owner). owed_in o.st
     omega (arith, same, fewer))
   where
     passes : owed_in (passed_in name owner).state other ≤ owed_in owner.state other
-    passes = owed-lowered owner.state name with_step_passed (λ held. let one_less = passed-owed held in omega (arith, one_less)) other
+    passes = owed-lowered owner.state name with_step_finished (λ held. let one_less = passed-owed held in omega (arith, one_less)) other
 
 -- a session that is whole, over a pool
 module _ (owner : Owner) (owed : List Task) (t : Gathers owner owed) (name : List ℕ)
@@ -342,36 +342,36 @@ module _ (owner : Owner) (owed : List Task) (t : Gathers owner owed) (name : Lis
   whole-owes = whole_posted o.held (label_of owner name) step_of_it.0 step_of_it.1 (t.gathered name o.held o.there) o.whole
 
   owed-there : owed_in owner.state name ≡ o.held.owed
-  owed-there = ap (λ h. option_map_or (λ (h : HeldSession). h.owed) h 0) o.there
+  owed-there = ap (λ h. option_map_or (λ (h : LiveSession). h.owed) h 0) o.there
 
   -- its step is passed
   module _ (some : 0 < owed_in owner.state name) where
-    pub passed-gathers : (waiting : Option Command) → IsAtWork waiting (with_session_changed name with_step_passed owner.state)
-        → IfSome waiting (IsOpenFor (with_session_changed name with_step_passed owner.state))
-        → Gathers (record { state = with_session_changed name with_step_passed owner.state; number = owner.number; waiting = waiting }) owed
+    pub passed-gathers : (waiting : Option Command) → IsAtWork waiting (with_session_changed name with_step_finished owner.state)
+        → IfSome waiting (IsOpenFor (with_session_changed name with_step_finished owner.state))
+        → Gathers (record { state = with_session_changed name with_step_finished owner.state; number = owner.number; waiting = waiting }) owed
     passed-gathers waiting work waits =
-        gathers_changed owner owed t name o.held o.there with_step_passed waiting owed work waits
+        gathers_changed owner owed t name o.held o.there with_step_finished waiting owed work waits
         (passed-gathered o.held)
         (t.each name ∙ ap (tasks_posted_of (label_of owner name)) o.there ∙ whole-owes
         ∙ sym (passed-posted o.held (label_of owner name)))
         (λ other apart. refl)
 
-    pub passed-tiles-sum : tiles_to_come (with_session_changed name with_step_passed owner.state) ≡ tiles_to_come owner.state
+    pub passed-tiles-sum : tiles_to_come (with_session_changed name with_step_finished owner.state) ≡ tiles_to_come owner.state
     passed-tiles-sum =
-        let sum = sum-changed owner.state name with_step_passed tiles_of_session o.held o.there in
+        let sum = sum-changed owner.state name with_step_finished tiles_of_session o.held o.there in
         let passed = passed-tiles o.held in
         let left = whole-left in
         omega (arith, sum, passed, left)
 
-    pub passed-posts-sum : sum_over posts_of_session (with_session_changed name with_step_passed owner.state) ≤ sum_over posts_of_session owner.state
+    pub passed-posts-sum : sum_over posts_of_session (with_session_changed name with_step_finished owner.state) ≤ sum_over posts_of_session owner.state
     passed-posts-sum =
-        let sum = sum-changed owner.state name with_step_passed posts_of_session o.held o.there in
+        let sum = sum-changed owner.state name with_step_finished posts_of_session o.held o.there in
         let passed = passed-posts o.held in
         omega (arith, sum, passed)
 
-    pub passed-owed-sum : sum_over (λ held. held.owed) (with_session_changed name with_step_passed owner.state) + 1 ≡ sum_over (λ held. held.owed) owner.state
+    pub passed-owed-sum : sum_over (λ held. held.owed) (with_session_changed name with_step_finished owner.state) + 1 ≡ sum_over (λ held. held.owed) owner.state
     passed-owed-sum =
-        let sum = sum-changed owner.state name with_step_passed (λ held. held.owed) o.held o.there in
+        let sum = sum-changed owner.state name with_step_finished (λ held. held.owed) o.held o.there in
         let passed = passed-owed o.held in
         let more = owed-there in
         omega (arith, sum, passed, more, some)
@@ -385,12 +385,12 @@ pub record Turns (owner : Owner) (owed : List Task) (next : Owner) : Type 0 wher
 
 module _ (owner : Owner) (owed : List Task) (t : Gathers owner owed) (name : List ℕ)
     (whole : is_whole_in owner.state name ≡ true) where
-  same_user : 0 < owed_in owner.state name → user_of (with_session_changed name with_step_passed owner.state) ≡ user_in owner
+  same_user : 0 < owed_in owner.state name → user_of (with_session_changed name with_step_finished owner.state) ≡ user_in owner
   same_user some = passed_user owner.state name some
 
   -- nothing waits for the session
   turns-other : is_waited_for owner.waiting name ≡ false → 0 < owed_in owner.state name
-      → Turns owner owed (with_state (with_session_changed name with_step_passed owner.state) owner)
+      → Turns owner owed (with_state (with_session_changed name with_step_finished owner.state) owner)
   turns-other other some =
       let user = same_user some in
       let tiles = passed-tiles-sum owner owed t name whole some in
@@ -400,7 +400,7 @@ module _ (owner : Owner) (owed : List Task) (t : Gathers owner owed) (name : Lis
       let turns_same = ap (λ u. option_map_or (turns u) owner.waiting 0) user in
       record {
         gathers = passed-gathers owner owed t name whole some owner.waiting
-            (at_work-changed owner.waiting owner.state name with_step_passed (λ held e. kind-passed owner.waiting name held quiet) t.at_work)
+            (at_work-changed owner.waiting owner.state name with_step_finished (λ held e. kind-passed owner.waiting name held quiet) t.at_work)
             (still owner.waiting refl t.waits);
         tiles = omega (arith, tiles, own);
         posts = omega (arith, posts, own);
@@ -425,34 +425,34 @@ module _ (owner : Owner) (owed : List Task) (t : Gathers owner owed) (name : Lis
           true≢false (sym t ∙ ap (λ w. is_waited_for w name) (sym e) ∙ other)
 
       still : (w : Option Command) → owner.waiting ≡ w → IfSome w (IsOpenFor owner.state)
-          → IfSome w (IsOpenFor (with_session_changed name with_step_passed owner.state))
+          → IfSome w (IsOpenFor (with_session_changed name with_step_finished owner.state))
       still None e h = tt
       still (Some command) e h = by (waits_for command) refl
         where
-          by : (w : Option (List ℕ)) → waits_for command ≡ w → IsOpenFor (with_session_changed name with_step_passed owner.state) command
-          by None w = absurd (subst (λ o. IsSomeAnd o (λ name. IsSomeAnd (held_session owner.state name) (λ held. IsSome held.live.part))) w h)
+          by : (w : Option (List ℕ)) → waits_for command ≡ w → IsOpenFor (with_session_changed name with_step_finished owner.state) command
+          by None w = absurd (subst (λ o. IsSomeAnd o (λ name. IsSomeAnd (live_session owner.state name) (λ held. IsSome held.live.part))) w h)
           by (Some session) w =
-              subst (λ o. IsSomeAnd o (λ session. IsSomeAnd (held_session (with_session_changed name with_step_passed owner.state) session) (λ held. IsSome held.live.part)))
+              subst (λ o. IsSomeAnd o (λ session. IsSomeAnd (live_session (with_session_changed name with_step_finished owner.state) session) (λ held. IsSome held.live.part)))
               (sym w)
               (subst (λ o. IsSomeAnd o (λ held. IsSome held.live.part))
-              (sym (other-changed owner.state name with_step_passed session (apart command e session w)))
-              (subst (λ o. IsSomeAnd o (λ name. IsSomeAnd (held_session owner.state name) (λ held. IsSome held.live.part))) w h))
+              (sym (other-changed owner.state name with_step_finished session (apart command e session w)))
+              (subst (λ o. IsSomeAnd o (λ name. IsSomeAnd (live_session owner.state name) (λ held. IsSome held.live.part))) w h))
 
       waiting_same : (w : Option Command) → owner.waiting ≡ w
-          → waiting_tiles_of (with_state (with_session_changed name with_step_passed owner.state) owner) w ≡ waiting_tiles_of owner w
+          → waiting_tiles_of (with_state (with_session_changed name with_step_finished owner.state) owner) w ≡ waiting_tiles_of owner w
       waiting_same None e = refl
       waiting_same (Some command) e =
-          ap (λ n. if nat_lt 0 n then command_tiles (user_of (with_session_changed name with_step_passed owner.state)) command else 0)
+          ap (λ n. if nat_lt 0 n then command_tiles (user_of (with_session_changed name with_step_finished owner.state)) command else 0)
           (before (waits_for command) refl)
           ∙ ap (λ u. if nat_lt 0 (steps_before owner.state command) then command_tiles u command else 0) (same_user some)
         where
           before : (w : Option (List ℕ)) → waits_for command ≡ w
-              → steps_before (with_session_changed name with_step_passed owner.state) command ≡ steps_before owner.state command
-          before None w = ap (λ o. option_map_or (owed_in (with_session_changed name with_step_passed owner.state)) o 0) w
+              → steps_before (with_session_changed name with_step_finished owner.state) command ≡ steps_before owner.state command
+          before None w = ap (λ o. option_map_or (owed_in (with_session_changed name with_step_finished owner.state)) o 0) w
               ∙ sym (ap (λ o. option_map_or (owed_in owner.state) o 0) w)
-          before (Some session) w = ap (λ o. option_map_or (owed_in (with_session_changed name with_step_passed owner.state)) o 0) w
-              ∙ ap (λ o. option_map_or (λ (h : HeldSession). h.owed) o 0)
-              (other-changed owner.state name with_step_passed session (apart command e session w))
+          before (Some session) w = ap (λ o. option_map_or (owed_in (with_session_changed name with_step_finished owner.state)) o 0) w
+              ∙ ap (λ o. option_map_or (λ (h : LiveSession). h.owed) o 0)
+              (other-changed owner.state name with_step_finished session (apart command e session w))
               ∙ sym (ap (λ o. option_map_or (owed_in owner.state) o 0) w)
 
   -- a command waits for it
@@ -461,9 +461,9 @@ module _ (owner : Owner) (owed : List Task) (t : Gathers owner owed) (name : Lis
     work_waiting = subst (λ w. IsAtWork w owner.state) waiting t.at_work
 
     abbrev base : Owner
-    base = record { state = with_session_changed name with_step_passed owner.state; number = owner.number; waiting = None }
+    base = record { state = with_session_changed name with_step_finished owner.state; number = owner.number; waiting = None }
 
-    turns-waited : 0 < owed_in owner.state name → 0 < turns_before (with_session_changed name with_step_passed owner.state) command
+    turns-waited : 0 < owed_in owner.state name → 0 < turns_before (with_session_changed name with_step_finished owner.state) command
         → Turns owner owed (owner_begun command base)
     turns-waited some more =
         let passed = passed-gathers owner owed t name whole some None
@@ -523,7 +523,7 @@ module _ (owner : Owner) (owed : List Task) (t : Gathers owner owed) (name : Lis
               let some : 0 < owed_in owner.state name = owed_some (λ none.
               last (measured_last command owner.state name (energies (Some command) owner.state name whole work none))) in
               let fewer = passed_turns owner.state name command waits some in
-              let left : 0 < turns_before (with_session_changed name with_step_passed owner.state) command =
+              let left : 0 < turns_before (with_session_changed name with_step_finished owner.state) command =
               omega (arith, fewer, last) in
               subst (λ (o : Owner). Turns owner owed o) (sym (turned-begun name owner command e y)) (turns-waited command e waits some left)
             where

@@ -16,7 +16,7 @@ use Rattle.lj_tile.specs.Task.{Task}
 use Rattle.lj_branch.specs.Named.{value_named}
 use Rattle.lj_session.specs.Turns.{turns, waits_for, advance_turns, measure_turns}
 use Rattle.lj_session.specs.Users.{Session, User}
-use Rattle.lj_session.specs.UserState.{HeldSession, UserState, user_of, state_at_rest, held_session, owed_in, steps_before, turns_before}
+use Rattle.lj_session.specs.UserState.{LiveSession, UserState, user_of, with_steps_restarted, live_session, owed_in, steps_before, turns_before}
 use Rattle.lj_session.specs.Owner.{is_waited_for}
 use Rattle.lj_session.proofs.Entries.{by_test}
 use Rattle.lj_session.proofs.Holding.{named-held}
@@ -107,7 +107,7 @@ waits_there owned Others may command some = by_test (nat_lt 0 (steps_before owne
     (λ t. for_steps (waits_for command) refl (ltb-true 0 (steps_before owned command) t))
     (λ t. let none = ltb-false 0 (steps_before owned command) t in own_there owned Others command (omega (arith, some, none)))
   where
-    there : (name : List ℕ) → 0 < owed_in owned name → (o : Option HeldSession) → held_session owned name ≡ o
+    there : (name : List ℕ) → 0 < owed_in owned name → (o : Option LiveSession) → live_session owned name ≡ o
         → IsSome (value_named name (user_of owned).sessions)
     there name more None e = absurd (let none = rw e at more in omega (arith, none))
     there name more (Some held) e = ap is_some (named-held owned name held e)
@@ -118,7 +118,7 @@ waits_there owned Others may command some = by_test (nat_lt 0 (steps_before owne
         let owed : 0 < owed_in owned name = subst (λ o. 0 < option_map_or (owed_in owned) o 0) e more in
         subst (λ o. IsSomeAnd o (λ name. IsSome (value_named name (user_of owned).sessions)
         × ((0 < turns (user_of owned) command) ⊎ Others name))) (sym e)
-        (there name owed (held_session owned name) refl, inr (may name owed))
+        (there name owed (live_session owned name) refl, inr (may name owed))
 
 -- a load takes no turns, and none come before it
 lost_before : (owned : UserState) (found item : Item) → IsLost found item → item_before owned item ≡ 0
@@ -235,7 +235,7 @@ told_of between next found item reply handed answers = by_found handed
 -- serving begins with nothing read
 pub serving-start : (start : UserState) (first : LineReader) (was : Option (List ℕ)) (old : Seen)
     → first.items ≡ 0 → first.phase ≡ Open
-    → Serving start first first was was old old (state_at_rest start)
+    → Serving start first first was was old old (with_steps_restarted start)
 serving-start start first was old none is_open = record {
   read = [];
   written = [];
@@ -248,7 +248,7 @@ serving-start start first was old none is_open = record {
   are_marks = tt;
   written_is = refl;
   next_is = rested_user start;
-  counted = rises_none old old (0 + tiles_owed start - tiles_to_come (state_at_rest start)) refl refl
+  counted = rises_none old old (0 + tiles_owed start - tiles_to_come (with_steps_restarted start)) refl refl
       (let all = rested-tiles start in omega (arith, all));
   handed = let all = rested-tiles start in omega (arith, all);
   owes = λ name. let same = rested-owes start name in omega (arith, same);

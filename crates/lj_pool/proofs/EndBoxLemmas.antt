@@ -8,7 +8,7 @@ use Rattle.std.proofs.lemmas.List.Edits.{length-remove}
 use Rattle.std.proofs.lemmas.List.Elements.{All-append, All-take, All-drop}
 use Rattle.lj_tile.specs.Blank.{blank_task}
 use Rattle.lj_tile.specs.Task.{Task}
-use Rattle.lj_book.specs.declared.marks.Mark.TheVariants.{ToFetch}
+use Rattle.lj_book.specs.declared.key_states.KeyState.TheVariants.{ToFetch}
 use Rattle.lj_book.specs.Book.{BookOf, Fetches, IsDoneAt, mark_of, user_of}
 use Rattle.lj_book.specs.Boxes.{Numbered, Slip}
 use Rattle.lj_pool.specs.EndBoxes.{ArePlaced, EndBoxes, HandsOut, IsFirstOf, IsNext, TakesInHand, result_in}

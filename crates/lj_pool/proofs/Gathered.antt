@@ -10,13 +10,13 @@ use Rattle.std.proofs.lemmas.List.Elements.{filter-append, Contains-append_right
 use Rattle.std.proofs.lemmas.Option.{none-some, same_Some}
 use Rattle.std.proofs.lemmas.Slice.Eq.{bytes_eq-Decides}
 use Rattle.lj_base.specs.declared.names.Label.{Label}
-use Rattle.lj_tile.specs.declared.names.TaskName.{TaskName}
+use Rattle.lj_tile.specs.declared.task_name.TaskName.{TaskName}
 use Rattle.lj_tile.specs.Task.{Task}
 use Rattle.lj_step.specs.Sim.{OpenStep}
 use Rattle.lj_step.specs.OpenSteps.{is_whole, task_of, tile_number, tile_number_of, with_tile, IsAwaitedTask, IsAwaitedTaskIn}
 use Rattle.lj_session.specs.declared.command.Command.{Command}
 use Rattle.lj_session.specs.Turns.{waits_for}
-use Rattle.lj_session.specs.UserState.{HeldSession, UserState, IsAtWork, IsAwaited, held_session, names, with_session_changed, with_posted, with_tile_in, with_passed_to}
+use Rattle.lj_session.specs.UserState.{LiveSession, UserState, IsAtWork, IsAwaited, live_session, names, with_session_changed, with_posted, with_tile_in, with_passed_to}
 use Rattle.lj_session.specs.UserState.{next_tile, next_of, is_whole_in}
 use Rattle.lj_session.specs.Owner.{Owner, label_of, task_of_session, next_session, task_in, with_task_posted, with_task_in}
 use Rattle.lj_session.specs.Owner.{IsAwaitedIn, ready_session}
@@ -71,8 +71,8 @@ of_other name work apart = by_test (is_of name work)
     (λ t. t)
 
 -- one session changed, and what it is owed
-module _ (owner : Owner) (owed : List Task) (t : Gathers owner owed) (name : List ℕ) (held : HeldSession)
-    (there : held_session owner.state name ≡ Some held) (change : HeldSession → HeldSession) (waiting : Option Command) (newer : List Task) where
+module _ (owner : Owner) (owed : List Task) (t : Gathers owner owed) (name : List ℕ) (held : LiveSession)
+    (there : live_session owner.state name ≡ Some held) (change : LiveSession → LiveSession) (waiting : Option Command) (newer : List Task) where
   abbrev next : Owner
   next = record { state = with_session_changed name change owner.state; number = owner.number; waiting = waiting }
 
@@ -89,11 +89,11 @@ module _ (owner : Owner) (owed : List Task) (t : Gathers owner owed) (name : Lis
     gathered = λ other h found. by_test (bytes_eq name other)
         (λ e. let same = (bytes_eq-Decides name other).0 e in
         subst IsGathered (same_Some (change held) h
-        (sym (there-changed owner.state name change held there) ∙ ap (held_session next.state) same ∙ found)) gathered)
+        (sym (there-changed owner.state name change held there) ∙ ap (live_session next.state) same ∙ found)) gathered)
         (λ e. t.gathered other h (sym (other-changed owner.state name change other (apart other e)) ∙ found));
     each = λ other. by_test (bytes_eq name other)
         (λ e. let same = (bytes_eq-Decides name other).0 e in
-        subst (λ (n : List ℕ). filter (is_of n) newer ≡ tasks_posted_of (label_of owner n) (held_session next.state n)) same
+        subst (λ (n : List ℕ). filter (is_of n) newer ≡ tasks_posted_of (label_of owner n) (live_session next.state n)) same
         (its ∙ ap (tasks_posted_of (label_of owner name)) (sym (there-changed owner.state name change held there))))
         (λ e. others other (apart other e) ∙ t.each other
         ∙ ap (tasks_posted_of (label_of owner other)) (sym (other-changed owner.state name change other (apart other e))));
@@ -103,43 +103,43 @@ module _ (owner : Owner) (owed : List Task) (t : Gathers owner owed) (name : Lis
       apart other e same = true≢false (sym ((bytes_eq-Decides name other).1 same) ∙ e)
 
 -- a change that leaves a step open where one is
-open-changed : (owned : UserState) (name : List ℕ) (change : HeldSession → HeldSession)
-    → ((held : HeldSession) → IsSome held.live.part → IsSome (change held).live.part)
-    → (waiting : Option Command) → IfSome waiting (IsOpenFor owned) → IfSome waiting (IsOpenFor (with_session_changed name change owned))
-open-changed owned name change stays None h = tt
-open-changed owned name change stays (Some command) h = by (waits_for command) refl h
+open-changed : (state : UserState) (name : List ℕ) (change : LiveSession → LiveSession)
+    → ((held : LiveSession) → IsSome held.live.part → IsSome (change held).live.part)
+    → (waiting : Option Command) → IfSome waiting (IsOpenFor state) → IfSome waiting (IsOpenFor (with_session_changed name change state))
+open-changed state name change stays None h = tt
+open-changed state name change stays (Some command) h = by (waits_for command) refl h
   where
-    at : (session : List ℕ) → IsSomeAnd (held_session owned session) (λ held. IsSome held.live.part)
-        → IsSomeAnd (held_session (with_session_changed name change owned) session) (λ held. IsSome held.live.part)
+    at : (session : List ℕ) → IsSomeAnd (live_session state session) (λ held. IsSome held.live.part)
+        → IsSomeAnd (live_session (with_session_changed name change state) session) (λ held. IsSome held.live.part)
     at session open_there = by_test (bytes_eq name session)
         (λ e. let same = (bytes_eq-Decides name session).0 e in
-        subst (λ (n : List ℕ). IsSomeAnd (held_session (with_session_changed name change owned) n) (λ held. IsSome held.live.part)) same
-        (here (held_session owned name) refl
-        (subst (λ (n : List ℕ). IsSomeAnd (held_session owned n) (λ held. IsSome held.live.part)) (sym same) open_there)))
+        subst (λ (n : List ℕ). IsSomeAnd (live_session (with_session_changed name change state) n) (λ held. IsSome held.live.part)) same
+        (here (live_session state name) refl
+        (subst (λ (n : List ℕ). IsSomeAnd (live_session state n) (λ held. IsSome held.live.part)) (sym same) open_there)))
         (λ e. subst (λ o. IsSomeAnd o (λ held. IsSome held.live.part))
-        (sym (other-changed owned name change session (λ same. true≢false (sym ((bytes_eq-Decides name session).1 same) ∙ e))))
+        (sym (other-changed state name change session (λ same. true≢false (sym ((bytes_eq-Decides name session).1 same) ∙ e))))
         open_there)
       where
-        here : (o : Option HeldSession) → held_session owned name ≡ o → IsSomeAnd (held_session owned name) (λ held. IsSome held.live.part)
-            → IsSomeAnd (held_session (with_session_changed name change owned) name) (λ held. IsSome held.live.part)
+        here : (o : Option LiveSession) → live_session state name ≡ o → IsSomeAnd (live_session state name) (λ held. IsSome held.live.part)
+            → IsSomeAnd (live_session (with_session_changed name change state) name) (λ held. IsSome held.live.part)
         here None e h = absurd (subst (λ o. IsSomeAnd o (λ held. IsSome held.live.part)) e h)
         here (Some held) e h =
-            subst (λ o. IsSomeAnd o (λ held. IsSome held.live.part)) (sym (there-changed owned name change held e))
+            subst (λ o. IsSomeAnd o (λ held. IsSome held.live.part)) (sym (there-changed state name change held e))
             (stays held (subst (λ o. IsSomeAnd o (λ held. IsSome held.live.part)) e h))
 
     by : (o : Option (List ℕ)) → waits_for command ≡ o
-        → IsSomeAnd (waits_for command) (λ session. IsSomeAnd (held_session owned session) (λ held. IsSome held.live.part))
-        → IsOpenFor (with_session_changed name change owned) command
-    by None e h = absurd (subst (λ o. IsSomeAnd o (λ session. IsSomeAnd (held_session owned session) (λ held. IsSome held.live.part))) e h)
+        → IsSomeAnd (waits_for command) (λ session. IsSomeAnd (live_session state session) (λ held. IsSome held.live.part))
+        → IsOpenFor (with_session_changed name change state) command
+    by None e h = absurd (subst (λ o. IsSomeAnd o (λ session. IsSomeAnd (live_session state session) (λ held. IsSome held.live.part))) e h)
     by (Some session) e h =
-        subst (λ o. IsSomeAnd o (λ session. IsSomeAnd (held_session (with_session_changed name change owned) session) (λ held. IsSome held.live.part)))
+        subst (λ o. IsSomeAnd o (λ session. IsSomeAnd (live_session (with_session_changed name change state) session) (λ held. IsSome held.live.part)))
         (sym e)
-        (at session (subst (λ o. IsSomeAnd o (λ session. IsSomeAnd (held_session owned session) (λ held. IsSome held.live.part))) e h))
+        (at session (subst (λ o. IsSomeAnd o (λ session. IsSomeAnd (live_session state session) (λ held. IsSome held.live.part))) e h))
 
 not_some : {A : Type 0} (o : Option A) → o ≡ None → IsSome o → ⊥
 not_some o e h = true≢false (sym h ∙ ap is_some e)
 
-still_open : (held : HeldSession) (k : ℕ) → IsSome held.live.part → IsSome (with_tile_in k held).live.part
+still_open : (held : LiveSession) (k : ℕ) → IsSome held.live.part → IsSome (with_tile_in k held).live.part
 still_open held k h = by held.live.part refl h
   where
     by : (part : Option OpenStep) → held.live.part ≡ part → IsSome held.live.part → IsSome (with_tile k held.live.part)
@@ -149,21 +149,21 @@ still_open held k h = by held.live.part refl h
 module _ (owner : Owner) (owed : List Task) (t : Gathers owner owed) where
   -- a session that is owed something, or whose tile is awaited, has a step open
   pub record Opened (name : List ℕ) : Type 0 where
-    pub held : HeldSession
-    pub there : held_session owner.state name ≡ Some held
+    pub held : LiveSession
+    pub there : live_session owner.state name ≡ Some held
     pub step : OpenStep
     pub is_open : held.live.part ≡ Some step
 
-  opened_by : (name : List ℕ) (P : Option HeldSession → Type 0) → (P None → ⊥) → ((held : HeldSession) → held.live.part ≡ None → P (Some held) → ⊥)
-      → P (held_session owner.state name) → Opened name
-  opened_by name P not_none not_closed h = by (held_session owner.state name) refl h
+  opened_by : (name : List ℕ) (P : Option LiveSession → Type 0) → (P None → ⊥) → ((held : LiveSession) → held.live.part ≡ None → P (Some held) → ⊥)
+      → P (live_session owner.state name) → Opened name
+  opened_by name P not_none not_closed h = by (live_session owner.state name) refl h
     where
-      at : (held : HeldSession) → held_session owner.state name ≡ Some held → P (Some held) → (part : Option OpenStep) → held.live.part ≡ part
+      at : (held : LiveSession) → live_session owner.state name ≡ Some held → P (Some held) → (part : Option OpenStep) → held.live.part ≡ part
           → Opened name
       at held e p None is = absurd (not_closed held is p)
       at held e p (Some step) is = record { held = held; there = e; step = step; is_open = is }
 
-      by : (o : Option HeldSession) → held_session owner.state name ≡ o → P (held_session owner.state name) → Opened name
+      by : (o : Option LiveSession) → live_session owner.state name ≡ o → P (live_session owner.state name) → Opened name
       by None e h = absurd (not_none (subst P e h))
       by (Some held) e h = at held e (subst P e h) held.live.part refl
 
@@ -174,7 +174,7 @@ module _ (owner : Owner) (owed : List Task) (t : Gathers owner owed) where
   pub owed_wanted : (work : Task) → Contains owed work → IsAwaitedIn owner work
   owed_wanted work owes =
       let name = work.name.label.session in
-      let posted : Contains (tasks_posted_of (label_of owner name) (held_session owner.state name)) work =
+      let posted : Contains (tasks_posted_of (label_of owner name) (live_session owner.state name)) work =
       subst (λ ws. Contains ws work) (t.each name) (contains-filter (is_of name) work (same_name name) owed owes) in
       let o = opened_by name (λ o. Contains (tasks_posted_of (label_of owner name) o) work) (none_in work)
       (λ held closed h. none_in work (subst (λ p. Contains (tasks_posted_in (label_of owner name) held.live held.passed p) work) closed h)) posted in
@@ -260,8 +260,8 @@ module _ (owner : Owner) (owed : List Task) (t : Gathers owner owed) where
   pub record Posting (work : Task) : Type 0 where
     pub name : List ℕ
     pub next : next_session owner ≡ Some name
-    pub held : HeldSession
-    pub there : held_session owner.state name ≡ Some held
+    pub held : LiveSession
+    pub there : live_session owner.state name ≡ Some held
     pub step : OpenStep
     pub is_open : held.live.part ≡ Some step
     pub place : ℕ
@@ -271,7 +271,7 @@ module _ (owner : Owner) (owed : List Task) (t : Gathers owner owed) where
   pub posting : (work : Task) → task_in owner ≡ Some work → Posting work
   posting work some = by (next_session owner) refl
     where
-      closed_none : (label : Label) (held : HeldSession) → held.live.part ≡ None → next_of label (Some held) ≡ Some work → ⊥
+      closed_none : (label : Label) (held : LiveSession) → held.live.part ≡ None → next_of label (Some held) ≡ Some work → ⊥
       closed_none label held closed h = by (next_tile held) refl
         where
           by : (o : Option ℕ) → next_tile held ≡ o → ⊥
@@ -297,7 +297,7 @@ module _ (owner : Owner) (owed : List Task) (t : Gathers owner owed) where
       by : (n : Option (List ℕ)) → next_session owner ≡ n → Posting work
       by None e = absurd (none-some work (sym (ap (option_and_then (task_of_session owner)) e) ∙ some))
       by (Some name) e =
-          let its : next_of (label_of owner name) (held_session owner.state name) ≡ Some work =
+          let its : next_of (label_of owner name) (live_session owner.state name) ≡ Some work =
           sym (ap (option_and_then (task_of_session owner)) e) ∙ some in
           let o = opened_by name (λ o. next_of (label_of owner name) o ≡ Some work) (none-some work)
           (λ held closed h. closed_none (label_of owner name) held closed h) its in
@@ -307,7 +307,7 @@ module _ (owner : Owner) (owed : List Task) (t : Gathers owner owed) where
     abbrev p : Posting work
     p = posting work some
 
-    abbrev after : HeldSession → HeldSession
+    abbrev after : LiveSession → LiveSession
     after held = with_posted held
 
     posted_is : with_posted p.held ≡ with_passed_to (Some p.place) p.held
@@ -343,7 +343,7 @@ module _ (owner : Owner) (owed : List Task) (t : Gathers owner owed) where
   pub owes_some : IsSome owner.waiting → ready_session owner ≡ None → task_in owner ≡ None → 0 < length owed
   owes_some waits none_ready no_task = by owner.waiting refl
     where
-      at : (name : List ℕ) (held : HeldSession) → held_session owner.state name ≡ Some held → (step : OpenStep) → held.live.part ≡ Some step
+      at : (name : List ℕ) (held : LiveSession) → live_session owner.state name ≡ Some held → (step : OpenStep) → held.live.part ≡ Some step
           → 0 < length owed
       at name held e step is =
           let going : is_whole held.live.part ≡ false =
@@ -367,16 +367,16 @@ module _ (owner : Owner) (owed : List Task) (t : Gathers owner owed) where
               find-passes (λ n. is_some (task_of_session owner n)) (names owner.state) n k in
               absurd (true≢false (sym its ∙ ap is_some (sym (ap (option_and_then (task_of_session owner)) k) ∙ no_task)))
 
-          some_owed : (ws : List Task) → owed ≡ ws → (tasks_posted_of (label_of owner name) (held_session owner.state name) ≡ [] → ⊥)
+          some_owed : (ws : List Task) → owed ≡ ws → (tasks_posted_of (label_of owner name) (live_session owner.state name) ≡ [] → ⊥)
               → 0 < length owed
           some_owed [] k some = absurd (some (sym (t.each name) ∙ ap (filter (is_of name)) k))
           some_owed (w ∷ ws) k some = rw k (omega arith)
 
       opened : (command : Command) → owner.waiting ≡ Some command → (o : Option (List ℕ)) → waits_for command ≡ o → 0 < length owed
-      opened command e None k = absurd (subst (λ o. IsSomeAnd o (λ name. IsSomeAnd (held_session owner.state name) (λ held. IsSome held.live.part))) k
+      opened command e None k = absurd (subst (λ o. IsSomeAnd o (λ name. IsSomeAnd (live_session owner.state name) (λ held. IsSome held.live.part))) k
           (subst (λ o. IfSome o (IsOpenFor owner.state)) e t.waits))
       opened command e (Some name) k =
-          let h = subst (λ o. IsSomeAnd o (λ name. IsSomeAnd (held_session owner.state name) (λ held. IsSome held.live.part))) k
+          let h = subst (λ o. IsSomeAnd o (λ name. IsSomeAnd (live_session owner.state name) (λ held. IsSome held.live.part))) k
           (subst (λ o. IfSome o (IsOpenFor owner.state)) e t.waits) in
           let o = opened_by name (λ o. IsSomeAnd o (λ held. IsSome held.live.part)) (λ h. h)
           (λ held closed h. not_some held.live.part closed h) h in

@@ -12,7 +12,7 @@ use Rattle.std.proofs.lemmas.List.FromFn.{get_or-map-range_with_len, length-map-
 use Rattle.std.proofs.lemmas.Option.{slice_get-get_or, same_Some}
 use Rattle.lj_ring.specs.declared.coordinates.Place.{Place}
 use Rattle.lj_tile.specs.Species.{Composition}
-use Rattle.lj_tile.specs.declared.names.Kind.{Kind}
+use Rattle.lj_tile.specs.declared.task_name.Kind.{Kind}
 use Rattle.lj_base.specs.declared.names.Label.{Label}
 use Rattle.lj_tile.specs.Task.{Task}
 use Rattle.lj_step.specs.Sim.{Sim, OpenStep}
@@ -20,7 +20,7 @@ use Rattle.lj_step.specs.OpenSteps.{blocks, is_tile, cover, opened_step, is_tile
 use Rattle.lj_step.specs.OpenSteps.{task_in as task_in_step, task_at, tile_number_of, with_tile, IsAwaitedTaskIn, is_whole}
 use Rattle.lj_step.proofs.Flags.{none_left, count_flags}
 use Rattle.lj_step.proofs.TilesTaken.{number_is}
-use Rattle.lj_session.specs.UserState.{HeldSession, next_tile, next_of, with_passed_to, with_tile_in, with_step}
+use Rattle.lj_session.specs.UserState.{LiveSession, next_tile, next_of, with_passed_to, with_tile_in, with_step}
 use Rattle.lj_pool.specs.Gathering.{times, is_awaited, posted_tiles, tasks_posted_in, tasks_posted_of, tiles_left_in, IsGathered}
 use Rattle.lj_pool.proofs.Numbers.{times-filter, times-none, times-take, times-range, none_set, images-kept}
 use Rattle.lj_pool.proofs.Numbers.{images-taken, found_next, found_none}
@@ -51,7 +51,7 @@ same_step p q e = cc
 none_is : (p : OpenStep) → None ≡ Some p → ⊥
 none_is p e = cc
 
-pub gathered_opened : (kind : Kind) (held : HeldSession) → IsGathered (with_step kind held)
+pub gathered_opened : (kind : Kind) (held : LiveSession) → IsGathered (with_step kind held)
 gathered_opened kind held =
     let u = held.live.composition in
     let frame = held.live.sim.cur in
@@ -63,7 +63,7 @@ gathered_opened kind held =
     }
 
 -- where no step is open, none is gathered
-pub gathered_closed : (held : HeldSession) → held.live.part ≡ None → IsGathered held
+pub gathered_closed : (held : LiveSession) → held.live.part ≡ None → IsGathered held
 gathered_closed held none = record {
   once = λ step k is set. absurd (none_is step (sym none ∙ is));
   few = let left = ap tiles_left_in none in omega (arith, left);
@@ -93,7 +93,7 @@ image_of f p w (x ∷ xs) h = image_head f p w x xs (p x) refl (image_of f p w x
 none_once : (n : ℕ) → n ≡ 0 → n ≡ 1 → ⊥
 none_once n none one = omega arith
 
-module _ (held : HeldSession) (label : Label) (step : OpenStep) (is_open : held.live.part ≡ Some step) (g : IsGathered held) where
+module _ (held : LiveSession) (label : Label) (step : OpenStep) (is_open : held.live.part ≡ Some step) (g : IsGathered held) where
   abbrev live : Sim
   live = held.live
 
@@ -166,7 +166,7 @@ module _ (held : HeldSession) (label : Label) (step : OpenStep) (is_open : held.
 
   -- the next task is posted
   module _ (i : ℕ) (next : next_tile held ≡ Some i) where
-    abbrev after : HeldSession
+    abbrev after : LiveSession
     after = record held { passed = i + 1 }
 
     next_task_is : next_of label (Some held) ≡ Some (task (get_or tiles i 0))

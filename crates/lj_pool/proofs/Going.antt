@@ -12,7 +12,7 @@ use Rattle.lj_session.specs.declared.reply.Reply.{Reply}
 use Rattle.lj_session.specs.Users.{User}
 use Rattle.lj_session.specs.Answers.{answer}
 use Rattle.lj_session.specs.Turns.{turns, waits_for}
-use Rattle.lj_session.specs.UserState.{HeldSession, held_session, owed_in, user_of, with_session_changed, with_posted, with_tile_in, next_tile, with_passed_to, steps_before}
+use Rattle.lj_session.specs.UserState.{LiveSession, live_session, owed_in, user_of, with_session_changed, with_posted, with_tile_in, next_tile, with_passed_to, steps_before}
 use Rattle.lj_session.specs.UserState.{is_whole_in}
 use Rattle.lj_session.specs.Owner.{Owner, user_in, label_of, task_in, with_task_posted, with_task_in, IsAwaitedIn, IsAnswered, IsReplied}
 use Rattle.lj_session.specs.Owner.{WaitsAlike, WaitsAlikeFor, IsLastTurn, is_waited_for, owner_turned}
@@ -31,30 +31,30 @@ use Rattle.lj_pool.proofs.Begun.{turned, turned-owes, turned-waits}
 -- counts that rise, and rise on
 pub rises_more : {a b c : Seen} (n m k : ℕ) → CountsRise n a b → CountsRise m b c → k ≤ n + m → CountsRise k a c
 rises_more n m k first second within = record {
-  good = omega (arith, first.good, second.good);
+  expected = omega (arith, first.expected, second.expected);
   strays = omega (arith, first.strays, second.strays);
-  together = λ good strays.
-      let before = first.together (omega (arith, good, second.good)) (omega (arith, strays, second.strays)) in
-      let after = second.together good strays in
+  together = λ expected strays.
+      let before = first.together (omega (arith, expected, second.expected)) (omega (arith, strays, second.strays)) in
+      let after = second.together expected strays in
       omega (arith, before, after, within);
 }
 
-pub rises_none : (a b : Seen) (k : ℕ) → b.good ≡ a.good → b.strays ≡ a.strays → k ≤ 0 → CountsRise k a b
-rises_none a b k good strays none =
-    record { good = omega arith; strays = omega arith; together = λ _ _. omega (arith, good, strays, none) }
+pub rises_none : (a b : Seen) (k : ℕ) → b.expected ≡ a.expected → b.strays ≡ a.strays → k ≤ 0 → CountsRise k a b
+rises_none a b k expected strays none =
+    record { expected = omega arith; strays = omega arith; together = λ _ _. omega (arith, expected, strays, none) }
 
 pub rises_one : (work : Task) (a b : Seen) (k : ℕ) → IsHandedOut work a b → k ≤ 1 → CountsRise k a b
 rises_one work a b k (inl off) one =
-    let good = off.good in let strays = off.strays in
-    record { good = omega (arith, good); strays = omega (arith, strays); together = λ g s. omega (arith, good, strays, g, s, one) }
+    let expected = off.expected in let strays = off.strays in
+    record { expected = omega (arith, expected); strays = omega (arith, strays); together = λ g s. omega (arith, expected, strays, g, s, one) }
 rises_one work a b k (inr stray) one =
-    let good = stray.good in let strays = stray.strays in
-    record { good = omega (arith, good); strays = omega (arith, strays); together = λ g s. omega (arith, good, strays, g, s, one) }
+    let expected = stray.expected in let strays = stray.strays in
+    record { expected = omega (arith, expected); strays = omega (arith, strays); together = λ g s. omega (arith, expected, strays, g, s, one) }
 
 -- one result is counted once
-good_once : (work : Task) (a b : Seen) → IsHandedOut work a b → b.good ≤ a.good + 1
-good_once work a b (inl off) = let good = off.good in omega (arith, good)
-good_once work a b (inr stray) = let good = stray.good in omega (arith, good)
+good_once : (work : Task) (a b : Seen) → IsHandedOut work a b → b.expected ≤ a.expected + 1
+good_once work a b (inl off) = let expected = off.expected in omega (arith, expected)
+good_once work a b (inr stray) = let expected = stray.expected in omega (arith, expected)
 
 -- what waits is answered alike
 alike_then_for : (x y z : Option Command) (u v w : User) → WaitsAlikeFor x y u v → WaitsAlikeFor y z v w → WaitsAlikeFor x z u w
@@ -118,8 +118,8 @@ goes_unchanged owner before after t same = record {
   alike = alike_same owner owner refl refl;
   number = refl;
   quota = refl;
-  counted = rises_none before after (tiles_coming owner - tiles_coming owner) same.good same.strays (omega arith);
-  handed = let good = same.good in omega (arith, good);
+  counted = rises_none before after (tiles_coming owner - tiles_coming owner) same.expected same.strays (omega arith);
+  handed = let expected = same.expected in omega (arith, expected);
   turns = omega arith;
   tiles = omega arith;
   posts = omega arith;
@@ -128,11 +128,11 @@ goes_unchanged owner before after t same = record {
 }
 
 pub goes_nothing : (owner : Owner) (seen : Seen) → Gathers owner seen.owed → GoesOn owner seen owner seen
-goes_nothing owner seen t = goes_unchanged owner seen seen t (record { owed = refl; good = refl; strays = refl })
+goes_nothing owner seen t = goes_unchanged owner seen seen t (record { owed = refl; expected = refl; strays = refl })
 
 -- one session changed that is owed as many steps as before, and means the same
-module _ (owner : Owner) (name : List ℕ) (change : HeldSession → HeldSession) (held : HeldSession) (there : held_session owner.state name ≡ Some held)
-    (owed : (held : HeldSession) → (change held).owed ≡ held.owed)
+module _ (owner : Owner) (name : List ℕ) (change : LiveSession → LiveSession) (held : LiveSession) (there : live_session owner.state name ≡ Some held)
+    (owed : (held : LiveSession) → (change held).owed ≡ held.owed)
     (user : user_of (with_session_changed name change owner.state) ≡ user_in owner) where
   abbrev next : Owner
   next = record { state = with_session_changed name change owner.state; number = owner.number; waiting = owner.waiting }
@@ -173,7 +173,7 @@ module _ (owner : Owner) (name : List ℕ) (change : HeldSession → HeldSession
       omega (arith, sum, own)
 
 -- a post leaves what is owed
-owed_posted : (held : HeldSession) → (with_posted held).owed ≡ held.owed
+owed_posted : (held : LiveSession) → (with_posted held).owed ≡ held.owed
 owed_posted held = by (next_tile held)
   where
     by : (o : Option ℕ) → (with_passed_to o held).owed ≡ held.owed
@@ -229,8 +229,8 @@ module _ (owner : Owner) (before after : Seen) (t : Gathers owner before.owed) (
         number = ap (λ (o : Owner). o.number) there_is;
         quota = ap (λ (o : Owner). o.state.quota) there_is ∙ changed-quota owner.state p.name with_posted;
         counted = rises_none before after (tiles_coming owner - tiles_coming (with_task_posted owner))
-            posted.good posted.strays (omega (arith, tiles));
-        handed = let good = posted.good in omega (arith, tiles, good);
+            posted.expected posted.strays (omega (arith, tiles));
+        handed = let expected = posted.expected in omega (arith, tiles, expected);
         turns = omega (arith, turns_same);
         tiles = omega (arith, tiles);
         posts = omega (arith, less);
@@ -252,7 +252,7 @@ module _ (owner : Owner) (before after : Seen) (t : Gathers owner before.owed) (
     abbrev o : Opened owner before.owed t work.name.label.session
     o = taken_open owner before.owed t work wanted
 
-    change : HeldSession → HeldSession
+    change : LiveSession → LiveSession
     change = with_tile_in (tile_number_of work)
 
     wanted_there : IsAwaitedTaskIn o.held.live
@@ -316,7 +316,7 @@ module _ (owner : Owner) (before after : Seen) (t : Gathers owner before.owed) (
         number = refl;
         quota = refl;
         counted = rises_one work before after (tiles_coming owner - tiles_coming owner) handed (omega arith);
-        handed = let good = stray.good in omega (arith, good);
+        handed = let expected = stray.expected in omega (arith, expected);
         turns = omega arith;
         tiles = omega arith;
         posts = omega arith;
@@ -350,7 +350,7 @@ pub owed-coming : (owner : Owner) (seen : Seen) → Gathers owner seen.owed → 
 owed-coming owner seen t some = by seen.owed refl
   where
     without : List Task → Seen
-    without rest = record { owed = rest; good = one_more seen.good; strays = seen.strays; closed = seen.closed }
+    without rest = record { owed = rest; expected = one_more seen.expected; strays = seen.strays; closed = seen.closed }
 
     by : (owed : List Task) → seen.owed ≡ owed → 0 < tiles_coming owner
     by [] e = absurd (let none = ap length e in omega (arith, none, some))
@@ -361,7 +361,7 @@ owed-coming owner seen t some = by seen.owed refl
           was = e;
           first = λ there. let few = there.1 in omega (arith, few);
           owed = refl;
-          good = refl;
+          expected = refl;
           strays = refl;
         } in
         let less = taken-fewer owner seen (without rest) t work (inl off)
@@ -372,14 +372,14 @@ owed-coming owner seen t some = by seen.owed refl
 pub post-coming : (owner : Owner) (seen : Seen) → Gathers owner seen.owed → (work : Task) → task_in owner ≡ Some work
     → 0 < tiles_coming owner
 post-coming owner seen t work some =
-    let goes = goes_posted owner seen with_it t work some (record { owed = refl; good = refl; strays = refl }) in
+    let goes = goes_posted owner seen with_it t work some (record { owed = refl; expected = refl; strays = refl }) in
     let many = length-append seen.owed (work ∷ []) in
     let coming = owed-coming (with_task_posted owner) with_it goes.gathers (omega (arith, many)) in
     let same = goes.tiles in
     omega (arith, coming, same)
   where
     with_it : Seen
-    with_it = record { owed = seen.owed ++ work ∷ []; good = seen.good; strays = seen.strays; closed = seen.closed }
+    with_it = record { owed = seen.owed ++ work ∷ []; expected = seen.expected; strays = seen.strays; closed = seen.closed }
 
 -- a session turned, where that answers nothing
 pub goes_turned : (owner next : Owner) (seen : Seen) (t : Gathers owner seen.owed) (name : List ℕ)

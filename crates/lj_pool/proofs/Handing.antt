@@ -3,7 +3,7 @@ use Rattle.std.proofs.Common.{◌≡◌, ℕ, ◌-◌, ◌<◌, ◌≤◌, List,
 use Rattle.std.specs.List.{IsDistinct, Contains}
 use Rattle.std.specs.Str.{bytes_eq}
 use Rattle.lj_tile.specs.Task.{Task}
-use Rattle.lj_session.specs.UserState.{UserState, owed_in, state_at_rest, names}
+use Rattle.lj_session.specs.UserState.{UserState, owed_in, with_steps_restarted, names}
 use Rattle.lj_session.specs.Owner.{Owner, owner_of_state, is_waited_for}
 use Rattle.lj_wire.specs.declared.reader.phase.Phase.TheVariants.{Open}
 use Rattle.lj_wire.specs.LineReader.{LineReader}
@@ -58,7 +58,7 @@ module _ {owner : Owner} {seen : Seen} (idle : owner.waiting ≡ None) {next : O
 
 -- the state handed back
 module _ (owner : Owner) (seen : Seen) (t : Gathers owner seen.owed) (idle : owner.waiting ≡ None) (back : UserState)
-    (is : back ≡ state_at_rest owner.state) where
+    (is : back ≡ with_steps_restarted owner.state) where
   pub back_few : tiles_to_come owner.state ≤ tiles_owed back
   back_few = subst (λ o. tiles_to_come owner.state ≤ tiles_owed o) (sym is) (rested-few owner seen.owed t idle)
 

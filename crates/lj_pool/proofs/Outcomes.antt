@@ -21,8 +21,8 @@ use Rattle.lj_session.specs.Loads.{admission, refusal_unless}
 use Rattle.lj_session.specs.Answers.{session_named, session_of, simulation_saved, can_advance, command_result, reply_and_user, answer}
 use Rattle.lj_session.specs.Turns.{turns, waits_for, advance_turns, measure_turns}
 use Rattle.lj_session.specs.Begins.{OnRefusal}
-use Rattle.lj_session.specs.UserState.{HeldSession, UserState, IsAtWork, IsIdle, IsIdleIn, SameSteps, StepsAfterLoad, StepsFollow, user_of}
-use Rattle.lj_session.specs.UserState.{held_session, with_start, turns_before}
+use Rattle.lj_session.specs.UserState.{LiveSession, UserState, IsAtWork, IsIdle, IsIdleIn, SameSteps, StepsAfterLoad, StepsFollow, user_of}
+use Rattle.lj_session.specs.UserState.{live_session, with_start, turns_before}
 use Rattle.lj_session.specs.Owner.{IsAnswered}
 use Rattle.lj_session.proofs.AtWork.{kind-none}
 use Rattle.lj_session.proofs.Entries.{by_test, named-put_any}
@@ -97,18 +97,18 @@ pub record RestsBoth (old new : UserState) (name : List ℕ) : Type 0 where
   pub after : IsIdleIn new name
 
 pub record SameThere (old new : UserState) (name : List ℕ) : Type 0 where
-  pub before : HeldSession
-  pub after : HeldSession
-  pub was : held_session old name ≡ Some before
-  pub is : held_session new name ≡ Some after
+  pub before : LiveSession
+  pub after : LiveSession
+  pub was : live_session old name ≡ Some before
+  pub is : live_session new name ≡ Some after
   pub same : SameSteps before after
 
 pub record StartedThere (old new : UserState) (command : Command) (name : List ℕ) : Type 0 where
   pub n : ℕ
   pub start : command ≡ Start name n
-  pub before : HeldSession
-  pub was : held_session old name ≡ Some before
-  pub is : held_session new name ≡ Some (with_start n before)
+  pub before : LiveSession
+  pub was : live_session old name ≡ Some before
+  pub is : live_session new name ≡ Some (with_start n before)
 
 abbrev pub Outcome : UserState → UserState → Command → List ℕ → Type 0
 Outcome old new command name = RestsBoth old new name ⊎ SameThere old new name ⊎ StartedThere old new command name
@@ -120,7 +120,7 @@ module _ (old new : UserState) (command : Command) (reply : Reply) (work : IsAtW
   answer_user : user_of new ≡ (answer (user_of old) command answered.mark).1
   answer_user = ap (λ a. a.1) answered.answers
 
-  absent : (held : HeldSession) → held_session old name ≡ None → held_session old name ≡ Some held → ⊥
+  absent : (held : LiveSession) → live_session old name ≡ None → live_session old name ≡ Some held → ⊥
   absent held none some = none-some held (sym none ∙ some)
 
   -- nothing is owed to a session that the command waits for
@@ -130,12 +130,12 @@ module _ (old new : UserState) (command : Command) (reply : Reply) (work : IsAtW
       record { owed = none; closed = work name held found ∙ kind-none None name held none refl }
 
   generic : IsIdleIn old name
-      → ((after : HeldSession) → held_session new name ≡ Some after → IsIdle after ⊎ IsSomeAnd (held_session old name) (λ held. SameSteps held after))
+      → ((after : LiveSession) → live_session new name ≡ Some after → IsIdle after ⊎ IsSomeAnd (live_session old name) (λ held. SameSteps held after))
       → Outcome old new command name
-  generic idle follows = by (held_session new name) refl
+  generic idle follows = by (live_session new name) refl
     where
-      kept : (after : HeldSession) → held_session new name ≡ Some after → (o : Option HeldSession) → held_session old name ≡ o
-          → IsSomeAnd (held_session old name) (λ held. SameSteps held after) → Outcome old new command name
+      kept : (after : LiveSession) → live_session new name ≡ Some after → (o : Option LiveSession) → live_session old name ≡ o
+          → IsSomeAnd (live_session old name) (λ held. SameSteps held after) → Outcome old new command name
       kept after e None w same = absurd (subst (λ o. IsSomeAnd o (λ held. SameSteps held after)) w same)
       kept after e (Some before) w same = inr (inl (record {
         before = before;
@@ -145,39 +145,39 @@ module _ (old new : UserState) (command : Command) (reply : Reply) (work : IsAtW
         same = subst (λ o. IsSomeAnd o (λ held. SameSteps held after)) w same;
       }))
 
-      either : (after : HeldSession) → held_session new name ≡ Some after
-          → IsIdle after ⊎ IsSomeAnd (held_session old name) (λ held. SameSteps held after) → Outcome old new command name
+      either : (after : LiveSession) → live_session new name ≡ Some after
+          → IsIdle after ⊎ IsSomeAnd (live_session old name) (λ held. SameSteps held after) → Outcome old new command name
       either after e (inl i) = inl (record {
         before = idle;
         after = λ held found. subst IsIdle (same_Some after held (sym e ∙ found)) i;
       })
-      either after e (inr same) = kept after e (held_session old name) refl same
+      either after e (inr same) = kept after e (live_session old name) refl same
 
-      by : (o : Option HeldSession) → held_session new name ≡ o → Outcome old new command name
+      by : (o : Option LiveSession) → live_session new name ≡ o → Outcome old new command name
       by None e = inl (record { before = idle; after = λ held found. absurd (none-some held (sym e ∙ found)) })
       by (Some after) e = either after e (follows after e)
 
   -- where it is there neither before nor after
-  gone : held_session old name ≡ None → held_session new name ≡ None → Outcome old new command name
+  gone : live_session old name ≡ None → live_session new name ≡ None → Outcome old new command name
   gone before after = inl (record {
     before = λ held found. absurd (none-some held (sym before ∙ found));
     after = λ held found. absurd (none-some held (sym after ∙ found));
   })
 
   -- it stays
-  pub staying : ((held : HeldSession) → held_session old name ≡ Some held → IsSome (value_named name (answer (user_of old) command answered.mark).1.sessions))
-      → (held : HeldSession) → held_session old name ≡ Some held → held_session new name ≡ None → ⊥
+  pub staying : ((held : LiveSession) → live_session old name ≡ Some held → IsSome (value_named name (answer (user_of old) command answered.mark).1.sessions))
+      → (held : LiveSession) → live_session old name ≡ Some held → live_session new name ≡ None → ⊥
   staying stays held found none =
       let some : is_some (value_named name (user_of new).sessions) ≡ true =
       ap (λ (u : User). is_some (value_named name u.sessions)) answer_user ∙ stays held found in
       true≢false (sym some ∙ ap is_some (named-absent new name none))
 
-  same_kept : ((held : HeldSession) → held_session old name ≡ Some held → held_session new name ≡ None → ⊥)
-      → ((after : HeldSession) → held_session new name ≡ Some after → IsSomeAnd (held_session old name) (λ held. SameSteps held after))
+  same_kept : ((held : LiveSession) → live_session old name ≡ Some held → live_session new name ≡ None → ⊥)
+      → ((after : LiveSession) → live_session new name ≡ Some after → IsSomeAnd (live_session old name) (λ held. SameSteps held after))
       → Outcome old new command name
-  same_kept stays follows = by (held_session old name) refl (held_session new name) refl
+  same_kept stays follows = by (live_session old name) refl (live_session new name) refl
     where
-      by : (o : Option HeldSession) → held_session old name ≡ o → (p : Option HeldSession) → held_session new name ≡ p → Outcome old new command name
+      by : (o : Option LiveSession) → live_session old name ≡ o → (p : Option LiveSession) → live_session new name ≡ p → Outcome old new command name
       by None w None e = gone w e
       by (Some before) w None e = absurd (stays before w e)
       by None w (Some after) e = absurd (subst (λ o. IsSomeAnd o (λ held. SameSteps held after)) w (follows after e))
@@ -190,12 +190,12 @@ module _ (old new : UserState) (command : Command) (reply : Reply) (work : IsAtW
       }))
 
   start_owes : (n : ℕ) → command ≡ Start name n
-      → ((held : HeldSession) → held_session old name ≡ Some held → held_session new name ≡ None → ⊥)
-      → ((after : HeldSession) → held_session new name ≡ Some after → IsSomeAnd (held_session old name) (λ held. after ≡ with_start n held))
+      → ((held : LiveSession) → live_session old name ≡ Some held → live_session new name ≡ None → ⊥)
+      → ((after : LiveSession) → live_session new name ≡ Some after → IsSomeAnd (live_session old name) (λ held. after ≡ with_start n held))
       → Outcome old new command name
-  start_owes n which stays follows = by (held_session old name) refl (held_session new name) refl
+  start_owes n which stays follows = by (live_session old name) refl (live_session new name) refl
     where
-      by : (o : Option HeldSession) → held_session old name ≡ o → (p : Option HeldSession) → held_session new name ≡ p → Outcome old new command name
+      by : (o : Option LiveSession) → live_session old name ≡ o → (p : Option LiveSession) → live_session new name ≡ p → Outcome old new command name
       by None w None e = gone w e
       by (Some before) w None e = absurd (stays before w e)
       by None w (Some after) e = absurd (subst (λ o. IsSomeAnd o (λ held. after ≡ with_start n held)) w (follows after e))
@@ -204,10 +204,10 @@ module _ (old new : UserState) (command : Command) (reply : Reply) (work : IsAtW
         start = which;
         before = before;
         was = w;
-        is = e ∙ ap (λ (h : HeldSession). Some h) (subst (λ o. IsSomeAnd o (λ held. after ≡ with_start n held)) w (follows after e));
+        is = e ∙ ap (λ (h : LiveSession). Some h) (subst (λ o. IsSomeAnd o (λ held. after ≡ with_start n held)) w (follows after e));
       }))
 
-  some_of : (held : HeldSession) → held_session old name ≡ Some held → IsSome (value_named name (user_of old).sessions)
+  some_of : (held : LiveSession) → live_session old name ≡ Some held → IsSome (value_named name (user_of old).sessions)
   some_of held found = ap is_some (named-held old name held found)
 
 -- for each command
@@ -222,18 +222,18 @@ pub outcome : (old new : UserState) (command : Command) (reply : Reply) → IsAt
     → StepsFollow command old new → turns_before old command ≡ 0 → (name : List ℕ) → session_named command ≡ Some name
     → Outcome old new command name
 unfolding waits_for
-outcome old new (Load load) reply work a u s z name n = by (held_session old name) refl
+outcome old new (Load load) reply work a u s z name n = by (live_session old name) refl
   where
     is : load.name ≡ name
     is = same_name_of load.name name n
 
-    unchanged_by : (held : HeldSession) → held_session old name ≡ Some held → new ≡ old
+    unchanged_by : (held : LiveSession) → live_session old name ≡ Some held → new ≡ old
     unchanged_by held found =
         let refused = refused-load (user_of old) load a.mark
         (ap (λ k. is_some (value_named k (user_of old).sessions)) is ∙ ap is_some (named-held old name held found)) in
         subst (λ r. OnRefusal r (new ≡ old)) (ap (λ x. x.0) a.answers ∙ refused.1) u
 
-    by : (o : Option HeldSession) → held_session old name ≡ o → Outcome old new (Load load) name
+    by : (o : Option LiveSession) → live_session old name ≡ o → Outcome old new (Load load) name
     by None e = generic old new (Load load) reply work a u s z name n
         (λ held found. absurd (none-some held (sym e ∙ found)))
         (λ after there. inl (subst (λ o. StepsAfterLoad o after) e (s name after n there)))
@@ -241,7 +241,7 @@ outcome old new (Load load) reply work a u s z name n = by (held_session old nam
       before = held;
       after = held;
       was = e;
-      is = ap (λ (o : UserState). held_session o name) (unchanged_by held e) ∙ e;
+      is = ap (λ (o : UserState). live_session o name) (unchanged_by held e) ∙ e;
       same = record { live = refl; passed = refl; owed = refl };
     }))
 outcome old new (Start session k) reply work a u s z name n =

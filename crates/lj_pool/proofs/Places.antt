@@ -224,8 +224,8 @@ task_at tasks places owed here kept within d =
 
 -- the first such task is owed no more, and a result is counted
 pub taken_off : (task : Task) (old new : Seen) (here : ℕ) → IsFirst old.owed task here → new.owed ≡ remove old.owed here
-    → new.good ≡ one_more old.good → new.strays ≡ old.strays → TakesOff task old new
-taken_off task old new here first left good strays = record {
+    → new.expected ≡ one_more old.expected → new.strays ≡ old.strays → TakesOff task old new
+taken_off task old new here first left expected strays = record {
   front = take here old.owed;
   behind = drop (suc here) old.owed;
   was = sym (take-append-drop here old.owed)
@@ -236,7 +236,7 @@ taken_off task old new here first left good strays = record {
       let under : there.0 < here = omega (arith, there.1, len) in
       first.before there.0 under (sym (get_or-take here old.owed there.0 task under) ∙ there.2);
   owed = left;
-  good = good;
+  expected = expected;
   strays = strays;
 }
 

@@ -23,14 +23,14 @@ use Rattle.lj_pool.proofs.Going.{fewer_posts, goes_posted, goes_then, goes_uncha
 
 -- no task is posted, and then one more
 pub posted_none : (tasks : List Task) (seen : Seen) → ArePosted (take 0 tasks) seen seen
-posted_none tasks seen = record { owed = sym (append-nil seen.owed); good = refl; strays = refl }
+posted_none tasks seen = record { owed = sym (append-nil seen.owed); expected = refl; strays = refl }
 
 pub posted_more : (tasks : List Task) (k : ℕ) (work : Task) (a b c : Seen) → k < length tasks → work ≡ get_or tasks k work
     → ArePosted (take k tasks) a b → IsPosted work b c → ArePosted (take (k + 1) tasks) a c
 posted_more tasks k work a b c inside read before posted = record {
   owed = posted.owed ∙ ap (λ front. front ++ work ∷ []) before.owed ∙ append_assoc a.owed (take k tasks) (work ∷ [])
       ∙ ap (λ x. a.owed ++ (take k tasks ++ x ∷ [])) read ∙ ap (λ l. a.owed ++ l) (sym (take_more tasks k work inside));
-  good = posted.good ∙ before.good;
+  expected = posted.expected ∙ before.expected;
   strays = posted.strays ∙ before.strays;
 }
 
@@ -97,20 +97,20 @@ module _ (owner : Owner) (before : Seen) (t : Gathers owner before.owed) (tasks 
 
   goes_each : (n : ℕ) → n ≤ length tasks → AreNext n tasks owner → (after : Seen) → ArePosted (take n tasks) before after → Goes n after
   goes_each zero most next after posted = record {
-    goes = goes_unchanged owner before after t (record { owed = posted.owed ∙ append-nil before.owed; good = posted.good; strays = posted.strays });
+    goes = goes_unchanged owner before after t (record { owed = posted.owed ∙ append-nil before.owed; expected = posted.expected; strays = posted.strays });
     fewer = omega arith;
     number = refl;
   }
   goes_each (suc n) most next after posted =
       let mid : Seen = record before { owed = before.owed ++ take n tasks } in
       let first : Goes n mid = goes_each n (omega (arith, most)) (λ k below. next k (omega (arith, below))) mid
-      (record { owed = refl; good = refl; strays = refl }) in
+      (record { owed = refl; expected = refl; strays = refl }) in
       let work : Task = get_or tasks n blank_task in
       let some : task_in (after_posts n owner) ≡ Some work = next n (omega arith) in
       let last : IsPosted work mid after = record {
         owed = posted.owed ∙ ap (λ l. before.owed ++ l) (one_more n (omega (arith, most)))
             ∙ sym (append_assoc before.owed (take n tasks) (work ∷ []));
-        good = posted.good;
+        expected = posted.expected;
         strays = posted.strays;
       } in
       let less = fewer_posts (after_posts n owner) mid after first.goes.gathers work some in
@@ -141,7 +141,7 @@ module _ (owner : Owner) (before : Seen) (t : Gathers owner before.owed) (tasks 
   users_all n most next k d inside =
       let below : k < n = omega (arith, inside, length-take-le n tasks most) in
       let front : Goes k (seen_then tasks k before) = goes_each k (omega (arith, below, most)) (λ j less. next j (omega (arith, less, below)))
-      (seen_then tasks k before) (record { owed = refl; good = refl; strays = refl }) in
+      (seen_then tasks k before) (record { owed = refl; expected = refl; strays = refl }) in
       let read : get_or (take n tasks) k d ≡ get_or tasks k blank_task =
       get_or-take n tasks k d below ∙ get_or_default tasks k d blank_task (omega (arith, below, most)) in
       ap (λ (task : Task). task.name.label.user) read

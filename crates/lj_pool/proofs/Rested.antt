@@ -8,7 +8,7 @@ use Rattle.std.proofs.lemmas.Bool.{ltb-true, ltb-false}
 use Rattle.std.proofs.lemmas.List.Sums.{sum_by-cons}
 use Rattle.std.proofs.lemmas.Option.{none-some, same_Some}
 use Rattle.lj_tile.specs.Task.{Task}
-use Rattle.lj_session.specs.UserState.{HeldSession, UserState, IsAtWork, held_session, owed_in, names, session_at_rest, state_at_rest}
+use Rattle.lj_session.specs.UserState.{LiveSession, UserState, IsAtWork, live_session, owed_in, names, with_step_restarted, with_steps_restarted}
 use Rattle.lj_session.specs.Owner.{Owner, owner_of_state, label_of}
 use Rattle.lj_session.proofs.AtWork.{at_work-rested, kind-none}
 use Rattle.lj_session.proofs.Entries.{by_test, named-seen}
@@ -21,42 +21,42 @@ use Rattle.lj_pool.proofs.Gathered.{Opened, owed_wanted, taken_open}
 use Rattle.lj_pool.proofs.Tiles.{rest-tiles, rest-owed, rest-more, rest-gathered, rest-posted, closed-part, closed-posted}
 
 -- sums over the sessions of a state begun anew
-rested-sum : (f g : HeldSession → ℕ) → ((held : HeldSession) → f (session_at_rest held) ≡ g held) → (es : List (List ℕ × HeldSession))
-    → sum_by (λ (e : List ℕ × HeldSession). f e.1) (map (λ (e : List ℕ × HeldSession). (e.0, session_at_rest e.1)) es)
-    ≡ sum_by (λ (e : List ℕ × HeldSession). g e.1) es
+rested-sum : (f g : LiveSession → ℕ) → ((held : LiveSession) → f (with_step_restarted held) ≡ g held) → (es : List (List ℕ × LiveSession))
+    → sum_by (λ (e : List ℕ × LiveSession). f e.1) (map (λ (e : List ℕ × LiveSession). (e.0, with_step_restarted e.1)) es)
+    ≡ sum_by (λ (e : List ℕ × LiveSession). g e.1) es
 rested-sum f g same [] = refl
 rested-sum f g same (e ∷ es) =
-    let new = sum_by-cons (λ (e : List ℕ × HeldSession). f e.1) (e.0, session_at_rest e.1) (map (λ (e : List ℕ × HeldSession). (e.0, session_at_rest e.1)) es) in
-    let old = sum_by-cons (λ (e : List ℕ × HeldSession). g e.1) e es in
+    let new = sum_by-cons (λ (e : List ℕ × LiveSession). f e.1) (e.0, with_step_restarted e.1) (map (λ (e : List ℕ × LiveSession). (e.0, with_step_restarted e.1)) es) in
+    let old = sum_by-cons (λ (e : List ℕ × LiveSession). g e.1) e es in
     let head = same e.1 in
     let tail = rested-sum f g same es in
     omega (arith, new, old, head, tail)
 
-pub rested-tiles : (owned : UserState) → tiles_to_come (state_at_rest owned) ≡ tiles_owed owned
-rested-tiles owned = rested-sum tiles_of_session owed_tiles rest-tiles owned.sessions
+pub rested-tiles : (state : UserState) → tiles_to_come (with_steps_restarted state) ≡ tiles_owed state
+rested-tiles state = rested-sum tiles_of_session owed_tiles rest-tiles state.sessions
 
-rested-owed : (owned : UserState) → tiles_owed (state_at_rest owned) ≡ tiles_owed owned
-rested-owed owned = rested-sum owed_tiles owed_tiles rest-owed owned.sessions
+rested-owed : (state : UserState) → tiles_owed (with_steps_restarted state) ≡ tiles_owed state
+rested-owed state = rested-sum owed_tiles owed_tiles rest-owed state.sessions
 
-rested-there : (owned : UserState) (name : List ℕ) → held_session (state_at_rest owned) name ≡ option_map session_at_rest (held_session owned name)
-rested-there owned name = named-seen session_at_rest name owned.sessions
+rested-there : (state : UserState) (name : List ℕ) → live_session (with_steps_restarted state) name ≡ option_map with_step_restarted (live_session state name)
+rested-there state name = named-seen with_step_restarted name state.sessions
 
 -- as many steps are owed to each session
-rest-count : (held : HeldSession) → (session_at_rest held).owed ≡ held.owed
+rest-count : (held : LiveSession) → (with_step_restarted held).owed ≡ held.owed
 rest-count held = by_test (nat_lt 0 held.owed) (λ t. rw t refl) (λ t. rw t refl)
 
-pub rested-owes : (owned : UserState) (name : List ℕ) → owed_in (state_at_rest owned) name ≡ owed_in owned name
-rested-owes owned name = ap (λ o. option_map_or (λ (h : HeldSession). h.owed) o 0) (rested-there owned name) ∙ by (held_session owned name)
+pub rested-owes : (state : UserState) (name : List ℕ) → owed_in (with_steps_restarted state) name ≡ owed_in state name
+rested-owes state name = ap (λ o. option_map_or (λ (h : LiveSession). h.owed) o 0) (rested-there state name) ∙ by (live_session state name)
   where
-    by : (o : Option HeldSession) → option_map_or (λ (h : HeldSession). h.owed) (option_map session_at_rest o) 0 ≡ option_map_or (λ (h : HeldSession). h.owed) o 0
+    by : (o : Option LiveSession) → option_map_or (λ (h : LiveSession). h.owed) (option_map with_step_restarted o) 0 ≡ option_map_or (λ (h : LiveSession). h.owed) o 0
     by None = refl
     by (Some held) = rest-count held
 
 -- no more is to come of a state than of the same begun anew
 pub rested-few : (owner : Owner) (owed : List Task) → Gathers owner owed → owner.waiting ≡ None
-    → tiles_to_come owner.state ≤ tiles_owed (state_at_rest owner.state)
+    → tiles_to_come owner.state ≤ tiles_owed (with_steps_restarted owner.state)
 rested-few owner owed t idle =
-    let below = sum-below tiles_of_session owner.state.sessions (state_at_rest owner.state).sessions t.distinct more in
+    let below = sum-below tiles_of_session owner.state.sessions (with_steps_restarted owner.state).sessions t.distinct more in
     let all = rested-tiles owner.state in
     let same = rested-owed owner.state in
     omega (arith, below, all, same)
@@ -64,45 +64,45 @@ rested-few owner owed t idle =
     work : IsAtWork None owner.state
     work = subst (λ w. IsAtWork w owner.state) idle t.at_work
 
-    more : (name : List ℕ) (held : HeldSession) → held_session owner.state name ≡ Some held
-        → tiles_of_session held ≤ option_map_or tiles_of_session (held_session (state_at_rest owner.state) name) 0
+    more : (name : List ℕ) (held : LiveSession) → live_session owner.state name ≡ Some held
+        → tiles_of_session held ≤ option_map_or tiles_of_session (live_session (with_steps_restarted owner.state) name) 0
     more name held found =
-        let there = ap (λ o. option_map_or tiles_of_session o 0) (rested-there owner.state name ∙ ap (option_map session_at_rest) found) in
+        let there = ap (λ o. option_map_or tiles_of_session o 0) (rested-there owner.state name ∙ ap (option_map with_step_restarted) found) in
         let is = rest-tiles held in
         let few = rest-more held (t.gathered name held found) (work name held found) in
         omega (arith, there, is, few)
 
 -- an owner that has just been given a state is owed nothing
-pub gathers-entered : (owned : UserState) (number : ℕ) → IsDistinct bytes_eq (names (state_at_rest owned)) → Gathers (owner_of_state owned number) []
-gathers-entered owned number distinct = record {
-  at_work = at_work-rested owned;
+pub gathers-entered : (state : UserState) (number : ℕ) → IsDistinct bytes_eq (names (with_steps_restarted state)) → Gathers (owner_of_state state number) []
+gathers-entered state number distinct = record {
+  at_work = at_work-rested state;
   waits = tt;
   distinct = distinct;
-  gathered = λ name held found. by name held found (held_session owned name) refl;
-  each = λ name. sym (posted name (held_session owned name) refl);
+  gathered = λ name held found. by name held found (live_session state name) refl;
+  each = λ name. sym (posted name (live_session state name) refl);
 }
   where
-    by : (name : List ℕ) (held : HeldSession) → held_session (state_at_rest owned) name ≡ Some held → (o : Option HeldSession) → held_session owned name ≡ o
+    by : (name : List ℕ) (held : LiveSession) → live_session (with_steps_restarted state) name ≡ Some held → (o : Option LiveSession) → live_session state name ≡ o
         → IsGathered held
-    by name held found None e = absurd (none-some held (sym (rested-there owned name ∙ ap (option_map session_at_rest) e) ∙ found))
+    by name held found None e = absurd (none-some held (sym (rested-there state name ∙ ap (option_map with_step_restarted) e) ∙ found))
     by name held found (Some was) e =
         subst IsGathered
-        (same_Some (session_at_rest was) held (sym (rested-there owned name ∙ ap (option_map session_at_rest) e) ∙ found)) (rest-gathered was)
+        (same_Some (with_step_restarted was) held (sym (rested-there state name ∙ ap (option_map with_step_restarted) e) ∙ found)) (rest-gathered was)
 
-    posted : (name : List ℕ) (o : Option HeldSession) → held_session owned name ≡ o
-        → tasks_posted_of (label_of (owner_of_state owned number) name) (held_session (state_at_rest owned) name) ≡ []
-    posted name None e = ap (tasks_posted_of (label_of (owner_of_state owned number) name)) (rested-there owned name ∙ ap (option_map session_at_rest) e)
+    posted : (name : List ℕ) (o : Option LiveSession) → live_session state name ≡ o
+        → tasks_posted_of (label_of (owner_of_state state number) name) (live_session (with_steps_restarted state) name) ≡ []
+    posted name None e = ap (tasks_posted_of (label_of (owner_of_state state number) name)) (rested-there state name ∙ ap (option_map with_step_restarted) e)
     posted name (Some was) e =
-        ap (tasks_posted_of (label_of (owner_of_state owned number) name)) (rested-there owned name ∙ ap (option_map session_at_rest) e)
-        ∙ rest-posted was (label_of (owner_of_state owned number) name)
+        ap (tasks_posted_of (label_of (owner_of_state state number) name)) (rested-there state name ∙ ap (option_map with_step_restarted) e)
+        ∙ rest-posted was (label_of (owner_of_state state number) name)
 
 -- nothing waits, and these tasks are owed
 module _ (owner : Owner) (owed : List Task) (t : Gathers owner owed) (idle : owner.waiting ≡ None) where
   work : IsAtWork None owner.state
   work = subst (λ w. IsAtWork w owner.state) idle t.at_work
 
-  none_posted : (name : List ℕ) → owed_in owner.state name ≡ 0 → (o : Option HeldSession) → held_session owner.state name ≡ o
-      → tasks_posted_of (label_of owner name) (held_session owner.state name) ≡ []
+  none_posted : (name : List ℕ) → owed_in owner.state name ≡ 0 → (o : Option LiveSession) → live_session owner.state name ≡ o
+      → tasks_posted_of (label_of owner name) (live_session owner.state name) ≡ []
   none_posted name none None e = ap (tasks_posted_of (label_of owner name)) e
   none_posted name none (Some held) e =
       ap (tasks_posted_of (label_of owner name)) e
@@ -114,12 +114,12 @@ module _ (owner : Owner) (owed : List Task) (t : Gathers owner owed) (idle : own
   not_none w ws e none =
       let name = w.name.label.session in
       let empty : filter (is_of name) (w ∷ ws) ≡ [] =
-      ap (filter (is_of name)) (sym e) ∙ t.each name ∙ none_posted name none (held_session owner.state name) refl in
+      ap (filter (is_of name)) (sym e) ∙ t.each name ∙ none_posted name none (live_session owner.state name) refl in
       let here = same_name name in
       absurd (let k = rw here at empty in cc)
 
   -- where no step is owed to the sessions, the pool owes nothing
-  pub none-owed : NoneOwed (state_at_rest owner.state) → owed ≡ []
+  pub none-owed : NoneOwed (with_steps_restarted owner.state) → owed ≡ []
   none-owed none = by owed refl
     where
       by : (ws : List Task) → owed ≡ ws → owed ≡ []

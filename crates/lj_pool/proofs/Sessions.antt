@@ -24,7 +24,7 @@ use Rattle.lj_session.specs.Users.{Session, User, branches_used}
 use Rattle.lj_session.specs.declared.refusal.Refusal.TheVariants.{BranchExists, QuotaBranches, StepRange, Memory}
 use Rattle.lj_session.specs.Loads.{admission, body_or_refusal, session_read, refusal_unless}
 use Rattle.lj_session.specs.Answers.{session_of, simulation_saved, atom_or_refusal, can_advance, command_result, reply_and_user, answer}
-use Rattle.lj_session.specs.UserState.{HeldSession, UserState, as_entry, user_of, held_session, owed_in, names, with_session_changed}
+use Rattle.lj_session.specs.UserState.{LiveSession, UserState, as_entry, user_of, live_session, owed_in, names, with_session_changed}
 use Rattle.lj_session.proofs.Entries.{by_test, named-put_any, named-taken_other, put-new, sum-put, sum-taken}
 use Rattle.lj_session.proofs.Holding.{changed-some, changed-none}
 use Rattle.lj_session.proofs.Others.{others-changed}
@@ -34,54 +34,54 @@ use Rattle.lj_pool.specs.Counting.{sum_over}
 pub same_name : (name : List ℕ) → bytes_eq name name ≡ true
 same_name name = (bytes_eq-Decides name name).1 refl
 
-module _ (owned : UserState) (name : List ℕ) (change : HeldSession → HeldSession) where
-  pub there-changed : (held : HeldSession) → held_session owned name ≡ Some held → held_session (with_session_changed name change owned) name ≡ Some (change held)
+module _ (state : UserState) (name : List ℕ) (change : LiveSession → LiveSession) where
+  pub there-changed : (held : LiveSession) → live_session state name ≡ Some held → live_session (with_session_changed name change state) name ≡ Some (change held)
   there-changed held e =
-      ap (λ (o : UserState). held_session o name) (changed-some owned name change held e) ∙ named-put_any name owned.sessions (change held)
+      ap (λ (o : UserState). live_session o name) (changed-some state name change held e) ∙ named-put_any name state.sessions (change held)
 
-  pub other-changed : (other : List ℕ) → (name ≡ other → ⊥) → held_session (with_session_changed name change owned) other ≡ held_session owned other
-  other-changed other apart = others-changed owned name change other (λ same. apart (same_Some name other same))
+  pub other-changed : (other : List ℕ) → (name ≡ other → ⊥) → live_session (with_session_changed name change state) other ≡ live_session state other
+  other-changed other apart = others-changed state name change other (λ same. apart (same_Some name other same))
 
   -- what is owed before and after is related, where each change relates it
-  owed-related : (R : ℕ → ℕ → Type 0) → ((n : ℕ) → R n n) → ((held : HeldSession) → R (change held).owed held.owed) → (other : List ℕ)
-      → R (owed_in (with_session_changed name change owned) other) (owed_in owned other)
+  owed-related : (R : ℕ → ℕ → Type 0) → ((n : ℕ) → R n n) → ((held : LiveSession) → R (change held).owed held.owed) → (other : List ℕ)
+      → R (owed_in (with_session_changed name change state) other) (owed_in state other)
   owed-related R same each other = by_test (bytes_eq name other)
-      (λ t. subst (λ n. R (owed_in (with_session_changed name change owned) n) (owed_in owned n)) ((bytes_eq-Decides name other).0 t) here)
-      (λ t. subst (λ n. R n (owed_in owned other))
+      (λ t. subst (λ n. R (owed_in (with_session_changed name change state) n) (owed_in state n)) ((bytes_eq-Decides name other).0 t) here)
+      (λ t. subst (λ n. R n (owed_in state other))
       (sym (ap owed_of (other-changed other (λ is. true≢false (sym ((bytes_eq-Decides name other).1 is) ∙ t)))))
-      (same (owed_in owned other)))
+      (same (owed_in state other)))
     where
-      owed_of : Option HeldSession → ℕ
-      owed_of o = option_map_or (λ (h : HeldSession). h.owed) o 0
+      owed_of : Option LiveSession → ℕ
+      owed_of o = option_map_or (λ (h : LiveSession). h.owed) o 0
 
-      here : R (owed_in (with_session_changed name change owned) name) (owed_in owned name)
-      here = by (held_session owned name) refl
+      here : R (owed_in (with_session_changed name change state) name) (owed_in state name)
+      here = by (live_session state name) refl
         where
-          by : (o : Option HeldSession) → held_session owned name ≡ o → R (owed_in (with_session_changed name change owned) name) (owed_in owned name)
-          by None e = subst (λ (o : UserState). R (owed_in o name) (owed_in owned name)) (sym (changed-none owned name change e))
-              (same (owed_in owned name))
+          by : (o : Option LiveSession) → live_session state name ≡ o → R (owed_in (with_session_changed name change state) name) (owed_in state name)
+          by None e = subst (λ (o : UserState). R (owed_in o name) (owed_in state name)) (sym (changed-none state name change e))
+              (same (owed_in state name))
           by (Some held) e =
-              subst (λ n. R n (owed_in owned name)) (sym (ap owed_of (there-changed held e)))
+              subst (λ n. R n (owed_in state name)) (sym (ap owed_of (there-changed held e)))
               (subst (R (change held).owed) (sym (ap owed_of e)) (each held))
 
   -- what is owed stays, where the change leaves it, and falls, where the change lowers it
-  pub owed-changed : ((held : HeldSession) → (change held).owed ≡ held.owed) → (other : List ℕ)
-      → owed_in (with_session_changed name change owned) other ≡ owed_in owned other
+  pub owed-changed : ((held : LiveSession) → (change held).owed ≡ held.owed) → (other : List ℕ)
+      → owed_in (with_session_changed name change state) other ≡ owed_in state other
   owed-changed = owed-related (λ n m. n ≡ m) (λ n. refl)
 
-  pub owed-lowered : ((held : HeldSession) → (change held).owed ≤ held.owed) → (other : List ℕ)
-      → owed_in (with_session_changed name change owned) other ≤ owed_in owned other
+  pub owed-lowered : ((held : LiveSession) → (change held).owed ≤ held.owed) → (other : List ℕ)
+      → owed_in (with_session_changed name change state) other ≤ owed_in state other
   owed-lowered = owed-related (λ n m. n ≤ m) (λ n. omega arith)
 
-  pub sum-changed : (f : HeldSession → ℕ) (held : HeldSession) → held_session owned name ≡ Some held
-      → sum_over f (with_session_changed name change owned) + f held ≡ sum_over f owned + f (change held)
+  pub sum-changed : (f : LiveSession → ℕ) (held : LiveSession) → live_session state name ≡ Some held
+      → sum_over f (with_session_changed name change state) + f held ≡ sum_over f state + f (change held)
   sum-changed f held e =
-      ap (λ (o : UserState). sum_over f o + f held) (changed-some owned name change held e)
-      ∙ sum-put name f owned.sessions held (change held) e
+      ap (λ (o : UserState). sum_over f o + f held) (changed-some state name change held e)
+      ∙ sum-put name f state.sessions held (change held) e
 
 -- what is found under no name does not pass a test, where none of the names does
-pub find-none-named : (test : List ℕ → Bool) (es : List (List ℕ × HeldSession)) (name : List ℕ) (v : HeldSession)
-    → find test (map (λ (e : List ℕ × HeldSession). e.0) es) ≡ None → value_named name es ≡ Some v → test name ≡ false
+pub find-none-named : (test : List ℕ → Bool) (es : List (List ℕ × LiveSession)) (name : List ℕ) (v : LiveSession)
+    → find test (map (λ (e : List ℕ × LiveSession). e.0) es) ≡ None → value_named name es ≡ Some v → test name ≡ false
 find-none-named test [] name v none h = absurd (none-some v h)
 find-none-named test (e ∷ es) name v none h = by_test (test e.0)
     (λ t. absurd (none-some e.0 (sym (rw t at none))))
@@ -90,46 +90,46 @@ find-none-named test (e ∷ es) name v none h = by_test (test e.0)
     (λ u. find-none-named test es name v (rw t at none) (rw u at h)))
 
 -- a name that is none of these names nothing
-absent-named : (name : List ℕ) (es : List (List ℕ × HeldSession))
-    → AllByRecursion (λ y. bytes_eq name y ≡ false) (map (λ (e : List ℕ × HeldSession). e.0) es) → value_named name es ≡ None
+absent-named : (name : List ℕ) (es : List (List ℕ × LiveSession))
+    → AllByRecursion (λ y. bytes_eq name y ≡ false) (map (λ (e : List ℕ × LiveSession). e.0) es) → value_named name es ≡ None
 absent-named name [] all = refl
 absent-named name (e ∷ es) all = rw all.0 (absent-named name es all.1)
 
 -- A sum over sessions of distinct names is at most another, where each of their numbers is at most that of the session of its
 -- name there.
-pub sum-below : (f : HeldSession → ℕ) (a b : List (List ℕ × HeldSession)) → IsDistinct bytes_eq (map (λ (e : List ℕ × HeldSession). e.0) a)
-    → ((name : List ℕ) (held : HeldSession) → value_named name a ≡ Some held → f held ≤ option_map_or f (value_named name b) 0)
-    → sum_by (λ (e : List ℕ × HeldSession). f e.1) a ≤ sum_by (λ (e : List ℕ × HeldSession). f e.1) b
+pub sum-below : (f : LiveSession → ℕ) (a b : List (List ℕ × LiveSession)) → IsDistinct bytes_eq (map (λ (e : List ℕ × LiveSession). e.0) a)
+    → ((name : List ℕ) (held : LiveSession) → value_named name a ≡ Some held → f held ≤ option_map_or f (value_named name b) 0)
+    → sum_by (λ (e : List ℕ × LiveSession). f e.1) a ≤ sum_by (λ (e : List ℕ × LiveSession). f e.1) b
 sum-below f [] b distinct below = omega arith
 sum-below f (e ∷ es) b distinct below = by (value_named e.0 b) refl (sum-below f es)
   where
     none : value_named e.0 es ≡ None
-    none = absent-named e.0 es (IsDistinct-head bytes_eq e.0 (map (λ (e : List ℕ × HeldSession). e.0) es) distinct)
+    none = absent-named e.0 es (IsDistinct-head bytes_eq e.0 (map (λ (e : List ℕ × LiveSession). e.0) es) distinct)
 
-    others : IsDistinct bytes_eq (map (λ (e : List ℕ × HeldSession). e.0) es)
-    others = IsDistinct-tail bytes_eq e.0 (map (λ (e : List ℕ × HeldSession). e.0) es) distinct
+    others : IsDistinct bytes_eq (map (λ (e : List ℕ × LiveSession). e.0) es)
+    others = IsDistinct-tail bytes_eq e.0 (map (λ (e : List ℕ × LiveSession). e.0) es) distinct
 
     head : f e.1 ≤ option_map_or f (value_named e.0 b) 0
     head = below e.0 e.1 (let same = same_name e.0 in rw same refl)
 
-    apart : (name : List ℕ) (held : HeldSession) → value_named name es ≡ Some held → e.0 ≡ name → ⊥
+    apart : (name : List ℕ) (held : LiveSession) → value_named name es ≡ Some held → e.0 ≡ name → ⊥
     apart name held h same = none-some held (sym none ∙ ap (λ n. value_named n es) same ∙ h)
 
-    later : (name : List ℕ) (held : HeldSession) → value_named name es ≡ Some held → value_named name (e ∷ es) ≡ Some held
+    later : (name : List ℕ) (held : LiveSession) → value_named name es ≡ Some held → value_named name (e ∷ es) ≡ Some held
     later name held h = by_test (bytes_eq name e.0)
         (λ t. absurd (apart name held h (sym ((bytes_eq-Decides name e.0).0 t))))
         (λ t. rw t h)
 
-    sum : sum_by (λ (e : List ℕ × HeldSession). f e.1) (e ∷ es) ≡ f e.1 + sum_by (λ (e : List ℕ × HeldSession). f e.1) es
-    sum = sum_by-cons (λ (e : List ℕ × HeldSession). f e.1) e es
+    sum : sum_by (λ (e : List ℕ × LiveSession). f e.1) (e ∷ es) ≡ f e.1 + sum_by (λ (e : List ℕ × LiveSession). f e.1) es
+    sum = sum_by-cons (λ (e : List ℕ × LiveSession). f e.1) e es
 
     Rest : Type 0
-    Rest = (b : List (List ℕ × HeldSession)) → IsDistinct bytes_eq (map (λ (e : List ℕ × HeldSession). e.0) es)
-        → ((name : List ℕ) (held : HeldSession) → value_named name es ≡ Some held → f held ≤ option_map_or f (value_named name b) 0)
-        → sum_by (λ (e : List ℕ × HeldSession). f e.1) es ≤ sum_by (λ (e : List ℕ × HeldSession). f e.1) b
+    Rest = (b : List (List ℕ × LiveSession)) → IsDistinct bytes_eq (map (λ (e : List ℕ × LiveSession). e.0) es)
+        → ((name : List ℕ) (held : LiveSession) → value_named name es ≡ Some held → f held ≤ option_map_or f (value_named name b) 0)
+        → sum_by (λ (e : List ℕ × LiveSession). f e.1) es ≤ sum_by (λ (e : List ℕ × LiveSession). f e.1) b
 
-    by : (o : Option HeldSession) → value_named e.0 b ≡ o → Rest
-        → sum_by (λ (e : List ℕ × HeldSession). f e.1) (e ∷ es) ≤ sum_by (λ (e : List ℕ × HeldSession). f e.1) b
+    by : (o : Option LiveSession) → value_named e.0 b ≡ o → Rest
+        → sum_by (λ (e : List ℕ × LiveSession). f e.1) (e ∷ es) ≤ sum_by (λ (e : List ℕ × LiveSession). f e.1) b
     by None is rest-below =
         let first : f e.1 ≤ 0 = subst (λ o. f e.1 ≤ option_map_or f o 0) is head in
         let rest = rest-below b others (λ name held h. below name held (later name held h)) in
@@ -146,8 +146,8 @@ sum-below f (e ∷ es) b distinct below = by (value_named e.0 b) refl (sum-below
 abbrev names_of : User → List (List ℕ)
 names_of user = map (λ (e : List ℕ × Session). e.0) user.sessions
 
-names-meant : (es : List (List ℕ × HeldSession))
-    → map (λ (e : List ℕ × Session). e.0) (map as_entry es) ≡ map (λ (e : List ℕ × HeldSession). e.0) es
+names-meant : (es : List (List ℕ × LiveSession))
+    → map (λ (e : List ℕ × Session). e.0) (map as_entry es) ≡ map (λ (e : List ℕ × LiveSession). e.0) es
 names-meant [] = refl
 names-meant (e ∷ es) = ap (λ ns. e.0 ∷ ns) (names-meant es)
 

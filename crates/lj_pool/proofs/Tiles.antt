@@ -4,14 +4,14 @@ use Rattle.std.proofs.Common.{refl, sym, ap, ◌∙◌, subst, arith}
 use Rattle.std.proofs.lemmas.Bool.{lt-ltb, lt-leb, ltb-true, ltb-false}
 use Rattle.std.proofs.lemmas.Option.{none-some}
 use Rattle.lj_tile.specs.Species.{Composition}
-use Rattle.lj_tile.specs.declared.names.Kind.{Kind}
-use Rattle.lj_tile.specs.declared.names.Kind.TheVariants.{Force}
+use Rattle.lj_tile.specs.declared.task_name.Kind.{Kind}
+use Rattle.lj_tile.specs.declared.task_name.Kind.TheVariants.{Force}
 use Rattle.lj_base.specs.declared.names.Label.{Label}
 use Rattle.lj_step.specs.Sim.{Sim, OpenStep}
 use Rattle.lj_step.specs.Motion.{Simulation, next_simulation, steps}
 use Rattle.lj_step.specs.OpenSteps.{cover, kind_of, tiles_of, tiles_in}
 use Rattle.lj_session.specs.Answers.{can_advance}
-use Rattle.lj_session.specs.UserState.{HeldSession, session_meant, with_more_owed, with_start, with_step, with_step_taken, with_step_passed, with_no_step, session_at_rest, kind_owed, IsIdle}
+use Rattle.lj_session.specs.UserState.{LiveSession, settled_session, with_more_owed, with_start, with_step, with_step_taken, with_step_finished, with_no_step, with_step_restarted, kind_owed, IsIdle}
 use Rattle.lj_session.proofs.Entries.{by_test}
 use Rattle.lj_session.proofs.AtWork.{kind-none}
 use Rattle.lj_pool.specs.Gathering.{times, tiles_left_in, tasks_posted_in, tasks_posted_of, IsGathered}
@@ -39,7 +39,7 @@ closed-part None e = refl
 closed-part (Some p) e = absurd (none-some p.kind (sym e))
 
 -- a session that is idle has none to come
-module _ (held : HeldSession) (idle : IsIdle held) where
+module _ (held : LiveSession) (idle : IsIdle held) where
   closed : held.live.part ≡ None
   closed = closed-part held.live.part idle.closed
 
@@ -58,17 +58,17 @@ module _ (held : HeldSession) (idle : IsIdle held) where
   idle-gathered = gathered_closed held closed
 
 -- a step opened, and those that are owed after it
-pub opened-tiles : (kind : Kind) (held : HeldSession)
+pub opened-tiles : (kind : Kind) (held : LiveSession)
     → tiles_of_session (with_step kind held) ≡ frame_tiles held.live.composition held.live.sim + tiles_after held
 opened-tiles kind held =
     ap (λ n. n + tiles_after held) (opened_left kind held.live.composition held.live.sim.cur)
 
-pub opened-posts : (kind : Kind) (held : HeldSession)
+pub opened-posts : (kind : Kind) (held : LiveSession)
     → posts_of_session (with_step kind held) ≡ frame_tiles held.live.composition held.live.sim + tiles_after held
 opened-posts kind held = omega arith
 
 -- steps owed to an idle session
-module _ (held : HeldSession) (idle : IsIdle held) (n : ℕ) (some : 0 < n) where
+module _ (held : LiveSession) (idle : IsIdle held) (n : ℕ) (some : 0 < n) where
   owing_is : with_more_owed n held ≡ with_step Force (record held { owed = held.owed + n })
   owing_is =
       let b : nat_lt 0 n ≡ true = lt-ltb 0 n some in
@@ -93,14 +93,14 @@ module _ (held : HeldSession) (idle : IsIdle held) (n : ℕ) (some : 0 < n) wher
   owing-gathered = subst IsGathered (sym owing_is) (gathered_opened Force (record held { owed = held.owed + n }))
 
   pub owing-posted : (label : Label) → tasks_posted_of label (Some (with_more_owed n held)) ≡ []
-  owing-posted label = ap (λ (h : HeldSession). tasks_posted_of label (Some h)) owing_is
+  owing-posted label = ap (λ (h : LiveSession). tasks_posted_of label (Some h)) owing_is
 
   pub owing-open : (with_more_owed n held).live.part ≡ (with_step Force held).live.part
-  owing-open = ap (λ (h : HeldSession). h.live.part) owing_is
+  owing-open = ap (λ (h : LiveSession). h.live.part) owing_is
 
 -- a step passed
-module _ (held : HeldSession) where
-  next : HeldSession
+module _ (held : LiveSession) where
+  next : LiveSession
   next = with_step_taken held
 
   passed_sum : 0 < held.owed - 1
@@ -115,42 +115,42 @@ module _ (held : HeldSession) where
   last_sum none =
       let zero_left : held.owed - 1 ≡ 0 = omega (arith, none) in rw zero_left refl
 
-  pub passed-tiles : tiles_of_session (with_step_passed held) ≡ tiles_after held
+  pub passed-tiles : tiles_of_session (with_step_finished held) ≡ tiles_after held
   passed-tiles = by_test (nat_lt 0 (held.owed - 1))
       (λ t. rw t (opened-tiles Force (with_step_taken held) ∙ passed_sum (ltb-true 0 (held.owed - 1) t)))
       (λ t. rw t (let none = last_sum (ltb-false 0 (held.owed - 1) t) in omega (arith, none)))
 
-  pub passed-posts : posts_of_session (with_step_passed held) ≡ tiles_after held
+  pub passed-posts : posts_of_session (with_step_finished held) ≡ tiles_after held
   passed-posts = by_test (nat_lt 0 (held.owed - 1))
       (λ t. rw t (opened-posts Force (with_step_taken held) ∙ passed_sum (ltb-true 0 (held.owed - 1) t)))
       (λ t. rw t (let none = last_sum (ltb-false 0 (held.owed - 1) t) in omega (arith, none)))
 
-  pub passed-owed : (with_step_passed held).owed ≡ held.owed - 1
+  pub passed-owed : (with_step_finished held).owed ≡ held.owed - 1
   passed-owed = by_test (nat_lt 0 (held.owed - 1)) (λ t. rw t refl) (λ t. rw t refl)
 
-  pub passed-posted : (label : Label) → tasks_posted_of label (Some (with_step_passed held)) ≡ []
+  pub passed-posted : (label : Label) → tasks_posted_of label (Some (with_step_finished held)) ≡ []
   passed-posted label = by_test (nat_lt 0 (held.owed - 1)) (λ t. rw t refl) (λ t. rw t refl)
 
-  pub passed-gathered : IsGathered (with_step_passed held)
+  pub passed-gathered : IsGathered (with_step_finished held)
   passed-gathered = by_test (nat_lt 0 (held.owed - 1))
       (λ t. rw t (gathered_opened Force (with_step_taken held)))
       (λ t. rw t (gathered_closed (with_step_taken held) refl))
 
   -- the steps begun anew
-  pub rest-tiles : tiles_of_session (session_at_rest held) ≡ owed_tiles held
+  pub rest-tiles : tiles_of_session (with_step_restarted held) ≡ owed_tiles held
   rest-tiles = by_test (nat_lt 0 held.owed)
       (λ t. rw t (opened-tiles Force held ∙ sym (tiles-suc held.live.composition held.owed held.live.sim (ltb-true 0 held.owed t))))
       (λ t. rw t (let few = ltb-false 0 held.owed t in let none : held.owed ≡ 0 = omega (arith, few) in rw none refl))
 
-  pub rest-owed : owed_tiles (session_at_rest held) ≡ owed_tiles held
+  pub rest-owed : owed_tiles (with_step_restarted held) ≡ owed_tiles held
   rest-owed = by_test (nat_lt 0 held.owed) (λ t. rw t refl) (λ t. rw t refl)
 
-  pub rest-gathered : IsGathered (session_at_rest held)
+  pub rest-gathered : IsGathered (with_step_restarted held)
   rest-gathered = by_test (nat_lt 0 held.owed)
       (λ t. rw t (gathered_opened Force held))
       (λ t. rw t (gathered_closed (with_no_step held) refl))
 
-  pub rest-posted : (label : Label) → tasks_posted_of label (Some (session_at_rest held)) ≡ []
+  pub rest-posted : (label : Label) → tasks_posted_of label (Some (with_step_restarted held)) ≡ []
   rest-posted label = by_test (nat_lt 0 held.owed) (λ t. rw t refl) (λ t. rw t refl)
 
   -- no more are to come than the steps have that are owed
@@ -164,11 +164,11 @@ module _ (held : HeldSession) where
       omega (arith, idle))
 
 -- a START adds the tiles of its steps
-module _ (held : HeldSession) (n : ℕ) (work : kind_of held.live.part ≡ kind_owed None [] held) where
+module _ (held : LiveSession) (n : ℕ) (work : kind_of held.live.part ≡ kind_owed None [] held) where
   abbrev u : Composition
   u = held.live.composition
 
-  meant_after : 0 < held.owed → steps u (held.owed - 1) (next_simulation u held.live.sim) ≡ (session_meant held).sim
+  meant_after : 0 < held.owed → steps u (held.owed - 1) (next_simulation u held.live.sim) ≡ (settled_session held).sim
   meant_after some = by held.owed some
     where
       by : (m : ℕ) → 0 < m → steps u (m - 1) (next_simulation u held.live.sim) ≡ steps u m held.live.sim
@@ -176,7 +176,7 @@ module _ (held : HeldSession) (n : ℕ) (work : kind_of held.live.part ≡ kind_
       by (suc m) some = ap (λ k. steps u k (next_simulation u held.live.sim)) (let same : suc m - 1 ≡ m = omega arith in same)
 
   more_after : 0 < held.owed → steps_tiles u (held.owed + n - 1) (next_simulation u held.live.sim)
-      ≡ tiles_after held + steps_tiles u n (session_meant held).sim
+      ≡ tiles_after held + steps_tiles u n (settled_session held).sim
   more_after some =
       ap (λ k. steps_tiles u k (next_simulation u held.live.sim)) (let same : held.owed + n - 1 ≡ held.owed - 1 + n = omega (arith, some) in same)
       ∙ tiles-add u (held.owed - 1) n (next_simulation u held.live.sim)
@@ -185,7 +185,7 @@ module _ (held : HeldSession) (n : ℕ) (work : kind_of held.live.part ≡ kind_
   idle : held.owed ≡ 0 → IsIdle held
   idle none = record { owed = none; closed = work ∙ kind-none None [] held none refl }
 
-  owed_more : tiles_of_session (with_more_owed n held) ≡ tiles_of_session held + steps_tiles u n (session_meant held).sim
+  owed_more : tiles_of_session (with_more_owed n held) ≡ tiles_of_session held + steps_tiles u n (settled_session held).sim
   owed_more = by_test (nat_lt 0 held.owed)
       (λ t. let some = ltb-true 0 held.owed t in
       let more : nat_le held.owed 0 ≡ false = lt-leb held.owed 0 some in
@@ -195,7 +195,7 @@ module _ (held : HeldSession) (n : ℕ) (work : kind_of held.live.part ≡ kind_
       (λ t. let few = ltb-false 0 held.owed t in
       let none : held.owed ≡ 0 = omega (arith, few) in
       let before = idle-tiles held (idle none) in
-      let same : (session_meant held).sim ≡ held.live.sim = rw none refl in
+      let same : (settled_session held).sim ≡ held.live.sim = rw none refl in
       by_test (nat_lt 0 n)
       (λ v. let after = owing-tiles held (idle none) n (ltb-true 0 n v) in
       let is = ap (steps_tiles u n) same in omega (arith, before, after, is))
@@ -203,17 +203,17 @@ module _ (held : HeldSession) (n : ℕ) (work : kind_of held.live.part ≡ kind_
       let zero_more : n ≡ 0 = omega (arith, small) in
       rw zero_more (let stays : held.owed + 0 ≡ held.owed = omega arith in rw stays (omega arith))))
 
-  pub started-tiles : tiles_of_session (with_start n held) ≡ tiles_of_session held + advance_tiles (Some (session_meant held)) n
-  started-tiles = by_test (can_advance (session_meant held) n)
+  pub started-tiles : tiles_of_session (with_start n held) ≡ tiles_of_session held + advance_tiles (Some (settled_session held)) n
+  started-tiles = by_test (can_advance (settled_session held) n)
       (λ t. rw t owed_more)
       (λ t. rw t (omega arith))
 
 -- where no step is open nothing is posted and not in
-pub closed-posted : (held : HeldSession) (label : Label) → held.live.part ≡ None → tasks_posted_of label (Some held) ≡ []
+pub closed-posted : (held : LiveSession) (label : Label) → held.live.part ≡ None → tasks_posted_of label (Some held) ≡ []
 closed-posted held label closed = ap (tasks_posted_in label held.live held.passed) closed
 
 -- sessions of the same steps
-module _ (old new : HeldSession) (live : new.live ≡ old.live) (passed : new.passed ≡ old.passed) (owed : new.owed ≡ old.owed) where
+module _ (old new : LiveSession) (live : new.live ≡ old.live) (passed : new.passed ≡ old.passed) (owed : new.owed ≡ old.owed) where
   pub same-posted : (label : Label) → tasks_posted_of label (Some new) ≡ tasks_posted_of label (Some old)
   same-posted label =
       ap (λ (l : Sim). tasks_posted_in label l new.passed l.part) live
@@ -232,7 +232,7 @@ module _ (old new : HeldSession) (live : new.live ≡ old.live) (passed : new.pa
   }
 
 -- the same of a START
-module _ (held : HeldSession) (n : ℕ) (work : kind_of held.live.part ≡ kind_owed None [] held) where
+module _ (held : LiveSession) (n : ℕ) (work : kind_of held.live.part ≡ kind_owed None [] held) where
   starting-idle : nat_lt 0 held.owed ≡ false → IsIdle held
   starting-idle t =
       let few = ltb-false 0 held.owed t in
@@ -261,7 +261,7 @@ module _ (held : HeldSession) (n : ℕ) (work : kind_of held.live.part ≡ kind_
       (λ v. rw v (record { once = g.once; few = g.few })))
 
   pub started-posted : (label : Label) → tasks_posted_of label (Some (with_start n held)) ≡ tasks_posted_of label (Some held)
-  started-posted label = by_test (can_advance (session_meant held) n) (λ t. rw t (owing_posted label)) (λ t. rw t refl)
+  started-posted label = by_test (can_advance (settled_session held) n) (λ t. rw t (owing_posted label)) (λ t. rw t refl)
 
   pub started-gathered : IsGathered held → IsGathered (with_start n held)
-  started-gathered g = by_test (can_advance (session_meant held) n) (λ t. rw t (owing_gathered g)) (λ t. rw t g)
+  started-gathered g = by_test (can_advance (settled_session held) n) (λ t. rw t (owing_gathered g)) (λ t. rw t g)

@@ -5,23 +5,23 @@ use Rattle.lj_step.specs.Motion.{next_simulation}
 use Rattle.lj_step.specs.OpenSteps.{tiles_of}
 use Rattle.lj_session.specs.declared.command.Command.{Command}
 use Rattle.lj_session.specs.Turns.{turns}
-use Rattle.lj_session.specs.UserState.{HeldSession, UserState, owed_in, steps_before}
+use Rattle.lj_session.specs.UserState.{LiveSession, UserState, owed_in, steps_before}
 use Rattle.lj_session.specs.Owner.{Owner, user_in, is_waited_for, WaitsAlike}
 use Rattle.lj_pool.specs.Seen.{Seen}
 use Rattle.lj_pool.specs.Gathering.{Gathers, tiles_left_in}
 use Rattle.lj_pool.specs.Counting.{steps_tiles, command_tiles, sum_over, CountsRise, HandedWithin}
 
 -- the number of tiles of the steps owed to a session after the open one
-abbrev pub tiles_after : HeldSession → ℕ
+abbrev pub tiles_after : LiveSession → ℕ
 tiles_after held =
     steps_tiles held.live.composition (held.owed - 1) (next_simulation held.live.composition held.live.sim)
 
 -- the number of tiles of a session whose results are still to come
-abbrev pub tiles_of_session : HeldSession → ℕ
+abbrev pub tiles_of_session : LiveSession → ℕ
 tiles_of_session held = tiles_left_in held.live.part + tiles_after held
 
 -- the number of tiles of a session after the last one that was posted
-abbrev pub posts_of_session : HeldSession → ℕ
+abbrev pub posts_of_session : LiveSession → ℕ
 posts_of_session held = (tiles_of held.live - held.passed) + tiles_after held
 
 -- the tiles of the pending command's own steps, while it waits for steps owed before it
@@ -40,7 +40,7 @@ turns_coming owner =
 
 -- the number of tiles to come of the steps owed
 abbrev pub tiles_to_come : UserState → ℕ
-tiles_to_come owned = sum_over tiles_of_session owned
+tiles_to_come state = sum_over tiles_of_session state
 
 -- the number of tiles to come of the steps owed and of the pending command
 abbrev pub tiles_coming : Owner → ℕ

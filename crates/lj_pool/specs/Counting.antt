@@ -10,7 +10,7 @@ use Rattle.lj_session.specs.declared.command.Command.TheVariants.{Advance, Start
 use Rattle.lj_branch.specs.Named.{value_named}
 use Rattle.lj_session.specs.Users.{Session, User}
 use Rattle.lj_session.specs.Answers.{can_advance}
-use Rattle.lj_session.specs.UserState.{HeldSession, UserState}
+use Rattle.lj_session.specs.UserState.{LiveSession, UserState}
 use Rattle.lj_wire.specs.declared.item.Item.{Item}
 use Rattle.lj_wire.specs.declared.item.Item.TheVariants.{Command as Ordered, Bad, Last}
 use Rattle.lj_wire.specs.Told.{item_text, first_mark, other_marks}
@@ -55,31 +55,31 @@ tiles user (item ∷ items) marks =
     item_tiles user item + tiles (item_text user item (first_mark marks)).1 items (other_marks marks)
 
 -- the number of tiles of the steps owed to a session
-abbrev pub owed_tiles : HeldSession → ℕ
+abbrev pub owed_tiles : LiveSession → ℕ
 owed_tiles held = steps_tiles held.live.composition held.owed held.live.sim
 
 -- the sum of a number over the sessions of a state
-abbrev pub sum_over : (HeldSession → ℕ) → UserState → ℕ
-sum_over number owned = sum_by (λ entry. number entry.1) owned.sessions
+abbrev pub sum_over : (LiveSession → ℕ) → UserState → ℕ
+sum_over number state = sum_by (λ entry. number entry.1) state.sessions
 
 -- the number of tiles of the steps owed to all sessions
 abbrev pub tiles_owed : UserState → ℕ
-tiles_owed owned = sum_over owed_tiles owned
+tiles_owed state = sum_over owed_tiles state
 
 -- Neither count has fallen, and together they rose by at least `number`, unless one of them is saturated.
 pub record CountsRise (number : ℕ) (old new : Seen) : Type 0 where
-  pub good : old.good ≤ new.good
+  pub expected : old.expected ≤ new.expected
   pub strays : old.strays ≤ new.strays
-  pub together : new.good < last_count → new.strays < last_count
-      → old.good + old.strays + number ≤ new.good + new.strays
+  pub together : new.expected < last_count → new.strays < last_count
+      → old.expected + old.strays + number ≤ new.expected + new.strays
 
 -- At most `number - left` results that were owed were handed out: those of the tiles that are not left.
 abbrev pub HandedWithin : ℕ → ℕ → Seen → Seen → Type 0
-HandedWithin number left old new = new.good + left ≤ old.good + number
+HandedWithin number left old new = new.expected + left ≤ old.expected + number
 
 -- Fewer than `number` results that were owed were handed out.
 abbrev pub FallsShort : ℕ → Seen → Seen → Type 0
-FallsShort number old new = new.good < old.good + number
+FallsShort number old new = new.expected < old.expected + number
 
 -- The count of strays rose by at least `number`, or is saturated.
 abbrev pub StraysRise : ℕ → Seen → Seen → Type 0

@@ -9,7 +9,7 @@ use Rattle.lj_step.specs.Sim.{Sim, OpenStep}
 use Rattle.lj_step.specs.OpenSteps.{cover, task_of, tiles_left}
 use Rattle.lj_session.specs.declared.command.Command.{Command}
 use Rattle.lj_session.specs.Turns.{waits_for}
-use Rattle.lj_session.specs.UserState.{HeldSession, UserState, IsAtWork, held_session, owed_in, names}
+use Rattle.lj_session.specs.UserState.{LiveSession, UserState, IsAtWork, live_session, owed_in, names}
 use Rattle.lj_session.specs.Owner.{Owner, label_of}
 
 -- how often a number occurs in a list
@@ -31,7 +31,7 @@ tasks_posted_in label live passed (Some step) =
     map (task_of live label step.kind) (posted_tiles step.awaited passed (cover live.composition live.sim.cur))
 
 -- the tasks of a session that are posted and whose results are not in
-abbrev pub tasks_posted_of : Label → Option HeldSession → List Task
+abbrev pub tasks_posted_of : Label → Option LiveSession → List Task
 tasks_posted_of label None = []
 tasks_posted_of label (Some held) = tasks_posted_in label held.live held.passed held.live.part
 
@@ -41,7 +41,7 @@ tiles_left_in None = 0
 tiles_left_in (Some step) = tiles_left step
 
 -- Each tile that the open step of a session awaits is in its cover once, and it awaits no more tiles than the cover has.
-pub record IsGathered (held : HeldSession) : Type 0 where
+pub record IsGathered (held : LiveSession) : Type 0 where
   pub once : (step : OpenStep) (k : ℕ) → held.live.part ≡ Some step → is_awaited step.awaited k ≡ true
       → times k (cover held.live.composition held.live.sim.cur) ≡ 1
   pub few : tiles_left_in held.live.part ≤ length (cover held.live.composition held.live.sim.cur)
@@ -52,8 +52,8 @@ is_of name work = bytes_eq name work.name.label.session
 
 -- a step is open in the session that the pending command waits for
 abbrev pub IsOpenFor : UserState → Command → Type 0
-IsOpenFor owned command = IsSomeAnd (waits_for command)
-    (λ name. IsSomeAnd (held_session owned name) (λ held. IsSome held.live.part))
+IsOpenFor state command = IsSomeAnd (waits_for command)
+    (λ name. IsSomeAnd (live_session state name) (λ held. IsSome held.live.part))
 
 -- The tasks owed are, for each session, those of its open step that are posted and whose results are not in, and no others. A
 -- step is open in each session to which steps are owed, and in the one that a command waits for.
@@ -61,11 +61,11 @@ pub record Gathers (owner : Owner) (owed : List Task) : Type 0 where
   pub at_work : IsAtWork owner.waiting owner.state
   pub waits : IfSome owner.waiting (IsOpenFor owner.state)
   pub distinct : IsDistinct bytes_eq (names owner.state)
-  pub gathered : (name : List ℕ) (held : HeldSession) → held_session owner.state name ≡ Some held
+  pub gathered : (name : List ℕ) (held : LiveSession) → live_session owner.state name ≡ Some held
       → IsGathered held
   pub each : (name : List ℕ)
-      → filter (is_of name) owed ≡ tasks_posted_of (label_of owner name) (held_session owner.state name)
+      → filter (is_of name) owed ≡ tasks_posted_of (label_of owner name) (live_session owner.state name)
 
 -- no step is owed to any session
 abbrev pub NoneOwed : UserState → Type 0
-NoneOwed owned = (name : List ℕ) → owed_in owned name ≡ 0
+NoneOwed state = (name : List ℕ) → owed_in state name ≡ 0

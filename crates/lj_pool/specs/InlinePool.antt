@@ -8,12 +8,12 @@ use Rattle.lj_pool.specs.Seen.{Seen}
 -- room, held or handed out
 pub record InlinePool : Type 0 where
   pub held : Option Task
-  pub good : ℕ
+  pub expected : ℕ
   pub last : Task
 
 -- no result is held, none is counted, and the task in its room is blank
 abbrev pub empty_pool : InlinePool
-empty_pool = record { held = None; good = 0; last = blank_task }
+empty_pool = record { held = None; expected = 0; last = blank_task }
 
 -- the task of the result held, if there is one
 abbrev pub held_task : Option Task → List Task
@@ -22,4 +22,4 @@ held_task None = []
 
 -- the end is owed what the pool holds; there are no strays, and the pool is never closed
 abbrev pub seen_of : InlinePool → Seen
-seen_of pool = record { owed = held_task pool.held; good = pool.good; strays = 0; closed = false }
+seen_of pool = record { owed = held_task pool.held; expected = pool.expected; strays = 0; closed = false }

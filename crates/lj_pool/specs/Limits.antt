@@ -1,6 +1,6 @@
 -- How many tasks an end of a pool may be owed, and how many strays it may bring.
 use Rattle.std.specs.Prelude.{◌≡◌, ◌+◌, ◌*◌, true, nat_le, refl}
-use Rattle.lj_book.specs.declared.entries.TheConstants.{MAX_ENTRIES}
+use Rattle.lj_book.specs.declared.book_entry.TheConstants.{MAX_ENTRIES}
 use Rattle.lj_pool.specs.declared.pool.TheConstants.{MAX_AHEAD, MAX_OWED, MAX_STRAYS}
 
 -- at most 64 tasks are owed to an end

@@ -7,13 +7,13 @@ use Rattle.lj_tile.specs.Task.{Task}
 -- pool was seen closed
 pub record Seen : Type 0 where
   pub owed : List Task
-  pub good : ℕ
+  pub expected : ℕ
   pub strays : ℕ
   pub closed : Bool
 
 -- nothing is owed, nothing is counted, and the pool is open
 abbrev pub nothing_seen : Seen
-nothing_seen = record { owed = []; good = 0; strays = 0; closed = false }
+nothing_seen = record { owed = []; expected = 0; strays = 0; closed = false }
 
 -- the last value of a count
 abbrev pub last_count : ℕ
@@ -30,19 +30,19 @@ StaysClosed old new = old.closed ≡ true → new.closed ≡ true
 -- The same tasks are owed, and nothing is counted.
 pub record SameOwed (old new : Seen) : Type 0 where
   pub owed : new.owed ≡ old.owed
-  pub good : new.good ≡ old.good
+  pub expected : new.expected ≡ old.expected
   pub strays : new.strays ≡ old.strays
 
 -- The task is owed after the others, and nothing is counted.
 pub record IsPosted (task : Task) (old new : Seen) : Type 0 where
   pub owed : new.owed ≡ old.owed ++ task ∷ []
-  pub good : new.good ≡ old.good
+  pub expected : new.expected ≡ old.expected
   pub strays : new.strays ≡ old.strays
 
 -- The tasks are owed after the others, in their order, and nothing is counted.
 pub record ArePosted (tasks : List Task) (old new : Seen) : Type 0 where
   pub owed : new.owed ≡ old.owed ++ tasks
-  pub good : new.good ≡ old.good
+  pub expected : new.expected ≡ old.expected
   pub strays : new.strays ≡ old.strays
 
 -- The first owed task that is equal to this one is taken off, and one more result that was owed is counted.
@@ -52,14 +52,14 @@ pub record TakesOff (task : Task) (old new : Seen) : Type 0 where
   pub was : old.owed ≡ front ++ task ∷ behind
   pub first : Contains front task → ⊥
   pub owed : new.owed ≡ front ++ behind
-  pub good : new.good ≡ one_more old.good
+  pub expected : new.expected ≡ one_more old.expected
   pub strays : new.strays ≡ old.strays
 
 -- The task is not owed, and one more stray is counted.
 pub record IsStray (task : Task) (old new : Seen) : Type 0 where
   pub absent : Contains old.owed task → ⊥
   pub owed : new.owed ≡ old.owed
-  pub good : new.good ≡ old.good
+  pub expected : new.expected ≡ old.expected
   pub strays : new.strays ≡ one_more old.strays
 
 -- a result of this task is handed out

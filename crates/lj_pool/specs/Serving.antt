@@ -22,7 +22,7 @@ AnswersItem user item reply next = (mark : Bool) × (item_reply user item mark �
 
 -- The items handed out so far are answered, and the bytes read are theirs.
 pub record Serving (start : UserState) (first now : LineReader) (was is : Option (List ℕ)) (old new : Seen)
-    (owned : UserState) : Type 0 where
+    (state : UserState) : Type 0 where
   pub read : List ℕ
   pub written : List ℕ
   pub items : List Item
@@ -33,10 +33,10 @@ pub record Serving (start : UserState) (first now : LineReader) (was is : Option
   pub items_are : length items ≡ now.items
   pub are_marks : AreMarks marks (texts (user_of start) items marks)
   pub written_is : written ≡ concat (texts (user_of start) items marks)
-  pub next_is : user_of owned ≡ last_user (user_of start) items marks
+  pub next_is : user_of state ≡ last_user (user_of start) items marks
   pub counted : CountsRise
-      (tiles (user_of start) items marks + tiles_owed start - tiles_to_come owned) old new
-  pub handed : HandedWithin (tiles (user_of start) items marks + tiles_owed start) (tiles_to_come owned) old new
-  pub owes : OwesAfterAll start items marks owned
+      (tiles (user_of start) items marks + tiles_owed start - tiles_to_come state) old new
+  pub handed : HandedWithin (tiles (user_of start) items marks + tiles_owed start) (tiles_to_come state) old new
+  pub owes : OwesAfterAll start items marks state
   pub phase : now.phase ≡ Open
   pub errors : now.errors ≡ first.errors

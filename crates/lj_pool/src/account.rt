@@ -18,7 +18,7 @@ pub struct Account {
     tasks: [Option<Task>; MAX_OWED],
     places: ArrayVec<u8, MAX_OWED>,
     owed: usize,
-    good: u64,
+    expected: u64,
     strays: u64,
     closed: bool,
 }
@@ -32,7 +32,7 @@ impl Model for Account {
 
     ghost view = { λ a. record {
       owed = tasks_owed a.tasks (take a.owed a.places.items);
-      good = a.good;
+      expected = a.expected;
       strays = a.strays;
       closed = a.closed;
     } };
@@ -49,7 +49,7 @@ impl Account {
             tasks: array::from_fn(|_| None),
             places: all_places(),
             owed: 0,
-            good: 0,
+            expected: 0,
             strays: 0,
             closed: false,
         }
@@ -121,18 +121,18 @@ impl Account {
     fn count_owed(&mut self, here: usize)
         requires { here < length self.old.owed }
         ensures owed { self.new.owed ≡ remove self.old.owed here }
-        ensures good { self.new.good ≡ one_more self.old.good }
+        ensures expected { self.new.expected ≡ one_more self.old.expected }
         ensures strays { self.new.strays ≡ self.old.strays }
         ensures closed { self.new.closed ≡ self.old.closed }
     {
         self.take_off(here);
-        self.good = self.good.saturating_add(1);
+        self.expected = self.expected.saturating_add(1);
     }
 
     /// Counts a stray.
     fn count_stray(&mut self)
         ensures owed { self.new.owed ≡ self.old.owed }
-        ensures good { self.new.good ≡ self.old.good }
+        ensures expected { self.new.expected ≡ self.old.expected }
         ensures strays { self.new.strays ≡ one_more self.old.strays }
         ensures closed { self.new.closed ≡ self.old.closed }
     {
@@ -231,7 +231,7 @@ impl Account {
     fn take_off(&mut self, here: usize)
         requires { here < length self.old.owed }
         ensures owed { self.new.owed ≡ remove self.old.owed here }
-        ensures good { self.new.good ≡ self.old.good }
+        ensures expected { self.new.expected ≡ self.old.expected }
         ensures strays { self.new.strays ≡ self.old.strays }
         ensures closed { self.new.closed ≡ self.old.closed }
     {

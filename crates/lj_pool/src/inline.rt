@@ -16,10 +16,10 @@ use std::marker::Model;
 #[derive(Drop)]
 pub struct InlinePool {
     table: Table,
-    room: Done,
+    slot: Done,
     /// Whether the result in the room was not handed out yet.
     is_held: bool,
-    good: u64,
+    expected: u64,
 }
 
 impl Model for InlinePool {
@@ -29,9 +29,9 @@ impl Model for InlinePool {
     ghost Value = { InlinePool };
 
     ghost view = { λ pool. record {
-      held = if pool.is_held then Some pool.room else None;
-      good = pool.good;
-      last = pool.room;
+      held = if pool.is_held then Some pool.slot else None;
+      expected = pool.expected;
+      last = pool.slot;
     } };
 }
 
@@ -42,9 +42,9 @@ impl InlinePool {
     {
         InlinePool {
             table,
-            room: Done::blank(),
+            slot: Done::blank(),
             is_held: false,
-            good: 0,
+            expected: 0,
         }
     }
 }
@@ -69,7 +69,7 @@ impl Pool for InlinePool {
         if self.is_held {
             return Err(NotPosted::Full);
         }
-        compute_in(task, &self.table, &mut self.room);
+        compute_in(task, &self.table, &mut self.slot);
         self.is_held = true;
         Ok(())
     }
@@ -93,14 +93,14 @@ impl Pool for InlinePool {
     fn count(&mut self)
         requires { IsSome self.old.held }
         ensures held { self.old.held ≡ Some self.old.last }
-        ensures taken_off { self.new ≡ record self.old { held = None; good = one_more self.old.good } }
+        ensures taken_off { self.new ≡ record self.old { held = None; expected = one_more self.old.expected } }
     {
         self.is_held = false;
-        self.good = self.good.saturating_add(1);
+        self.expected = self.expected.saturating_add(1);
     }
 
     fn fetched(&self) -> DoneRef<'_> {
-        self.room.by_ref()
+        self.slot.by_ref()
     }
 
     fn owed(&self) -> usize {

@@ -8,11 +8,11 @@ use Rattle.std.proofs.lemmas.List.Sums.{sum_by-append, sum_by-cons, sum_by_push}
 use Rattle.crossbeam_queue.specs.Fifo.{Pushes, Pops, Forks, Merges, Learns}
 use Rattle.crossbeam_queue.proofs.Lists.{at_set, at_snoc}
 use Rattle.lj_queue.specs.declared.open_task.OpenTask.{OpenTask}
-use Rattle.lj_queue.specs.declared.rule.Hand.{Hand}
-use Rattle.lj_queue.specs.Balance.{Balanced, IdleIsEmpty, Leaves, all_parts, hand_of, joined_hand, with_popped, with_pushed}
+use Rattle.lj_queue.specs.declared.rule.PassHistory.{PassHistory}
+use Rattle.lj_queue.specs.Balance.{Balanced, IdleIsEmpty, Leaves, all_parts, history_of, joined_history, with_popped, with_pushed}
 
 -- a sum after a change of one view
-total_set : (f : Hand → ℕ) (views : List Hand) (port : ℕ) (v w : Hand) → get_elem? views port ≡ some v
+total_set : (f : PassHistory → ℕ) (views : List PassHistory) (port : ℕ) (v w : PassHistory) → get_elem? views port ≡ some v
     → sum_by f (set views port w) + f v ≡ sum_by f views + f w
 total_set f [] port v w at = absurd (some-ne-none v (sym at))
 total_set f (x ∷ xs) zero v w at =
@@ -20,37 +20,37 @@ total_set f (x ∷ xs) zero v w at =
 total_set f (x ∷ xs) (suc port) v w at =
     omega (arith, sum_by-cons f x (set xs port w), sum_by-cons f x xs, total_set f xs port v w at)
 
-idle_set : (views : List Hand) (port : ℕ) (w : Hand) → (w.parts ≡ 0 → (w.pushed ≡ []) × (w.popped ≡ []))
+idle_set : (views : List PassHistory) (port : ℕ) (w : PassHistory) → (w.parts ≡ 0 → (w.pushed ≡ []) × (w.popped ≡ []))
     → IdleIsEmpty views → IdleIsEmpty (set views port w)
 idle_set views port w mine others j u at =
-    ⊎_elim (λ x. subst (λ (y : Hand). y.parts ≡ 0 → (y.pushed ≡ []) × (y.popped ≡ [])) x.1 mine)
+    ⊎_elim (λ x. subst (λ (y : PassHistory). y.parts ≡ 0 → (y.pushed ≡ []) × (y.popped ≡ [])) x.1 mine)
     (λ x. others j u x.1) (at_set views port j w u at)
 
-abbrev parts_of : Hand → ℕ
+abbrev parts_of : PassHistory → ℕ
 parts_of v = v.parts
 
-abbrev pushed_weight : (OpenTask → ℕ) → Hand → ℕ
+abbrev pushed_weight : (OpenTask → ℕ) → PassHistory → ℕ
 pushed_weight h v = sum_by h v.pushed
 
-abbrev popped_weight : (OpenTask → ℕ) → Hand → ℕ
+abbrev popped_weight : (OpenTask → ℕ) → PassHistory → ℕ
 popped_weight h v = sum_by h v.popped
 
-pub begins : Balanced [] (hand_of all_parts [] [] ∷ [])
+pub begins : Balanced [] (history_of all_parts [] [] ∷ [])
 begins = record {
-  parts = omega (arith, sum_by-cons parts_of (hand_of all_parts [] []) []);
+  parts = omega (arith, sum_by-cons parts_of (history_of all_parts [] []) []);
   leaves = λ h. refl;
   idle = first;
 }
   where
-    first : IdleIsEmpty (hand_of all_parts [] [] ∷ [])
-    first zero v at none = absurd (omega (arith, ap parts_of (some-injective (hand_of all_parts [] []) v at), none))
+    first : IdleIsEmpty (history_of all_parts [] [] ∷ [])
+    first zero v at none = absurd (omega (arith, ap parts_of (some-injective (history_of all_parts [] []) v at), none))
     first (suc port) v at none = absurd (some-ne-none v (sym at))
 
-pub pushes : (n port : ℕ) (v : Hand) (x : OpenTask) → 0 < v.parts
+pub pushes : (n port : ℕ) (v : PassHistory) (x : OpenTask) → 0 < v.parts
     → Pushes Balanced n port v x (λ w. w ≡ with_pushed v x)
 pushes n port v x some_part items views room b at = (w, b', refl)
   where
-    w : Hand
+    w : PassHistory
     w = with_pushed v x
 
     b' : Balanced (items ++ x ∷ []) (set views port w)
@@ -68,10 +68,10 @@ pushes n port v x some_part items views room b at = (w, b', refl)
       idle = idle_set views port w (λ none. absurd (omega (arith, some_part, none))) b.idle;
     }
 
-pub pops : (port : ℕ) (v : Hand) → 0 < v.parts → Pops Balanced port v (λ x w. w ≡ with_popped v x)
+pub pops : (port : ℕ) (v : PassHistory) → 0 < v.parts → Pops Balanced port v (λ x w. w ≡ with_popped v x)
 pops port v some_part x items views b at = (w, b', refl)
   where
-    w : Hand
+    w : PassHistory
     w = with_popped v x
 
     b' : Balanced items (set views port w)
@@ -89,8 +89,8 @@ pops port v some_part x items views b at = (w, b', refl)
       idle = idle_set views port w (λ none. absurd (omega (arith, some_part, none))) b.idle;
     }
 
-pub forks : (port : ℕ) (v : Hand) → 1 < v.parts
-    → Forks Balanced port v (hand_of (v.parts - 1) v.pushed v.popped) (hand_of 1 [] [])
+pub forks : (port : ℕ) (v : PassHistory) → 1 < v.parts
+    → Forks Balanced port v (history_of (v.parts - 1) v.pushed v.popped) (history_of 1 [] [])
 forks port v two items views b at = record {
   parts = omega (arith, total_set parts_of views port v left at, sum_by_push parts_of vs right, b.parts, two);
   leaves = λ h.
@@ -105,23 +105,23 @@ forks port v two items views b at = record {
   idle = idle;
 }
   where
-    left : Hand
-    left = hand_of (v.parts - 1) v.pushed v.popped
+    left : PassHistory
+    left = history_of (v.parts - 1) v.pushed v.popped
 
-    right : Hand
-    right = hand_of 1 [] []
+    right : PassHistory
+    right = history_of 1 [] []
 
-    vs : List Hand
+    vs : List PassHistory
     vs = set views port left
 
     idle : IdleIsEmpty (vs ++ right ∷ [])
     idle j u e none =
         ⊎_elim
         (λ x. idle_set views port left (λ zero_left. absurd (omega (arith, two, zero_left))) b.idle j u x none)
-        (λ is. subst (λ (y : Hand). (y.pushed ≡ []) × (y.popped ≡ [])) is (refl, refl)) (at_snoc vs right u j e)
+        (λ is. subst (λ (y : PassHistory). (y.pushed ≡ []) × (y.popped ≡ [])) is (refl, refl)) (at_snoc vs right u j e)
 
-pub merges : (port : ℕ) (v : Hand) (other : ℕ) (w : Hand) → 0 < v.parts
-    → Merges Balanced port v other w (joined_hand v w) (hand_of 0 [] [])
+pub merges : (port : ℕ) (v : PassHistory) (other : ℕ) (w : PassHistory) → 0 < v.parts
+    → Merges Balanced port v other w (joined_history v w) (history_of 0 [] [])
 merges port v other w some_part items views b at two at' = record {
   parts = omega (arith, total_set parts_of views port v both at, total_set parts_of vs other w spent at', b.parts);
   leaves = λ h.
@@ -139,17 +139,17 @@ merges port v other w some_part items views b at two at' = record {
       (idle_set views port both (λ none. absurd (omega (arith, some_part, none))) b.idle);
 }
   where
-    both : Hand
-    both = joined_hand v w
+    both : PassHistory
+    both = joined_history v w
 
-    spent : Hand
-    spent = hand_of 0 [] []
+    spent : PassHistory
+    spent = history_of 0 [] []
 
-    vs : List Hand
+    vs : List PassHistory
     vs = set views port both
 
 -- where no view has a part, nothing is weighed
-none_weighs : (f : Hand → ℕ) → ((u : Hand) → (u.pushed ≡ []) × (u.popped ≡ []) → f u ≡ 0) → (views : List Hand)
+none_weighs : (f : PassHistory → ℕ) → ((u : PassHistory) → (u.pushed ≡ []) × (u.popped ≡ []) → f u ≡ 0) → (views : List PassHistory)
     → sum_by parts_of views ≡ 0 → IdleIsEmpty views → sum_by f views ≡ 0
 none_weighs f empty [] none idle = refl
 none_weighs f empty (x ∷ xs) none idle =
@@ -159,8 +159,8 @@ none_weighs f empty (x ∷ xs) none idle =
     omega (arith, here, rest, sum_by-cons f x xs)
 
 -- where one view has every part, the sum is its own
-alone : (f : Hand → ℕ) → ((u : Hand) → (u.pushed ≡ []) × (u.popped ≡ []) → f u ≡ 0) → (views : List Hand) (port : ℕ)
-    (v : Hand) → get_elem? views port ≡ some v → sum_by parts_of views ≡ v.parts → IdleIsEmpty views
+alone : (f : PassHistory → ℕ) → ((u : PassHistory) → (u.pushed ≡ []) × (u.popped ≡ []) → f u ≡ 0) → (views : List PassHistory) (port : ℕ)
+    (v : PassHistory) → get_elem? views port ≡ some v → sum_by parts_of views ≡ v.parts → IdleIsEmpty views
     → sum_by f views ≡ f v
 alone f empty views port v at whole idle =
     let others = total_set parts_of views port v spent at in
@@ -168,10 +168,10 @@ alone f empty views port v at whole idle =
     (idle_set views port spent (λ _. (refl, refl)) idle) in
     omega (arith, total_set f views port v spent at, rest, empty spent (refl, refl))
   where
-    spent : Hand
-    spent = hand_of 0 [] []
+    spent : PassHistory
+    spent = history_of 0 [] []
 
-pub learns : (port : ℕ) (v : Hand) → v.parts ≡ all_parts
+pub learns : (port : ℕ) (v : PassHistory) → v.parts ≡ all_parts
     → Learns Balanced port v (λ items. Leaves v.pushed v.popped items)
 learns port v all items views b at h =
     let whole = b.parts ∙ sym all in
@@ -180,10 +180,10 @@ learns port v all items views b at h =
     omega (arith, b.leaves h, pushed, popped)
 
 -- what a call that pushes owes, and one that pops, by a pass of one part
-pub push_asked : (n port : ℕ) (v : Hand) (x : OpenTask) → v.parts ≡ 1
+pub push_asked : (n port : ℕ) (v : PassHistory) (x : OpenTask) → v.parts ≡ 1
     → Pushes Balanced n port v x (λ w. w ≡ with_pushed v x) × Learns Balanced port v (λ items. ⊤)
 push_asked n port v x one = (pushes n port v x (omega (arith, one)), λ items views b at. tt)
 
-pub pop_asked : (port : ℕ) (v : Hand) → v.parts ≡ 1
+pub pop_asked : (port : ℕ) (v : PassHistory) → v.parts ≡ 1
     → Pops Balanced port v (λ x w. w ≡ with_popped v x) × Learns Balanced port v (λ items. ⊤)
 pop_asked port v one = (pops port v (omega (arith, one)), λ items views b at. tt)

@@ -7,8 +7,8 @@ use Rattle.atomic_table.specs.Seated.{TableId}
 use Rattle.crossbeam_queue.specs.Fifo.{Held}
 use Rattle.crossbeam_queue.specs.Passes.{Pass, view, IsSamePass}
 use Rattle.lj_queue.specs.declared.open_task.OpenTask.{OpenTask}
-use Rattle.lj_queue.specs.declared.rule.Hand.{Hand}
-use Rattle.lj_queue.specs.Balance.{Leaves, all_parts, joined_hand}
+use Rattle.lj_queue.specs.declared.rule.PassHistory.{PassHistory}
+use Rattle.lj_queue.specs.Balance.{Leaves, all_parts, joined_history}
 use Rattle.lj_queue.specs.PoolPass.{IsCounted, PoolPass, pass_of}
 use Rattle.lj_queue.specs.Settling.{Gathers, LeavesOf}
 
@@ -17,9 +17,9 @@ no_item [] none = refl
 no_item (x ∷ xs) none = absurd (omega (arith, none))
 
 module _ (table : TableId) (count : ℕ) (all : List PoolPass) where
-  pub takes_in : (rest later : List PoolPass) (x : PoolPass) (into new other : Pass OpenTask Hand) (pushed popped p q : ℕ)
+  pub takes_in : (rest later : List PoolPass) (x : PoolPass) (into new other : Pass OpenTask PassHistory) (pushed popped p q : ℕ)
       → Gathers table count all rest into pushed popped → rest ≡ x ∷ later → IsSamePass into new
-      → view new ≡ joined_hand (view into) (view other) → pass_of x.number other ≡ x
+      → view new ≡ joined_history (view into) (view other) → pass_of x.number other ≡ x
       → IsCounted table other (length x.pushed) (length x.popped) → p ≡ length x.pushed → q ≡ length x.popped
       → p < 2 ^ 64 → q < 2 ^ 64 → Gathers table count all later new (pushed + p) (popped + q)
   takes_in rest later x into new other pushed popped p q was is same both trace counted p_is q_is p_most q_most =
@@ -29,7 +29,7 @@ module _ (table : TableId) (count : ℕ) (all : List PoolPass) where
           none_out = same.2 ∙ at.is_of.none_out;
         };
         most = at.most;
-        parts = omega (arith, at.parts, ap (λ (v : Hand). v.parts) both, counted.one);
+        parts = omega (arith, at.parts, ap (λ (v : PassHistory). v.parts) both, counted.one);
         pushed_is = omega (arith, at.pushed_is, p_is, sum_by-cons (λ (pass : PoolPass). length pass.pushed) x later);
         popped_is = omega (arith, at.popped_is, q_is, sum_by-cons (λ (pass : PoolPass). length pass.popped) x later);
         pushed_all =
@@ -37,7 +37,7 @@ module _ (table : TableId) (count : ℕ) (all : List PoolPass) where
               arith,
               at.pushed_all,
               p_is,
-              ap (λ (v : Hand). length v.pushed) both,
+              ap (λ (v : PassHistory). length v.pushed) both,
               length-append (view into).pushed (view other).pushed,
               ap (λ (t : PoolPass). length t.pushed) trace,
             );
@@ -46,7 +46,7 @@ module _ (table : TableId) (count : ℕ) (all : List PoolPass) where
               arith,
               at.popped_all,
               q_is,
-              ap (λ (v : Hand). length v.popped) both,
+              ap (λ (v : PassHistory). length v.popped) both,
               length-append (view into).popped (view other).popped,
               ap (λ (t : PoolPass). length t.popped) trace,
             );
@@ -57,7 +57,7 @@ module _ (table : TableId) (count : ℕ) (all : List PoolPass) where
               arith,
               at.pushed_weight h,
               sum_by-cons (λ (pass : PoolPass). sum_by h pass.pushed) x later,
-              ap (λ (v : Hand). sum_by h v.pushed) both,
+              ap (λ (v : PassHistory). sum_by h v.pushed) both,
               sum_by-append h (view into).pushed (view other).pushed,
               ap (λ (t : PoolPass). sum_by h t.pushed) trace,
             );
@@ -66,7 +66,7 @@ module _ (table : TableId) (count : ℕ) (all : List PoolPass) where
               arith,
               at.popped_weight h,
               sum_by-cons (λ (pass : PoolPass). sum_by h pass.popped) x later,
-              ap (λ (v : Hand). sum_by h v.popped) both,
+              ap (λ (v : PassHistory). sum_by h v.popped) both,
               sum_by-append h (view into).popped (view other).popped,
               ap (λ (t : PoolPass). sum_by h t.popped) trace,
             );
@@ -76,17 +76,17 @@ module _ (table : TableId) (count : ℕ) (all : List PoolPass) where
       at = subst (λ l. Gathers table count all l into pushed popped) is was
 
   -- the pass that takes them in has some part: fewer than all are left
-  pub some_part : (rest : List PoolPass) (into : Pass OpenTask Hand) (pushed popped : ℕ)
+  pub some_part : (rest : List PoolPass) (into : Pass OpenTask PassHistory) (pushed popped : ℕ)
       → Gathers table count all rest into pushed popped → 0 < (view into).parts
   some_part rest into pushed popped at =
       omega (arith, at.parts, at.most, at.pushed_most)
 
   -- the pass that took all in has every part
-  pub every_part : (rest : List PoolPass) (into : Pass OpenTask Hand) (pushed popped : ℕ)
+  pub every_part : (rest : List PoolPass) (into : Pass OpenTask PassHistory) (pushed popped : ℕ)
       → Gathers table count all rest into pushed popped → length rest ≡ 0 → (view into).parts ≡ all_parts
   every_part rest into pushed popped at is = omega (arith, at.parts, is)
 
-  pub leaves_of : (rest : List PoolPass) (into : Pass OpenTask Hand) (pushed popped left : ℕ)
+  pub leaves_of : (rest : List PoolPass) (into : Pass OpenTask PassHistory) (pushed popped left : ℕ)
       → Gathers table count all rest into pushed popped → length rest ≡ 0
       → Held left (λ items. Leaves (view into).pushed (view into).popped items) → LeavesOf all left
   leaves_of rest into pushed popped left was is held = record {

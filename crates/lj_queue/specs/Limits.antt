@@ -1,6 +1,6 @@
 -- The limits of a pool with a queue: its open tasks, the results that it keeps, and its ends.
 use Rattle.std.specs.Prelude.{◌≡◌, refl}
-use Rattle.lj_book.specs.declared.entries.TheConstants.{MAX_ENTRIES}
+use Rattle.lj_book.specs.declared.book_entry.TheConstants.{MAX_ENTRIES}
 use Rattle.lj_pool.specs.declared.pool.TheConstants.{MAX_OWED}
 use Rattle.lj_queue.specs.declared.mailboxes.TheConstants.{USERS}
 use Rattle.lj_queue.specs.declared.result_list.TheConstants.{MAX_RESULTS}

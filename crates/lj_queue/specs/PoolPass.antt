@@ -4,11 +4,11 @@ use Rattle.std.specs.List.{All}
 use Rattle.atomic_table.specs.Seated.{TableId}
 use Rattle.crossbeam_queue.specs.Passes.{Pass, view}
 use Rattle.lj_tile.specs.Task.{Task}
-use Rattle.lj_tile.specs.declared.names.TaskName.{TaskName}
+use Rattle.lj_tile.specs.declared.task_name.TaskName.{TaskName}
 use Rattle.lj_pool.specs.Seen.{Seen}
 use Rattle.lj_queue.specs.declared.open_task.OpenTask.{OpenTask}
-use Rattle.lj_queue.specs.declared.rule.Hand.{Hand}
-use Rattle.lj_queue.specs.Balance.{all_parts, hand_of, Leaves}
+use Rattle.lj_queue.specs.declared.rule.PassHistory.{PassHistory}
+use Rattle.lj_queue.specs.Balance.{all_parts, history_of, Leaves}
 
 -- an open task that an end posted for its user
 abbrev pub open_task_of : ℕ → ℕ → Task → OpenTask
@@ -33,27 +33,27 @@ abbrev pub with_pop : PoolPass → OpenTask → PoolPass
 with_pop pass ticket = record { number = pass.number; pushed = pass.pushed; popped = pass.popped ++ ticket ∷ [] }
 
 -- a pass of the queue by its number and what it has pushed and popped
-abbrev pub pass_of : ℕ → Pass OpenTask Hand → PoolPass
+abbrev pub pass_of : ℕ → Pass OpenTask PassHistory → PoolPass
 pass_of number pass =
     record { number = number; pushed = (view pass).pushed; popped = (view pass).popped }
 
 -- it is a pass of the queue of this name, and holds no slot of that queue
-pub record IsOf (table : TableId) (pass : Pass OpenTask Hand) : Type 0 where
+pub record IsOf (table : TableId) (pass : Pass OpenTask PassHistory) : Type 0 where
   pub same_table : pass.table_id ≡ table
   pub none_out : pass.me.1 ≡ []
 
 -- A pass of one part, with the lengths of its lists.
-pub record IsCounted (table : TableId) (pass : Pass OpenTask Hand) (pushed popped : ℕ) : Type 0 where
+pub record IsCounted (table : TableId) (pass : Pass OpenTask PassHistory) (pushed popped : ℕ) : Type 0 where
   pub is_of : IsOf table pass
   pub one : (view pass).parts ≡ 1
   pub all_pushed : pushed ≡ length (view pass).pushed
   pub all_popped : popped ≡ length (view pass).popped
 
 -- The root pass: what is left of the first pass after `passes` passes of one part each were cut off.
-pub record IsRootPass (table : TableId) (passes : ℕ) (pass : Pass OpenTask Hand) : Type 0 where
+pub record IsRootPass (table : TableId) (passes : ℕ) (pass : Pass OpenTask PassHistory) : Type 0 where
   pub is_of : IsOf table pass
   pub most : passes < 2 ^ 64
-  pub rest : view pass ≡ hand_of (all_parts - passes) [] []
+  pub rest : view pass ≡ history_of (all_parts - passes) [] []
 
 -- what a pool is made from: the name of its ledger, the number of parts of that, and the name of its queue
 pub record QueueBlank : Type 0 where

@@ -4,7 +4,7 @@ use Rattle.std.specs.List.{sum_by}
 use Rattle.lj_queue.specs.declared.open_task.OpenTask.{OpenTask}
 use Rattle.atomic_table.specs.Seated.{TableId}
 use Rattle.crossbeam_queue.specs.Passes.{Pass, view}
-use Rattle.lj_queue.specs.declared.rule.Hand.{Hand}
+use Rattle.lj_queue.specs.declared.rule.PassHistory.{PassHistory}
 use Rattle.lj_queue.specs.Balance.{all_parts}
 use Rattle.lj_queue.specs.PoolPass.{IsOf, PoolPass}
 
@@ -28,7 +28,7 @@ pub record LeavesOf (passes : List PoolPass) (left : ℕ) : Type 0 where
 
 -- One pass takes in all passes, one after the other: those in `rest` are still to come, and the others pushed `pushed` tasks and
 -- popped `popped`.
-pub record Gathers (table : TableId) (count : ℕ) (all rest : List PoolPass) (into : Pass OpenTask Hand) (pushed popped : ℕ)
+pub record Gathers (table : TableId) (count : ℕ) (all rest : List PoolPass) (into : Pass OpenTask PassHistory) (pushed popped : ℕ)
     : Type 0 where
   pub is_of : IsOf table into
   pub most : count < 2 ^ 64

@@ -105,19 +105,19 @@ pub const MAX_SPARE_BOXES: usize = 16;
 /// The boxes of one thread: that of the result it shows, those of the results in hand, and spare ones for the tasks that it posts
 /// next, last in, first out.
 #[derive(Drop)]
-pub(crate) struct ResultSlots {
+pub(crate) struct PassBoxes {
     pub(crate) last: DoneBox,
     pub(crate) hand: ResultList,
     pub(crate) spare: ArrayVec<Option<TaskBox>, MAX_SPARE_BOXES>,
 }
 
-impl ResultSlots {
+impl PassBoxes {
     /// Makes slots without results.
     ///
     /// # Errors
     /// Out of memory.
-    pub(crate) fn new(alloc: Global) -> Result<ResultSlots, AllocError> {
-        Ok(ResultSlots {
+    pub(crate) fn new(alloc: Global) -> Result<PassBoxes, AllocError> {
+        Ok(PassBoxes {
             last: DoneBox::new(alloc)?,
             hand: ResultList::new(alloc, 0)?,
             spare: ArrayVec::new(),
@@ -129,7 +129,7 @@ impl ResultSlots {
 #[derive(Drop)]
 pub struct PoolPass<L: PoolIdentity> {
     counted: CountedPass<L>,
-    slots: ResultSlots,
+    boxes: PassBoxes,
 }
 
 impl<L: PoolIdentity> Model for PoolPass<L> {
@@ -142,10 +142,10 @@ impl<L: PoolIdentity> Model for PoolPass<L> {
 
 impl<L: PoolIdentity> PoolPass<L> {
     /// Makes a pass from its counts and its slots.
-    pub(crate) fn new(counted: CountedPass<L>, slots: ResultSlots) -> PoolPass<L>
+    pub(crate) fn new(counted: CountedPass<L>, boxes: PassBoxes) -> PoolPass<L>
         ensures { result ≡ counted }
     {
-        PoolPass { counted, slots }
+        PoolPass { counted, boxes }
     }
 
     /// Returns its number among the passes of its pool, from 0.
@@ -170,10 +170,10 @@ impl<L: PoolIdentity> PoolPass<L> {
     }
 
     /// Returns its counts and its slots.
-    pub(crate) fn into_parts(self) -> (CountedPass<L>, ResultSlots)
+    pub(crate) fn into_parts(self) -> (CountedPass<L>, PassBoxes)
         ensures { result.0 ≡ self }
     {
-        (self.counted, self.slots)
+        (self.counted, self.boxes)
     }
 
     /// Returns the pass of the queue.

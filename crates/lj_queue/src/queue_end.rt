@@ -5,7 +5,7 @@ ghost use Rattle.lj_pool.specs.Accounts.{IsKnownByName};
 ghost use Rattle.lj_pool.specs.Seen.{IsHandedOut, IsPosted, SameOwed, StaysClosed, nothing_seen};
 ghost use Rattle.lj_queue.specs.PoolPass.{with_push, open_task_of};
 
-use crate::pass::{CountedPass, PoolIdentity, PoolPass, ResultSlots};
+use crate::pass::{CountedPass, PassBoxes, PoolIdentity, PoolPass};
 use crate::queue_pool::QueuePool;
 use lj_book::TaskBox;
 use lj_pool::{Account, MAX_OWED, NotPosted, Pool, TASKS_AT_ONCE, UnsignalledPosts};
@@ -25,11 +25,11 @@ pub struct QueueEnd<'p, L: PoolIdentity, R: Wait> {
     account: Account,
     counted: CountedPass<L>,
     /// The result that was handed out last, those that are handed out next, and boxes for the next tasks.
-    slots: ResultSlots,
+    boxes: PassBoxes,
     number: u64,
     user: u8,
     unsignalled: UnsignalledPosts,
-    ghost whose: { slots.hand.user ≡ user },
+    ghost whose: { boxes.hand.user ≡ user },
 }
 
 impl<'p, L: PoolIdentity, R: Wait> Model for QueueEnd<'p, L, R> {
@@ -42,8 +42,8 @@ impl<'p, L: PoolIdentity, R: Wait> Model for QueueEnd<'p, L, R> {
       pass = end.counted;
       number = end.number;
       user = end.user;
-      last = end.slots.last;
-      hand = end.slots.hand.results;
+      last = end.boxes.last;
+      hand = end.boxes.hand.results;
     } };
 }
 
@@ -62,14 +62,14 @@ impl<'p, L: PoolIdentity, R: Wait> QueueEnd<'p, L, R> {
         ensures user { result.user ≡ user }
         ensures empty_handed { result.hand ≡ [] }
     {
-        let (counted, mut slots) = pass.into_parts();
-        pool.spares.clear(rt, &mut slots.hand, user);
+        let (counted, mut boxes) = pass.into_parts();
+        pool.spares.clear(rt, &mut boxes.hand, user);
         QueueEnd {
             rt,
             pool,
             account: Account::new(),
             counted,
-            slots,
+            boxes,
             number,
             user,
             unsignalled: UnsignalledPosts::new(),
@@ -82,9 +82,9 @@ impl<'p, L: PoolIdentity, R: Wait> QueueEnd<'p, L, R> {
     {
         let mut unsignalled = self.unsignalled;
         self.pool.wake_workers(self.rt, unsignalled.take_due(1));
-        let mut slots = self.slots;
-        self.pool.spares.clear(self.rt, &mut slots.hand, self.user);
-        PoolPass::new(self.counted, slots)
+        let mut boxes = self.boxes;
+        self.pool.spares.clear(self.rt, &mut boxes.hand, self.user);
+        PoolPass::new(self.counted, boxes)
     }
 }
 
@@ -116,7 +116,7 @@ impl<'p, L: PoolIdentity, R: Wait> Pool for QueueEnd<'p, L, R> {
         ensures stays_closed { StaysClosed self.old.seen self.new.seen }
     {
         let (end, user) = (self.number, self.user);
-        let (pass, mut next) = (&mut self.counted, self.slots.spare.pop().flatten());
+        let (pass, mut next) = (&mut self.counted, self.boxes.spare.pop().flatten());
         let posted = self
             .pool
             .post(self.rt, pass, end, user, task, &mut next, wait);
@@ -152,7 +152,7 @@ impl<'p, L: PoolIdentity, R: Wait> Pool for QueueEnd<'p, L, R> {
                 self.rt,
                 self.user,
                 self.account.owed(),
-                &mut self.slots.hand,
+                &mut self.boxes.hand,
             );
         }
         let fetched = self.hand_out();
@@ -186,7 +186,7 @@ impl<'p, L: PoolIdentity, R: Wait> Pool for QueueEnd<'p, L, R> {
         ensures closed { self.new.seen.closed ≡ self.old.seen.closed }
         ensures stays_closed { StaysClosed self.old.seen self.new.seen }
     {
-        self.account.count(self.slots.last.done().task());
+        self.account.count(self.boxes.last.done().task());
     }
 
     fn count_by_name(&mut self)
@@ -196,11 +196,11 @@ impl<'p, L: PoolIdentity, R: Wait> Pool for QueueEnd<'p, L, R> {
         ensures closed { self.new.seen.closed ≡ self.old.seen.closed }
         ensures stays_closed { StaysClosed self.old.seen self.new.seen }
     {
-        self.account.count_by_name(self.slots.last.done().task());
+        self.account.count_by_name(self.boxes.last.done().task());
     }
 
     fn fetched(&self) -> DoneRef<'_> {
-        self.slots.last.done()
+        self.boxes.last.done()
     }
 
     fn owed(&self) -> usize {
@@ -227,7 +227,7 @@ impl<'p, L: PoolIdentity, R: Wait> QueueEnd<'p, L, R> {
         if is_closed {
             self.pool
                 .spares
-                .clear(self.rt, &mut self.slots.hand, self.user);
+                .clear(self.rt, &mut self.boxes.hand, self.user);
         }
         is_closed
     }
@@ -239,7 +239,7 @@ impl<'p, L: PoolIdentity, R: Wait> QueueEnd<'p, L, R> {
         ensures kept { 0 < length self.old.hand → self.new.hand ≡ self.old.hand }
         ensures unchanged { self.new ≡ record self.old { hand = self.new.hand } }
     {
-        !self.slots.hand.is_empty() || self.pool.poll(self.rt, self.user, &mut self.slots.hand)
+        !self.boxes.hand.is_empty() || self.pool.poll(self.rt, self.user, &mut self.boxes.hand)
     }
 
     /// Shows the next result that it has in hand. False where it has none.
@@ -250,10 +250,10 @@ impl<'p, L: PoolIdentity, R: Wait> QueueEnd<'p, L, R> {
         ensures unchanged { self.new ≡ record self.old { last = self.new.last; hand = self.new.hand } }
         ensures none { result ≡ false → self.new ≡ self.old }
     {
-        let Some(first) = self.slots.hand.pop(self.user) else {
+        let Some(first) = self.boxes.hand.pop(self.user) else {
             return false;
         };
-        let older = mem::replace(&mut self.slots.last, first);
+        let older = mem::replace(&mut self.boxes.last, first);
         self.reuse(older.into_task());
         true
     }
@@ -262,10 +262,10 @@ impl<'p, L: PoolIdentity, R: Wait> QueueEnd<'p, L, R> {
     fn reuse(&mut self, spare: TaskBox)
         ensures { self.new ≡ self.old }
     {
-        if self.slots.spare.is_full() {
+        if self.boxes.spare.is_full() {
             self.pool.spares.put_by(self.rt, spare);
         } else {
-            self.slots.spare.push(Some(spare));
+            self.boxes.spare.push(Some(spare));
         }
     }
 

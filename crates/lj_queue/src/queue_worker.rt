@@ -28,7 +28,7 @@ pub fn work_queue<L: PoolIdentity, G: Gate, R: Wait>(
     ensures of_its_own { PopsFor (result.0 - share) (G.sends_back gate.now) pass result.1 }
 {
     let mut share = share;
-    let (mut counted, slots) = pass.into_parts();
+    let (mut counted, boxes) = pass.into_parts();
     for _ in rt.forever() {
         let Some(ticket) = pool.take(rt, &mut counted) else {
             break;
@@ -39,7 +39,7 @@ pub fn work_queue<L: PoolIdentity, G: Gate, R: Wait>(
             pool.give_or_put_by(rt, end, user, task.compute(table), &mut share);
         }
     }
-    (share, PoolPass::new(counted, slots))
+    (share, PoolPass::new(counted, boxes))
 }
 
 /// Returns the task, or None if the gate sent it back and there was room for it in the queue, where it is open again.

@@ -2,7 +2,7 @@
 ghost use Rattle.std.specs.Prelude.{◌≡◌, ◌+◌, ◌-◌, ◌<◌, ◌^◌, ℕ, [], vec_len, slice_index_or, IfOk};
 ghost use Rattle.lj_queue.specs.PoolPass.{IsOf, IsRootPass, IsCounted, untouched_pass};
 
-use crate::pass::{CountedPass, PoolIdentity, PoolPass, ResultSlots};
+use crate::pass::{CountedPass, PassBoxes, PoolIdentity, PoolPass};
 use crate::rule::{Cut, OpenTasks, TaskPass};
 use std::alloc::{AllocError, Global};
 use std::marker::PhantomData;
@@ -43,7 +43,7 @@ pub(crate) fn passes_of<L: PoolIdentity>(
     let mut passes = Vec::with_capacity(alloc, count)?;
     for number in 0..count {
         let counted = CountedPass::new(queue.another::<Cut>(&mut first), number);
-        passes.push(PoolPass::new(counted, ResultSlots::new(alloc)?))?;
+        passes.push(PoolPass::new(counted, PassBoxes::new(alloc)?))?;
     }
     Ok((
         passes,

@@ -11,7 +11,7 @@ use Rattle.lj_ring.specs.declared.coordinates.Place.{Place}
 use Rattle.lj_ring.specs.declared.arcs.Arc.{Arc}
 use Rattle.lj_ring.specs.declared.arcs.Spans.{Spans}
 use Rattle.lj_ring.specs.Spans.{arc_over, spans_below, wider_spans}
-use Rattle.lj_ring.specs.Ring.{image, ring_difference, ring_residue, IsOnRing, place_at, distance, square}
+use Rattle.lj_ring.specs.Ring.{image, ring_difference, ring_residue, IsOnRing, place_at, squared_distance, square}
 use Rattle.lj_ring.specs.Arcs.{gap, IsOnArc, least_below, greatest_below, offset, arc_along, arcs_of, squared_gap, AreOn}
 
 -- the size of a residue as a signed number
@@ -221,7 +221,7 @@ gap_along axis ps qs ring_p ring_q i j in_p in_q =
 pub squared_gap_least : (ps qs : List Place)
     → ((i : ℕ) → i < length ps → IsOnRing (place_at ps i))
     → ((i : ℕ) → i < length qs → IsOnRing (place_at qs i)) → (i j : ℕ) → i < length ps → j < length qs
-    → squared_gap (arcs_of ps) (arcs_of qs) ≤ distance (place_at ps i) (place_at qs j)
+    → squared_gap (arcs_of ps) (arcs_of qs) ≤ squared_distance (place_at ps i) (place_at qs j)
 unfolding arcs_of
 squared_gap_least ps qs ring_p ring_q i j in_p in_q =
     add-le-add (add-le-add

@@ -35,13 +35,13 @@ cut_sum cut x y z = cut_square cut x + cut_square cut y + cut_square cut z
 
 -- the scale of its stored form
 abbrev pub scale_of_kept : Inside → Scale
-scale_of_kept a = record { edge = a.edge; sigma = a.sigma; strength = a.strength }
+scale_of_kept a = record { edge = a.edge; sigma = a.sigma; step_factor = a.step_factor }
 
 -- the stored numbers are derived from sigma, which is in range
 pub record IsKept (a : Inside) : Type 0 where
   pub sigma_least : MIN_SIGMA ≤ a.sigma
   pub sigma_most : CUTOFF_HALVES * a.sigma < 2 ^ 32
-  pub strength_most : a.strength ≤ MAX_STEP_FACTOR
+  pub step_factor_most : a.step_factor ≤ MAX_STEP_FACTOR
   pub square_is : a.sigma_square ≡ a.sigma * a.sigma
   pub reach_is : a.reach ≡ reach_of (a.sigma * a.sigma)
   pub inverse_is : a.inverse ≡ inverse_of (a.sigma * a.sigma)
@@ -54,7 +54,7 @@ abbrev pub kept_of : Scale → Inside
 kept_of u = record {
   edge = u.edge;
   sigma = u.sigma;
-  strength = u.strength;
+  step_factor = u.step_factor;
   sigma_square = u.sigma * u.sigma;
   reach = reach_of (u.sigma * u.sigma);
   inverse = inverse_of (u.sigma * u.sigma);
@@ -64,13 +64,13 @@ kept_of u = record {
 }
 
 -- scales with equal numbers are equal
-same_kept : (edge sigma strength square square' reach reach' inverse inverse' cut cut' shift shift' : ℕ)
+same_kept : (edge sigma step_factor square square' reach reach' inverse inverse' cut cut' shift shift' : ℕ)
     → (reciprocal reciprocal' : ℕ) → square ≡ square' → reach ≡ reach' → inverse ≡ inverse' → cut ≡ cut'
     → shift ≡ shift' → reciprocal ≡ reciprocal'
     → (let a : Inside = record {
       edge = edge;
       sigma = sigma;
-      strength = strength;
+      step_factor = step_factor;
       sigma_square = square;
       reach = reach;
       inverse = inverse;
@@ -82,7 +82,7 @@ same_kept : (edge sigma strength square square' reach reach' inverse inverse' cu
     record {
       edge = edge;
       sigma = sigma;
-      strength = strength;
+      step_factor = step_factor;
       sigma_square = square';
       reach = reach';
       inverse = inverse';
@@ -91,11 +91,11 @@ same_kept : (edge sigma strength square square' reach reach' inverse inverse' cu
       reciprocal = reciprocal';
     } in
     b ≡ a)
-same_kept edge sigma strength square square' reach reach' inverse inverse' cut cut' shift shift' reciprocal reciprocal' p q r
+same_kept edge sigma step_factor square square' reach reach' inverse inverse' cut cut' shift shift' reciprocal reciprocal' p q r
     s t u =
     cc
 
 pub kept_of-units : (a : Inside) → IsKept a → kept_of (scale_of_kept a) ≡ a
 kept_of-units a h =
-    same_kept a.edge a.sigma a.strength a.sigma_square _ a.reach _ a.inverse _ a.cut _ a.shift _ a.reciprocal _ h.square_is
+    same_kept a.edge a.sigma a.step_factor a.sigma_square _ a.reach _ a.inverse _ a.cut _ a.shift _ a.reciprocal _ h.square_is
     h.reach_is h.inverse_is h.cut_is h.shift_is h.reciprocal_is

@@ -37,8 +37,8 @@ abbrev pub square : ℤ → ℕ
 square z = unsigned_abs z * unsigned_abs z
 
 -- the squared distance of two places: the sum of the squares of the three least images
-abbrev pub distance : Place → Place → ℕ
-distance p q = square (image p.x q.x) + square (image p.y q.y) + square (image p.z q.z)
+abbrev pub squared_distance : Place → Place → ℕ
+squared_distance p q = square (image p.x q.x) + square (image p.y q.y) + square (image p.z q.z)
 
 -- the sum of f 0, f 1, .. f (n - 1)
 abbrev pub sum_below : ℕ → (ℕ → ℕ) → ℕ

@@ -11,11 +11,11 @@ use Rattle.lj_ring.specs.Places.{units_of}
 pub record Scale : Type 0 where
   pub edge : ℕ
   pub sigma : ℕ
-  pub strength : ℕ
+  pub step_factor : ℕ
 
 -- the scale of the greatest box, with the least sigma and the least step factor
 abbrev pub least_scale : Scale
-least_scale = record { edge = MAX_EDGE; sigma = MIN_SIGMA; strength = 1 }
+least_scale = record { edge = MAX_EDGE; sigma = MIN_SIGMA; step_factor = 1 }
 
 -- an edge is 10^6 to 10^15 nano
 abbrev pub is_edge : ℤ → Bool
@@ -26,17 +26,17 @@ abbrev pub is_sigma : ℤ → Bool
 is_sigma sigma = int_le (pos MIN_SIGMA) sigma && nat_lt (CUTOFF_HALVES * unsigned_abs sigma) (2 ^ 32)
 
 -- a step factor is 1 to 2^24
-abbrev pub is_strength : ℕ → Bool
-is_strength strength = nat_le 1 strength && nat_le strength MAX_STEP_FACTOR
+abbrev pub is_step_factor : ℕ → Bool
+is_step_factor step_factor = nat_le 1 step_factor && nat_le step_factor MAX_STEP_FACTOR
 
 -- the scale of an edge and a sigma in nano and a step factor, or the first of the three that does not fit
 abbrev pub scale_of : ℤ → ℤ → ℕ → Result Scale ScaleFault
-scale_of edge sigma strength =
+scale_of edge sigma step_factor =
     let sigma_units = units_of (unsigned_abs edge) sigma in
     if is_edge edge then
     (if is_sigma sigma_units then
-    (if is_strength strength then
-    Ok (record { edge = unsigned_abs edge; sigma = unsigned_abs sigma_units; strength = strength })
+    (if is_step_factor step_factor then
+    Ok (record { edge = unsigned_abs edge; sigma = unsigned_abs sigma_units; step_factor = step_factor })
     else Err StepFactor)
     else Err Sigma)
     else Err Edge

@@ -5,11 +5,11 @@ use Rattle.lj_ring.specs.Arcs.{arcs_of, gap, squared_gap}
 use Rattle.lj_ring.specs.Bins.{near_bin}
 use Rattle.lj_ring.specs.Scale.{Scale, scale_of, is_in_cutoff, entry}
 
-least_edge : scale_of (pos (10 ^ 6)) (pos (10 ^ 5)) 1 ≡ Ok (record { edge = 10 ^ 6; sigma = 429496729; strength = 1 })
+least_edge : scale_of (pos (10 ^ 6)) (pos (10 ^ 5)) 1 ≡ Ok (record { edge = 10 ^ 6; sigma = 429496729; step_factor = 1 })
 least_edge = refl
 
 greatest_edge : scale_of (pos (10 ^ 15)) (pos (10 ^ 14)) (2 ^ 24)
-    ≡ Ok (record { edge = 10 ^ 15; sigma = 429496729; strength = 2 ^ 24 })
+    ≡ Ok (record { edge = 10 ^ 15; sigma = 429496729; step_factor = 2 ^ 24 })
 greatest_edge = refl
 
 edge_too_short : scale_of (pos 999999) (negsuc 0) 0 ≡ Err Edge
@@ -18,7 +18,7 @@ edge_too_short = refl
 edge_too_long : scale_of (pos (10 ^ 15 + 1)) (pos (10 ^ 14)) 1 ≡ Err Edge
 edge_too_long = refl
 
-least_sigma : scale_of (pos (2 ^ 32)) (pos 65536) 1 ≡ Ok (record { edge = 2 ^ 32; sigma = 65536; strength = 1 })
+least_sigma : scale_of (pos (2 ^ 32)) (pos 65536) 1 ≡ Ok (record { edge = 2 ^ 32; sigma = 65536; step_factor = 1 })
 least_sigma = refl
 
 sigma_too_small : scale_of (pos (2 ^ 32)) (pos 65535) 0 ≡ Err Sigma
@@ -35,7 +35,7 @@ step_factor_too_large = refl
 
 -- 2.5 sigma of 65,536 units are 163,840
 units : Scale
-units = record { edge = 2 ^ 32; sigma = 65536; strength = 1 }
+units = record { edge = 2 ^ 32; sigma = 65536; step_factor = 1 }
 
 below_the_cutoff : is_in_cutoff units (163840 ^ 2 - 1) ≡ true
 unfolding units

@@ -3,7 +3,7 @@ ghost use Rattle.std.specs.Prelude.{ℕ, ◌≡◌, ◌≤◌, ◌<◌, ◌+◌,
 ghost use Rattle.lj_ring.specs.declared.scales.TheConstants.{MIN_SIGMA, CUTOFF_HALVES, BINS_TO_SQUARE};
 ghost use Rattle.lj_ring.specs.Kept as kept;
 
-use crate::lanes::{
+use crate::lane_arithmetic::{
     differences, least, low, products, shifted_left, shifted_right, splat, squares, sums,
 };
 use crate::scales::CUTOFF_HALVES;

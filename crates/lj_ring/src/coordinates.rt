@@ -44,7 +44,7 @@ fn square(image: i32) -> u64
 /// Promise: the result is the sum of the squares of the three images.
 #[inline]
 pub fn dist2(a: &Place, b: &Place) -> u64
-    ensures value { result ≡ ring.distance a.now b.now }
+    ensures value { result ≡ ring.squared_distance a.now b.now }
     ensures first { ring.IsOnRing a.now }
     ensures second { ring.IsOnRing b.now }
     ensures bound { result ≤ 3 * 2 ^ 62 }

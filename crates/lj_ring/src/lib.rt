@@ -5,7 +5,7 @@
 mod arcs;
 mod bins;
 mod coordinates;
-mod lanes;
+mod lane_arithmetic;
 mod mixes;
 mod scales;
 

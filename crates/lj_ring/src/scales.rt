@@ -3,10 +3,10 @@ ghost use Rattle.std.specs.Prelude.{ℕ, ◌≡◌, ◌≤◌, ◌<◌, ◌+◌,
 ghost use Rattle.std.specs.Prelude.{SomeIff, unsigned_abs, nat_lt, true, false, slice_index};
 ghost use Rattle.lj_ring.specs.Bins.{near_bin, lane_square};
 ghost use Rattle.lj_ring.specs.Places.{units_of};
-ghost use Rattle.lj_ring.specs.Scale.{is_edge, is_sigma, is_strength, scale_of, bin, is_in_cutoff, least_scale, IsScale};
+ghost use Rattle.lj_ring.specs.Scale.{is_edge, is_sigma, is_step_factor, scale_of, bin, is_in_cutoff, least_scale, IsScale};
 
 use crate::bins::{cut_of, quotients, reciprocal_of, shift_of, squares_cut_off};
-use crate::lanes::{least, narrowed};
+use crate::lane_arithmetic::{least, narrowed};
 use lj_fixed::{MAX_NANO, Nano};
 use std::fmt;
 use std::marker::Model;
@@ -112,7 +112,7 @@ impl fmt::Display for ScaleFault {
 pub struct Scale {
     edge: Edge,
     sigma: u32,
-    strength: u32,
+    step_factor: u32,
     sigma_square: u64,
     /// The first squared distance out of reach, the square of the cutoff: `ceil(25 sigma² / 4)`.
     reach: u64,
@@ -156,10 +156,10 @@ impl Scale {
         let Some(sigma) = sigma_in_units(sigma, &edge) else {
             return Err(ScaleFault::Sigma);
         };
-        let Some(strength) = step_factor(h) else {
+        let Some(step_factor) = checked_step_factor(h) else {
             return Err(ScaleFault::StepFactor);
         };
-        Ok(Scale::of(edge, sigma, strength))
+        Ok(Scale::of(edge, sigma, step_factor))
     }
 
     /// Returns the scale of the greatest box, with the least sigma and the least step factor.
@@ -178,12 +178,12 @@ impl Scale {
 
     /// Returns the step factor in units of 2^-32. No pair that interacts lies half the box apart.
     #[inline]
-    pub fn strength(&self) -> u32
-        ensures value { result ≡ self.now.strength }
+    pub fn step_factor(&self) -> u32
+        ensures value { result ≡ self.now.step_factor }
         ensures most { result ≤ MAX_STEP_FACTOR }
         ensures near { IsScale self.now }
     {
-        self.strength
+        self.step_factor
     }
 
     /// Returns the least squared distance out of reach, in square ring units: a pair interacts below it and not from it on.
@@ -227,11 +227,11 @@ impl Scale {
         }
     }
 
-    fn of(edge: Edge, sigma: u32, strength: u32) -> Scale
+    fn of(edge: Edge, sigma: u32, step_factor: u32) -> Scale
         requires sigma_least { MIN_SIGMA ≤ sigma }
         requires sigma_most { CUTOFF_HALVES * sigma < 2 ^ 32 }
-        requires strength_most { strength ≤ MAX_STEP_FACTOR }
-        ensures { result ≡ record { edge = edge; sigma = sigma; strength = strength } }
+        requires step_factor_most { step_factor ≤ MAX_STEP_FACTOR }
+        ensures { result ≡ record { edge = edge; sigma = sigma; step_factor = step_factor } }
     {
         let sigma_square = u64::from(sigma) * u64::from(sigma);
         let inverse = (1u128 << 95).div_ceil(u128::from(sigma_square)) as u64;
@@ -239,7 +239,7 @@ impl Scale {
         Scale {
             edge,
             sigma,
-            strength,
+            step_factor,
             sigma_square,
             reach: (CUTOFF_HALVES * CUTOFF_HALVES * sigma_square).div_ceil(4),
             inverse,
@@ -267,8 +267,8 @@ fn sigma_in_units(sigma: Nano, edge: &Edge) -> Option<u32>
     }
 }
 
-fn step_factor(h: u64) -> Option<u32>
-    ensures { SomeIff result (IsTrue (is_strength h)) h }
+fn checked_step_factor(h: u64) -> Option<u32>
+    ensures { SomeIff result (IsTrue (is_step_factor h)) h }
 {
     if 1 <= h && h <= u64::from(MAX_STEP_FACTOR) {
         Some(h as u32)

@@ -4,7 +4,7 @@ use Rattle.lj_access.specs.declared.directory.TheConstants.{MAX_USERS}
 use Rattle.lj_pool.specs.declared.pool.TheConstants.{MAX_OWED}
 use Rattle.lj_queue.specs.declared.mailboxes.TheConstants.{USERS}
 use Rattle.lj_queue.specs.declared.queue_pool.TheConstants.{CONNECTIONS}
-use Rattle.lj_world.specs.declared.limits.TheConstants as world
+use Rattle.lj_world.specs.declared.world_limits.TheConstants as world
 use Rattle.lj_serve.specs.declared.quota_limits.TheConstants.{MAX_QUOTA_ATOMS, MAX_QUOTA_BRANCHES}
 use Rattle.lj_serve.specs.declared.quota_limits.TheConstants.{MAX_QUOTA_SESSIONS}
 use Rattle.lj_serve.specs.declared.serve.connection_limit.TheConstants.{MAX_OPEN_CONNECTIONS}

@@ -5,14 +5,14 @@ use Rattle.lj_pool.specs.declared.engine.served.Served.TheVariants.{End, Bye, En
 use Rattle.lj_pool.specs.declared.engine.served.Served.TheVariants.{PoolClosed, TooManyStrays}
 use Rattle.lj_serve.specs.declared.input.text.TextFault.{TextFault}
 use Rattle.lj_serve.specs.declared.input.text.TextFault.TheVariants as texts
-use Rattle.lj_serve.specs.declared.program_fault.Fault.{Fault}
+use Rattle.lj_serve.specs.declared.program_fault.ProgramFault.{ProgramFault}
 use Rattle.lj_serve.specs.declared.program_fault.ReplayFault.{ReplayFault}
 use Rattle.lj_serve.specs.declared.program_fault.ReplayFault.TheVariants as replays
-use Rattle.lj_serve.specs.declared.program_fault.Fault.TheVariants.{Read, Write, Listen, Memory}
-use Rattle.lj_serve.specs.declared.program_fault.Fault.TheVariants.{Unreadable, ScheduleLine, UsersLine}
+use Rattle.lj_serve.specs.declared.program_fault.ProgramFault.TheVariants.{Read, Write, Listen, Memory}
+use Rattle.lj_serve.specs.declared.program_fault.ProgramFault.TheVariants.{Unreadable, ScheduleLine, UsersLine}
 
 -- the outcome of a run whose replies are written, by how serving ended; its pool is never given up
-abbrev pub ComesTo : Served → Result (Unit {0}) Fault → Type 0
+abbrev pub ComesTo : Served → Result (Unit {0}) ProgramFault → Type 0
 ComesTo End outcome = outcome ≡ Ok tt
 ComesTo Bye outcome = outcome ≡ Ok tt
 ComesTo Ended outcome = outcome ≡ Ok tt
@@ -22,7 +22,7 @@ ComesTo PoolClosed outcome = ⊥
 ComesTo TooManyStrays outcome = ⊥
 
 -- the exit status of a program that failed
-abbrev pub status_of : Fault → ℕ
+abbrev pub status_of : ProgramFault → ℕ
 status_of Read = 1
 status_of Write = 1
 status_of Listen = 1
@@ -37,18 +37,18 @@ replay_fault_of (texts.Line number) = replays.Line number
 replay_fault_of texts.Memory = replays.Memory
 
 -- the fault of a program whose replay failed
-abbrev pub fault_of_replay : ReplayFault → Fault
+abbrev pub fault_of_replay : ReplayFault → ProgramFault
 fault_of_replay (replays.Line number) = ScheduleLine number
 fault_of_replay replays.Memory = Memory
 fault_of_replay replays.Write = Write
 
 -- the fault of a program whose users cannot be read
-abbrev pub users_fault_of : TextFault → Fault
+abbrev pub users_fault_of : TextFault → ProgramFault
 users_fault_of (texts.Line number) = UsersLine number
 users_fault_of texts.Memory = Memory
 
 -- the faults with which a run can fail
-abbrev pub IsOfRun : Fault → Type 0
+abbrev pub IsOfRun : ProgramFault → Type 0
 IsOfRun Read = Unit {0}
 IsOfRun Write = Unit {0}
 IsOfRun Memory = Unit {0}

@@ -5,7 +5,7 @@ ghost use Rattle.lj_serve.specs.Conversations.{Converses};
 ghost use Rattle.lj_serve.specs.Outcomes.{ComesTo, IsOfRun};
 ghost use Rattle.lj_pool.specs.declared.engine.served.Served.TheVariants.{PoolClosed, ReadFault, TooManyStrays, WriteFault};
 
-use crate::program_fault::Fault;
+use crate::program_fault::ProgramFault;
 use lj_pool::{InlinePool, Served, serve};
 use lj_quota::Quota;
 use lj_session::UserState;
@@ -27,14 +27,14 @@ pub fn run<R: Read + Drop, W: Write + Drop>(
     quota: Quota,
     reader: R,
     writer: W,
-) -> Result<(), Fault<'static>>
+) -> Result<(), ProgramFault<'static>>
     ensures { IfErr result IsOfRun }
 {
     let source = CountedReading::new(Asked::reader(reader));
     let sink = HeldWriting::new(alloc, Asked::writer(writer))?;
     let (served, _, mut sink) = converse(alloc, quota, source, sink);
     if served != Served::WriteFault && sink.flush().is_err() {
-        return Err(Fault::Write);
+        return Err(ProgramFault::Write);
     }
     outcome(served)
 }
@@ -50,7 +50,7 @@ fn converse<R: Source + Drop, W: Sink>(
     source: R,
     mut sink: W,
 ) -> (Served, R, W)
-    ensures told { Converses result.0 quota (R.remaining source) (W.contents sink) (W.contents result.2) }
+    ensures dialogue { Converses result.0 quota (R.remaining source) (W.contents sink) (W.contents result.2) }
     ensures read_fault { result.0 ≡ ReadFault → Rises (R.errors source) (R.errors result.1) }
     ensures write_fault { result.0 ≡ WriteFault → Rises (W.faults sink) (W.faults result.2) }
 {
@@ -61,15 +61,15 @@ fn converse<R: Source + Drop, W: Sink>(
 }
 
 /// Returns the outcome of a run whose replies are written, by how serving ended.
-fn outcome(served: Served) -> Result<(), Fault<'static>>
+fn outcome(served: Served) -> Result<(), ProgramFault<'static>>
     requires never_closed { served ≡ PoolClosed → ⊥ }
     requires few_strays { served ≡ TooManyStrays → ⊥ }
     ensures { ComesTo served result }
 {
     match served {
         Served::End | Served::Bye | Served::Ended => Ok(()),
-        Served::ReadFault => Err(Fault::Read),
-        Served::WriteFault => Err(Fault::Write),
+        Served::ReadFault => Err(ProgramFault::Read),
+        Served::WriteFault => Err(ProgramFault::Write),
         Served::PoolClosed | Served::TooManyStrays => unreachable!(),
     }
 }

@@ -11,7 +11,7 @@ mod serve;
 
 pub use conversing::run;
 pub use input::{TextFault, UsersFault, read_users};
-pub use program_fault::{Fault, ReplayFault};
+pub use program_fault::{ProgramFault, ReplayFault};
 pub use quota_limits::{MAX_QUOTA_ATOMS, MAX_QUOTA_BRANCHES, MAX_QUOTA_SESSIONS};
 pub use replaying::replay;
 pub use serve::{Kept, MAX_OPEN_CONNECTIONS, serve_on};

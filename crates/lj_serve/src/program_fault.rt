@@ -1,7 +1,7 @@
 //! The faults of the program, their messages, and its exit status.
 ghost use Rattle.std.specs.Prelude.{◌≡◌};
 ghost use Rattle.lj_serve.specs.Outcomes.{status_of, fault_of_replay, replay_fault_of, users_fault_of};
-ghost use Rattle.lj_serve.specs.declared.program_fault.Fault.TheVariants.{Memory, Write};
+ghost use Rattle.lj_serve.specs.declared.program_fault.ProgramFault.TheVariants.{Memory, Write};
 ghost use Rattle.lj_serve.specs.declared.program_fault.ReplayFault.TheVariants.{Memory as NoMemory, Write as WriteFailed};
 
 use crate::input::{TextFault, UsersFault};
@@ -12,7 +12,7 @@ use thiserror::Error;
 
 /// Why the program failed.
 #[derive(Clone, Copy, Debug, Error)]
-pub enum Fault<'a> {
+pub enum ProgramFault<'a> {
     /// The input could not be read.
     #[error("read fault")]
     Read,
@@ -47,14 +47,14 @@ pub enum ReplayFault {
     Write,
 }
 
-impl Fault<'_> {
+impl ProgramFault<'_> {
     /// Returns the fault for users that cannot be read.
     pub fn of_users(fault: UsersFault) -> Self
         ensures { result ≡ users_fault_of fault }
     {
         match fault {
-            UsersFault::Line(number) => Fault::UsersLine(number),
-            UsersFault::Memory => Fault::Memory,
+            UsersFault::Line(number) => ProgramFault::UsersLine(number),
+            UsersFault::Memory => ProgramFault::Memory,
         }
     }
 
@@ -63,45 +63,47 @@ impl Fault<'_> {
         ensures { result ≡ status_of self.entry }
     {
         match self {
-            Fault::Read | Fault::Write | Fault::Listen => 1,
-            Fault::Unreadable(_) | Fault::ScheduleLine(_) | Fault::UsersLine(_) => 2,
-            Fault::Memory => 3,
+            ProgramFault::Read | ProgramFault::Write | ProgramFault::Listen => 1,
+            ProgramFault::Unreadable(_)
+            | ProgramFault::ScheduleLine(_)
+            | ProgramFault::UsersLine(_) => 2,
+            ProgramFault::Memory => 3,
         }
     }
 }
 
-impl From<AllocError> for Fault<'_> {
+impl From<AllocError> for ProgramFault<'_> {
     ghost from_gives = { λ _ result. result ≡ Memory };
 
     fn from(_error: AllocError) -> Self {
-        Fault::Memory
+        ProgramFault::Memory
     }
 }
 
-impl From<OutOfMemory> for Fault<'_> {
+impl From<OutOfMemory> for ProgramFault<'_> {
     ghost from_gives = { λ _ result. result ≡ Memory };
 
     fn from(_error: OutOfMemory) -> Self {
-        Fault::Memory
+        ProgramFault::Memory
     }
 }
 
-impl From<WriteFault> for Fault<'_> {
+impl From<WriteFault> for ProgramFault<'_> {
     ghost from_gives = { λ _ result. result ≡ Write };
 
     fn from(_fault: WriteFault) -> Self {
-        Fault::Write
+        ProgramFault::Write
     }
 }
 
-impl From<ReplayFault> for Fault<'_> {
+impl From<ReplayFault> for ProgramFault<'_> {
     ghost from_gives = { λ fault result. result ≡ fault_of_replay fault };
 
     fn from(fault: ReplayFault) -> Self {
         match fault {
-            ReplayFault::Line(number) => Fault::ScheduleLine(number),
-            ReplayFault::Memory => Fault::Memory,
-            ReplayFault::Write => Fault::Write,
+            ReplayFault::Line(number) => ProgramFault::ScheduleLine(number),
+            ReplayFault::Memory => ProgramFault::Memory,
+            ReplayFault::Write => ProgramFault::Write,
         }
     }
 }

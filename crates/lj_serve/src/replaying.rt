@@ -29,7 +29,7 @@ use std::alloc::{AllocError, Global};
 /// Promise: where it succeeds, what was written is the printed transcript of a run for which the headline holds; at a bad line
 /// nothing was written.
 pub fn replay<W: Sink>(alloc: Global, bytes: &[u8], writer: &mut W) -> Result<(), ReplayFault>
-    ensures told { OnOk result (WritesRun (W.contents writer.old) (W.contents writer.new)) }
+    ensures written { OnOk result (WritesRun (W.contents writer.old) (W.contents writer.new)) }
     ensures nothing { IfErr result (λ fault. fault ≢ Write → writer.new ≡ writer.old) }
     ensures begun { IfErr result (λ fault. fault ≡ Write →
         BeginsRun (W.contents writer.old) (W.contents writer.new)) }
@@ -49,7 +49,7 @@ fn printed_run(alloc: Global, bytes: &[u8]) -> Result<Vec<u8>, ReplayFault>
     let Schedule { users, events } = read_schedule(alloc, bytes)?;
     let names = names(alloc, users.as_slice())?;
     let transcript = World::run(alloc, users, events)?;
-    Ok(told(alloc, names.as_slice(), transcript.entries())?)
+    Ok(rendered(alloc, names.as_slice(), transcript.entries())?)
 }
 
 /// Returns the names of users, in their order.
@@ -60,28 +60,28 @@ fn names(alloc: Global, users: &[User]) -> Result<Vec<Name>, AllocError>
 }
 
 /// Returns these replies as they are printed.
-fn told(alloc: Global, names: &[Name], entries: &[Entry]) -> Result<Vec<u8>, AllocError>
+fn rendered(alloc: Global, names: &[Name], entries: &[Entry]) -> Result<Vec<u8>, AllocError>
     ensures { IfOk result (λ bytes. bytes.items ≡ printed names.now entries.now) }
 {
     let mut bytes = Vec::new(alloc);
     for entry in entries {
-        tell(&mut bytes, names, entry)?;
+        append_entry(&mut bytes, names, entry)?;
     }
     Ok(bytes)
 }
 
 /// Prints a reply, if its user is one of these.
-fn tell(bytes: &mut Vec<u8>, names: &[Name], entry: &Entry) -> Result<(), AllocError>
+fn append_entry(bytes: &mut Vec<u8>, names: &[Name], entry: &Entry) -> Result<(), AllocError>
     ensures { OnOk result (bytes.new.items ≡ bytes.old.items ++ printed_among names.now entry.now) }
 {
     match names.get(usize::from(entry.user)) {
-        Some(name) => tell_lines(bytes, name, entry),
+        Some(name) => append_lines(bytes, name, entry),
         None => Ok(()),
     }
 }
 
 /// Prints each line of a reply after the name of its user and the number of its connection.
-fn tell_lines(bytes: &mut Vec<u8>, name: &Name, entry: &Entry) -> Result<(), AllocError>
+fn append_lines(bytes: &mut Vec<u8>, name: &Name, entry: &Entry) -> Result<(), AllocError>
     ensures { OnOk result (bytes.new.items ≡ bytes.old.items ++ printed_entry name.now entry.now) }
 {
     let mut digits = Buffer::new();

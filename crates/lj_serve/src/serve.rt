@@ -1,12 +1,12 @@
 //! Many users served over TCP, one thread for each connection and one for each worker.
 mod clock;
-mod connection;
 mod connection_limit;
 mod first_line;
 mod lock_workers;
 mod queue_workers;
 mod server;
 mod shared_directory;
+mod socket_connection;
 mod visitor;
 mod worker_pool;
 

@@ -5,7 +5,7 @@ use Rattle.std.specs.Prelude.{OnErr, IsSomeAnd}
 use Rattle.std.specs.Option.{option_map}
 use Rattle.std.specs.Str.{bytes_eq}
 use Rattle.std.proofs.lemmas.Slice.Eq.{bytes_eq-Decides}
-use Rattle.lj_tile.specs.declared.names.Kind.TheVariants.{Force, Energy}
+use Rattle.lj_tile.specs.declared.task_name.Kind.TheVariants.{Force, Energy}
 use Rattle.lj_step.specs.Sim.{OpenStep}
 use Rattle.lj_step.specs.OpenSteps.{kind_of, with_tile}
 use Rattle.lj_session.specs.declared.command.Command.{Command}
@@ -15,9 +15,9 @@ use Rattle.lj_session.specs.declared.reply.Reply.{Reply}
 use Rattle.lj_session.specs.Turns.{waits_for}
 use Rattle.lj_session.specs.Answers.{session_named, command_result, can_advance}
 use Rattle.lj_session.specs.Users.{User}
-use Rattle.lj_session.specs.UserState.{OthersKept, StepsFollow, StepsAfter, StepsAfterLoad, SameSteps, IsIdle, Performs, steps_before, with_start, session_meant, user_of}
+use Rattle.lj_session.specs.UserState.{OthersKept, StepsFollow, StepsAfter, StepsAfterLoad, SameSteps, IsIdle, Performs, steps_before, with_start, settled_session, user_of}
 use Rattle.lj_session.proofs.Performing.{IsFarIn, steps-same, start-done}
-use Rattle.lj_session.specs.UserState.{HeldSession, UserState, IsAtWork, kind_owed, is_measured, held_session, with_held_session, with_session_changed, with_step, with_more_owed, with_step_passed, with_step_taken, session_at_rest, state_at_rest, with_posted, with_passed_to, next_tile, with_tile_in}
+use Rattle.lj_session.specs.UserState.{LiveSession, UserState, IsAtWork, kind_owed, is_measured, live_session, with_live_session, with_session_changed, with_step, with_more_owed, with_step_finished, with_step_taken, with_step_restarted, with_steps_restarted, with_posted, with_passed_to, next_tile, with_tile_in}
 use Rattle.lj_session.proofs.Entries.{by_test, named-put_any, named-put_other, named-seen}
 use Rattle.lj_session.proofs.Holding.{changed-some, named-held}
 use Rattle.lj_session.proofs.Tiles.{posted-live}
@@ -26,35 +26,35 @@ same_Some : {A : Type 0} (x y : A) → Some x ≡ Some y → x ≡ y
 same_Some x y e = cc
 
 -- one session put in place, with the step that it should have
-pub at_work-put : (waiting : Option Command) (old : UserState) (name : List ℕ) (new : HeldSession)
-    → kind_of new.live.part ≡ kind_owed waiting name new → IsAtWork waiting old → IsAtWork waiting (with_held_session name new old)
+pub at_work-put : (waiting : Option Command) (old : UserState) (name : List ℕ) (new : LiveSession)
+    → kind_of new.live.part ≡ kind_owed waiting name new → IsAtWork waiting old → IsAtWork waiting (with_live_session name new old)
 at_work-put waiting old name new kind work other held e = by_test (bytes_eq name other)
     (λ t. let same = (bytes_eq-Decides name other).0 t in
-    let found : held_session (with_held_session name new old) name ≡ Some held = ap (held_session (with_held_session name new old)) same ∙ e in
+    let found : live_session (with_live_session name new old) name ≡ Some held = ap (live_session (with_live_session name new old)) same ∙ e in
     let is : new ≡ held = same_Some new held (sym (named-put_any name old.sessions new) ∙ found) in
     subst (λ (n : List ℕ). kind_of held.live.part ≡ kind_owed waiting n held) same
-    (subst (λ (h : HeldSession). kind_of h.live.part ≡ kind_owed waiting name h) is kind))
+    (subst (λ (h : LiveSession). kind_of h.live.part ≡ kind_owed waiting name h) is kind))
     (λ t. work other held (sym (named-put_other name other (λ same. true≢false (sym ((bytes_eq-Decides name other).1 same) ∙ t)) old.sessions new) ∙ e))
 
 -- one session changed
-pub at_work-changed : (waiting : Option Command) (old : UserState) (name : List ℕ) (change : HeldSession → HeldSession)
-    → ((held : HeldSession) → held_session old name ≡ Some held → kind_of (change held).live.part ≡ kind_owed waiting name (change held))
+pub at_work-changed : (waiting : Option Command) (old : UserState) (name : List ℕ) (change : LiveSession → LiveSession)
+    → ((held : LiveSession) → live_session old name ≡ Some held → kind_of (change held).live.part ≡ kind_owed waiting name (change held))
     → IsAtWork waiting old → IsAtWork waiting (with_session_changed name change old)
-at_work-changed waiting old name change kind work = by (held_session old name) refl
+at_work-changed waiting old name change kind work = by (live_session old name) refl
   where
-    by : (o : Option HeldSession) → held_session old name ≡ o → IsAtWork waiting (with_session_changed name change old)
+    by : (o : Option LiveSession) → live_session old name ≡ o → IsAtWork waiting (with_session_changed name change old)
     by None e = rw e work
     by (Some held) e = rw e (at_work-put waiting old name (change held) (kind held e) work)
 
 -- the kind of a step that stays
-pub kind-posted : (held : HeldSession) → kind_of (with_posted held).live.part ≡ kind_of held.live.part
+pub kind-posted : (held : LiveSession) → kind_of (with_posted held).live.part ≡ kind_of held.live.part
 kind-posted held = ap (λ l. kind_of l.part) (posted-live held)
 
 pub kind-taken : (k : ℕ) (part : Option OpenStep) → kind_of (with_tile k part) ≡ kind_of part
 kind-taken k None = refl
 kind-taken k (Some p) = refl
 
-pub owed-posted : (held : HeldSession) → (with_posted held).owed ≡ held.owed
+pub owed-posted : (held : LiveSession) → (with_posted held).owed ≡ held.owed
 owed-posted held = by (next_tile held)
   where
     by : (o : Option ℕ) → (with_passed_to o held).owed ≡ held.owed
@@ -62,7 +62,7 @@ owed-posted held = by (next_tile held)
     by (Some i) = refl
 
 -- a session is as it was but for its tiles
-pub kind_owed-same : (waiting : Option Command) (name : List ℕ) (held new : HeldSession) → new.owed ≡ held.owed
+pub kind_owed-same : (waiting : Option Command) (name : List ℕ) (held new : LiveSession) → new.owed ≡ held.owed
     → kind_owed waiting name new ≡ kind_owed waiting name held
 kind_owed-same waiting name held new same = rw same refl
 
@@ -78,15 +78,15 @@ at_work-taken waiting old name k work = at_work-changed waiting old name (with_t
     (λ held e. kind-taken k held.live.part ∙ work name held e) work
 
 -- where steps are owed one of pushes is open
-pub kind-some : (waiting : Option Command) (name : List ℕ) (held : HeldSession) → 0 < held.owed → kind_owed waiting name held ≡ Some Force
+pub kind-some : (waiting : Option Command) (name : List ℕ) (held : LiveSession) → 0 < held.owed → kind_owed waiting name held ≡ Some Force
 kind-some waiting name held some = rw (lt-ltb 0 held.owed some) refl
 
-pub kind-none : (waiting : Option Command) (name : List ℕ) (held : HeldSession) → held.owed ≡ 0 → is_measured waiting name ≡ false
+pub kind-none : (waiting : Option Command) (name : List ℕ) (held : LiveSession) → held.owed ≡ 0 → is_measured waiting name ≡ false
     → kind_owed waiting name held ≡ None
 kind-none waiting name held none quiet = rw (none, quiet) refl
 
 -- steps owed: the first of them is open, or one was
-pub kind-owing : (waiting : Option Command) (name : List ℕ) (n : ℕ) (held : HeldSession) → is_measured waiting name ≡ false
+pub kind-owing : (waiting : Option Command) (name : List ℕ) (n : ℕ) (held : LiveSession) → is_measured waiting name ≡ false
     → kind_of held.live.part ≡ kind_owed waiting name held
     → kind_of (with_more_owed n held).live.part ≡ kind_owed waiting name (with_more_owed n held)
 kind-owing waiting name n held quiet kind = by_test (nat_lt 0 n && nat_le held.owed 0) opens stays
@@ -114,71 +114,71 @@ kind-owing waiting name n held quiet kind = by_test (nat_lt 0 n && nat_le held.o
             let zero_more : n ≡ 0 = let z = ltb-false 0 n none in omega (arith, z) in
             ap (λ m. nat_lt 0 m) (let z : held.owed + n ≡ held.owed = omega (arith, zero_more) in z)
 
-pub kind-started : (name : List ℕ) (n : ℕ) (held : HeldSession) → kind_of held.live.part ≡ kind_owed None name held
+pub kind-started : (name : List ℕ) (n : ℕ) (held : LiveSession) → kind_of held.live.part ≡ kind_owed None name held
     → kind_of (with_start n held).live.part ≡ kind_owed None name (with_start n held)
-kind-started name n held kind = by_test (can_advance (session_meant held) n)
+kind-started name n held kind = by_test (can_advance (settled_session held) n)
     (λ t. rw t (kind-owing None name n held refl kind))
     (λ t. rw t kind)
 
 -- a step passed: the next one is open if one is owed
-pub kind-passed : (waiting : Option Command) (name : List ℕ) (held : HeldSession) → is_measured waiting name ≡ false
-    → kind_of (with_step_passed held).live.part ≡ kind_owed waiting name (with_step_passed held)
+pub kind-passed : (waiting : Option Command) (name : List ℕ) (held : LiveSession) → is_measured waiting name ≡ false
+    → kind_of (with_step_finished held).live.part ≡ kind_owed waiting name (with_step_finished held)
 kind-passed waiting name held quiet = by_test (nat_lt 0 (with_step_taken held).owed)
     (λ t. rw (t, t) refl)
     (λ t. rw (t, t, quiet) refl)
 
 -- each step begun anew
-pub kind-rest : (name : List ℕ) (held : HeldSession) → kind_of (session_at_rest held).live.part ≡ kind_owed None name (session_at_rest held)
+pub kind-rest : (name : List ℕ) (held : LiveSession) → kind_of (with_step_restarted held).live.part ≡ kind_owed None name (with_step_restarted held)
 kind-rest name held = by_test (nat_lt 0 held.owed) (λ t. rw (t, t) refl) (λ t. rw (t, t) refl)
 
-pub at_work-rested : (owned : UserState) → IsAtWork None (state_at_rest owned)
-at_work-rested owned name held e = by (held_session owned name) refl
+pub at_work-rested : (state : UserState) → IsAtWork None (with_steps_restarted state)
+at_work-rested state name held e = by (live_session state name) refl
   where
-    by : (o : Option HeldSession) → held_session owned name ≡ o → kind_of held.live.part ≡ kind_owed None name held
-    by None h = absurd (none_some held (sym (named-seen session_at_rest name owned.sessions ∙ ap (option_map session_at_rest) h) ∙ e))
+    by : (o : Option LiveSession) → live_session state name ≡ o → kind_of held.live.part ≡ kind_owed None name held
+    by None h = absurd (none_some held (sym (named-seen with_step_restarted name state.sessions ∙ ap (option_map with_step_restarted) h) ∙ e))
       where
-        none_some : (x : HeldSession) → None ≡ Some x → ⊥
+        none_some : (x : LiveSession) → None ≡ Some x → ⊥
         none_some x k = cc
     by (Some was) h =
-        let is : session_at_rest was ≡ held = same_Some (session_at_rest was) held (sym (named-seen session_at_rest name owned.sessions ∙ ap (option_map session_at_rest) h) ∙ e) in
-        subst (λ (x : HeldSession). kind_of x.live.part ≡ kind_owed None name x) is (kind-rest name was)
+        let is : with_step_restarted was ≡ held = same_Some (with_step_restarted was) held (sym (named-seen with_step_restarted name state.sessions ∙ ap (option_map with_step_restarted) h) ∙ e) in
+        subst (λ (x : LiveSession). kind_of x.live.part ≡ kind_owed None name x) is (kind-rest name was)
 
 -- the session that an answered command is of, and the others
 pub at_work-follows : (command : Command) (old new : UserState) → OthersKept command old new → StepsFollow command old new
     → IsAtWork None old → IsAtWork None new
 at_work-follows command old new others steps work name held e = by (session_named command) refl
   where
-    same : (o : Option HeldSession) → held_session old name ≡ o → IsSomeAnd o (λ before. SameSteps before held)
+    same : (o : Option LiveSession) → live_session old name ≡ o → IsSomeAnd o (λ before. SameSteps before held)
         → kind_of held.live.part ≡ kind_owed None name held
     same None h lacking = absurd lacking
     same (Some before) h s =
         ap (λ l. kind_of l.part) s.live ∙ work name before h ∙ sym (kind_owed-same None name before held s.owed)
 
-    begun : (n : ℕ) (o : Option HeldSession) → held_session old name ≡ o → IsSomeAnd o (λ before. held ≡ with_start n before)
+    begun : (n : ℕ) (o : Option LiveSession) → live_session old name ≡ o → IsSomeAnd o (λ before. held ≡ with_start n before)
         → kind_of held.live.part ≡ kind_owed None name held
     begun n None h lacking = absurd lacking
-    begun n (Some before) h is = subst (λ (x : HeldSession). kind_of x.live.part ≡ kind_owed None name x) (sym is)
+    begun n (Some before) h is = subst (λ (x : LiveSession). kind_of x.live.part ≡ kind_owed None name x) (sym is)
         (kind-started name n before (work name before h))
 
     idle : IsIdle held → kind_of held.live.part ≡ kind_owed None name held
     idle i = i.closed ∙ sym (kind-none None name held i.owed refl)
 
-    loaded : (o : Option HeldSession) → held_session old name ≡ o → StepsAfterLoad o held
+    loaded : (o : Option LiveSession) → live_session old name ≡ o → StepsAfterLoad o held
         → kind_of held.live.part ≡ kind_owed None name held
     loaded None h i = idle i
     loaded (Some before) h s = same (Some before) h s
 
-    after : (command : Command) → StepsAfter command (held_session old name) held → kind_of held.live.part ≡ kind_owed None name held
-    after (Load load) s = loaded (held_session old name) refl s
-    after (Start session n) s = begun n (held_session old name) refl s
-    after (Forget session branch) s = same (held_session old name) refl s
-    after (ListBranches session) s = same (held_session old name) refl s
+    after : (command : Command) → StepsAfter command (live_session old name) held → kind_of held.live.part ≡ kind_owed None name held
+    after (Load load) s = loaded (live_session old name) refl s
+    after (Start session n) s = begun n (live_session old name) refl s
+    after (Forget session branch) s = same (live_session old name) refl s
+    after (ListBranches session) s = same (live_session old name) refl s
     after command s = either s
       where
-        either : IsIdle held ⊎ IsSomeAnd (held_session old name) (λ before. SameSteps before held)
+        either : IsIdle held ⊎ IsSomeAnd (live_session old name) (λ before. SameSteps before held)
             → kind_of held.live.part ≡ kind_owed None name held
         either (inl i) = idle i
-        either (inr s) = same (held_session old name) refl s
+        either (inr s) = same (live_session old name) refl s
 
     own : session_named command ≡ Some name → kind_of held.live.part ≡ kind_owed None name held
     own is = after command (steps name held is e)
@@ -196,15 +196,15 @@ at_work-follows command old new others steps work name held e = by (session_name
         (λ t. other (λ is. true≢false (sym ((bytes_eq-Decides session name).1 (same_Some session name (sym h ∙ is))) ∙ t)))
 
 -- what waits for steps that are owed changes nothing of what is open
-pub at_work-waits : (command : Command) (owned : UserState) → 0 < steps_before owned command → IsAtWork None owned
-    → IsAtWork (Some command) owned
+pub at_work-waits : (command : Command) (state : UserState) → 0 < steps_before state command → IsAtWork None state
+    → IsAtWork (Some command) state
 unfolding waits_for
-at_work-waits (Measure session) owned some work name held e = work name held e ∙ by_test (bytes_eq session name)
-    (λ t. let there = ap (held_session owned) ((bytes_eq-Decides session name).0 t) ∙ e in
+at_work-waits (Measure session) state some work name held e = work name held e ∙ by_test (bytes_eq session name)
+    (λ t. let there = ap (live_session state) ((bytes_eq-Decides session name).0 t) ∙ e in
     let more : 0 < held.owed = rw there at some in
     kind-some None name held more ∙ sym (kind-some (Some (Measure session)) name held more))
     (λ t. rw t refl)
-at_work-waits command owned some work name held e = work name held e
+at_work-waits command state some work name held e = work name held e
 
 -- a command that was performed
 pub at_work-performed : (old new : UserState) (command : Command) (result : Result Reply Refusal) → Performs old command result new
@@ -212,13 +212,13 @@ pub at_work-performed : (old new : UserState) (command : Command) (result : Resu
 at_work-performed old new command (Ok made) performs same work =
     at_work-follows command old new performs.others performs.steps work
 at_work-performed old new command (Err refusal) performs same work =
-    subst (λ (owned : UserState). IsAtWork None owned) (sym same) work
+    subst (λ (state : UserState). IsAtWork None state) (sym same) work
 
 refused-far : (old : UserState) (command : Command) (refusal : Refusal) (mark : Bool)
     → command_result (user_of old) command mark ≡ Err refusal → IsFarIn old command
-refused-far old (Start session n) refusal mark h name held is there = by_test (can_advance (session_meant held) n)
-    (λ t. absurd (ok_err _ (sym (start-done (user_of old) session mark (session_meant held)
-    (named-held old session held (ap (held_session old) (same_Some session name is) ∙ there)) n t) ∙ h)))
+refused-far old (Start session n) refusal mark h name held is there = by_test (can_advance (settled_session held) n)
+    (λ t. absurd (ok_err _ (sym (start-done (user_of old) session mark (settled_session held)
+    (named-held old session held (ap (live_session old) (same_Some session name is) ∙ there)) n t) ∙ h)))
     (λ t. t)
   where
     ok_err : (x : Reply × User) → Ok x ≡ Err refusal → ⊥
@@ -229,30 +229,30 @@ pub steps-performed : (old new : UserState) (command : Command) (result : Result
     → OnErr result (new ≡ old) → StepsFollow command old new
 steps-performed old new command (Ok made) performs same = performs.steps
 steps-performed old new command (Err refusal) performs same =
-    subst (λ (owned : UserState). StepsFollow command old owned) (sym same)
+    subst (λ (state : UserState). StepsFollow command old state) (sym same)
     (steps-same old command (refused-far old command refusal performs.mark performs.performs))
 
 -- a session that is measured: its energy step is open
-pub at_work-measured : (owned : UserState) (name : List ℕ) (held : HeldSession) → held_session owned name ≡ Some held → held.owed ≡ 0
-    → IsAtWork None owned → IsAtWork (Some (Measure name)) (with_session_changed name (with_step Energy) owned)
-at_work-measured owned name held found none work other h e = by_test (bytes_eq name other) here there
+pub at_work-measured : (state : UserState) (name : List ℕ) (held : LiveSession) → live_session state name ≡ Some held → held.owed ≡ 0
+    → IsAtWork None state → IsAtWork (Some (Measure name)) (with_session_changed name (with_step Energy) state)
+at_work-measured state name held found none work other h e = by_test (bytes_eq name other) here there
   where
-    now : with_session_changed name (with_step Energy) owned ≡ with_held_session name (with_step Energy held) owned
-    now = changed-some owned name (with_step Energy) held found
+    now : with_session_changed name (with_step Energy) state ≡ with_live_session name (with_step Energy held) state
+    now = changed-some state name (with_step Energy) held found
 
     here : bytes_eq name other ≡ true → kind_of h.live.part ≡ kind_owed (Some (Measure name)) other h
     here t =
         let same = (bytes_eq-Decides name other).0 t in
         let is : with_step Energy held ≡ h =
-        same_Some (with_step Energy held) h (sym (named-put_any name owned.sessions (with_step Energy held))
-        ∙ ap (λ (o : UserState). held_session o name) (sym now)
-        ∙ ap (held_session (with_session_changed name (with_step Energy) owned)) same ∙ e) in
-        subst (λ (x : HeldSession). kind_of x.live.part ≡ kind_owed (Some (Measure name)) other x) is (rw (none, t) refl)
+        same_Some (with_step Energy held) h (sym (named-put_any name state.sessions (with_step Energy held))
+        ∙ ap (λ (o : UserState). live_session o name) (sym now)
+        ∙ ap (live_session (with_session_changed name (with_step Energy) state)) same ∙ e) in
+        subst (λ (x : LiveSession). kind_of x.live.part ≡ kind_owed (Some (Measure name)) other x) is (rw (none, t) refl)
 
     there : bytes_eq name other ≡ false → kind_of h.live.part ≡ kind_owed (Some (Measure name)) other h
     there t =
         let apart : name ≢ other = λ same. true≢false (sym ((bytes_eq-Decides name other).1 same) ∙ t) in
-        let was : held_session owned other ≡ Some h =
-        sym (named-put_other name other apart owned.sessions (with_step Energy held))
-        ∙ ap (λ (o : UserState). held_session o other) (sym now) ∙ e in
+        let was : live_session state other ≡ Some h =
+        sym (named-put_other name other apart state.sessions (with_step Energy held))
+        ∙ ap (λ (o : UserState). live_session o other) (sym now) ∙ e in
         rw t (work other h was)

@@ -8,7 +8,7 @@ use Rattle.lj_tile.specs.Task.{Task}
 use Rattle.lj_session.specs.declared.tile_cursor.TileCursor.{TileCursor}
 use Rattle.lj_session.specs.Cursors.{IsPostedTo}
 use Rattle.lj_session.specs.Owner.{Owner, label_of, task_in, task_of_session, next_session, state_changed_in, with_state, with_task_posted}
-use Rattle.lj_session.specs.UserState.{HeldSession, UserState, IsNextTile, NoTaskBefore, held_session, names, next_of}
+use Rattle.lj_session.specs.UserState.{LiveSession, UserState, IsNextTile, NoTaskBefore, live_session, names, next_of}
 use Rattle.lj_session.specs.UserState.{with_posted, with_session_changed}
 use Rattle.lj_session.proofs.Entries.{named-put_any}
 use Rattle.lj_session.proofs.Firsts.{find-at}
@@ -51,8 +51,8 @@ module _ (cursor : TileCursor) (owner later : Owner) (p : IsPostedTo cursor owne
   posted_is : with_task_posted later ≡ with_state state_after later
   posted_is = ap (λ o. with_state (state_changed_in o with_posted later.state) later) is_first
 
-  there_after : held_session state_after p.name ≡ Some (with_posted (record p.held { passed = cursor.from }))
-  there_after = ap (λ (o : UserState). held_session o p.name)
+  there_after : live_session state_after p.name ≡ Some (with_posted (record p.held { passed = cursor.from }))
+  there_after = ap (λ (o : UserState). live_session o p.name)
       (changed-some later.state p.name with_posted (record p.held { passed = cursor.from }) p.there)
       ∙ named-put_any p.name later.state.sessions (with_posted (record p.held { passed = cursor.from }))
 
@@ -73,7 +73,7 @@ module _ (cursor : TileCursor) (owner later : Owner) (p : IsPostedTo cursor owne
     named = p.named;
     held = p.held;
     at = p.at;
-    there = there_after ∙ ap (λ (h : HeldSession). Some h) passes;
+    there = there_after ∙ ap (λ (h : LiveSession). Some h) passes;
     before = before_after;
     same_names = names-changed later.state p.name with_posted ∙ p.same_names;
     number = p.number;

@@ -12,124 +12,124 @@ use Rattle.lj_branch.specs.Named.{value_named, with_value, without_value}
 use Rattle.lj_session.specs.declared.command.Command.{Command}
 use Rattle.lj_session.specs.Turns.{waits_for}
 use Rattle.lj_session.specs.Users.{Session, with_session}
-use Rattle.lj_session.specs.UserState.{HeldSession, UserState, as_session, session_meant, user_of, names, held_session, held_session_at, owed_in, turns_before, with_held_session, with_session_changed}
+use Rattle.lj_session.specs.UserState.{LiveSession, UserState, as_session, settled_session, user_of, names, live_session, live_session_at, owed_in, turns_before, with_live_session, with_session_changed}
 use Rattle.lj_session.specs.declared.state.UserState.TheInside.{Inside}
 use Rattle.lj_session.specs.Totals.{state_of_kept}
 use Rattle.lj_session.proofs.Entries.{named-seen, put-seen, taken-seen, put-same}
 use Rattle.lj_session.proofs.Owed.{meant-settled}
 
 -- a session that is held is one of the user
-pub named-held : (owned : UserState) (name : List ℕ) (held : HeldSession) → held_session owned name ≡ Some held
-    → value_named name (user_of owned).sessions ≡ Some (session_meant held)
-named-held owned name held h = named-seen session_meant name owned.sessions ∙ ap (option_map session_meant) h
+pub named-held : (state : UserState) (name : List ℕ) (held : LiveSession) → live_session state name ≡ Some held
+    → value_named name (user_of state).sessions ≡ Some (settled_session held)
+named-held state name held h = named-seen settled_session name state.sessions ∙ ap (option_map settled_session) h
 
 -- and where nothing is owed to it, the one that is held
-pub named-settled : (owned : UserState) (name : List ℕ) (held : HeldSession) → held_session owned name ≡ Some held → held.owed ≡ 0
-    → value_named name (user_of owned).sessions ≡ Some (as_session held)
-named-settled owned name held h none =
-    named-held owned name held h ∙ ap (λ (s : Session). Some s) (meant-settled held none)
+pub named-settled : (state : UserState) (name : List ℕ) (held : LiveSession) → live_session state name ≡ Some held → held.owed ≡ 0
+    → value_named name (user_of state).sessions ≡ Some (as_session held)
+named-settled state name held h none =
+    named-held state name held h ∙ ap (λ (s : Session). Some s) (meant-settled held none)
 
 -- what is owed to a session that is held
-pub owed-of : (owned : UserState) (name : List ℕ) (held : HeldSession) → held_session owned name ≡ Some held → owed_in owned name ≡ 0
+pub owed-of : (state : UserState) (name : List ℕ) (held : LiveSession) → live_session state name ≡ Some held → owed_in state name ≡ 0
     → held.owed ≡ 0
-owed-of owned name held h none = rw h at none
+owed-of state name held h none = rw h at none
 
-pub named-absent : (owned : UserState) (name : List ℕ) → held_session owned name ≡ None
-    → value_named name (user_of owned).sessions ≡ None
-named-absent owned name h = named-seen session_meant name owned.sessions ∙ ap (option_map session_meant) h
+pub named-absent : (state : UserState) (name : List ℕ) → live_session state name ≡ None
+    → value_named name (user_of state).sessions ≡ None
+named-absent state name h = named-seen settled_session name state.sessions ∙ ap (option_map settled_session) h
 
 -- the i-th session stands under the i-th name
-pub held-there : (owned : UserState) → IsDistinct bytes_eq (names owned) → (i : ℕ) (name : List ℕ) (held : HeldSession)
-    → slice_get (names owned) i ≡ Some name → held_session_at owned i ≡ Some held → held_session owned name ≡ Some held
-held-there owned distinct i name held named_is held_is = by (slice_get owned.sessions i) refl
+pub held-there : (state : UserState) → IsDistinct bytes_eq (names state) → (i : ℕ) (name : List ℕ) (held : LiveSession)
+    → slice_get (names state) i ≡ Some name → live_session_at state i ≡ Some held → live_session state name ≡ Some held
+held-there state distinct i name held named_is held_is = by (slice_get state.sessions i) refl
   where
-    by : (o : Option (List ℕ × HeldSession)) → slice_get owned.sessions i ≡ o → held_session owned name ≡ Some held
+    by : (o : Option (List ℕ × LiveSession)) → slice_get state.sessions i ≡ o → live_session state name ≡ Some held
     by None e = absurd (none-some held (sym (ap (option_map (λ entry. entry.1)) e) ∙ held_is))
     by (Some (key, value)) e =
         let key_is : key ≡ name = same_Some key name
-        (sym (slice_get-map (λ entry. entry.0) owned.sessions i ∙ ap (option_map (λ entry. entry.0)) e) ∙ named_is) in
+        (sym (slice_get-map (λ entry. entry.0) state.sessions i ∙ ap (option_map (λ entry. entry.0)) e) ∙ named_is) in
         let value_is : value ≡ held = same_Some value held (sym (ap (option_map (λ entry. entry.1)) e) ∙ held_is) in
-        lookup_from_place nat_list_eq_equiv owned.sessions i name held distinct
+        lookup_from_place nat_list_eq_equiv state.sessions i name held distinct
         (e ∙ ap (λ k. Some (k, value)) key_is ∙ ap (λ v. Some (name, v)) value_is)
 
 -- a session put among those that are held is put among those of the user
-pub user_of-put : (owned : UserState) (name : List ℕ) (held : HeldSession)
-    → user_of (with_held_session name held owned) ≡ with_session name (session_meant held) (user_of owned)
-user_of-put owned name held =
-    ap (λ (s : List (List ℕ × Session)). record { quota = owned.quota; sessions = s })
-    (sym (put-seen session_meant name owned.sessions held))
+pub user_of-put : (state : UserState) (name : List ℕ) (held : LiveSession)
+    → user_of (with_live_session name held state) ≡ with_session name (settled_session held) (user_of state)
+user_of-put state name held =
+    ap (λ (s : List (List ℕ × Session)). record { quota = state.quota; sessions = s })
+    (sym (put-seen settled_session name state.sessions held))
 
-pub user_of-taken : (owned : UserState) (name : List ℕ)
-    → user_of (record owned { sessions = without_value name owned.sessions })
-    ≡ record (user_of owned) { sessions = without_value name (user_of owned).sessions }
-user_of-taken owned name =
-    ap (λ (s : List (List ℕ × Session)). record { quota = owned.quota; sessions = s })
-    (sym (taken-seen session_meant name owned.sessions))
+pub user_of-taken : (state : UserState) (name : List ℕ)
+    → user_of (record state { sessions = without_value name state.sessions })
+    ≡ record (user_of state) { sessions = without_value name (user_of state).sessions }
+user_of-taken state name =
+    ap (λ (s : List (List ℕ × Session)). record { quota = state.quota; sessions = s })
+    (sym (taken-seen settled_session name state.sessions))
 
 -- a change that leaves the session leaves the user
-pub user_of-changed : (owned : UserState) (name : List ℕ) (change : HeldSession → HeldSession)
-    → ((held : HeldSession) → session_meant (change held) ≡ session_meant held)
-    → user_of (with_session_changed name change owned) ≡ user_of owned
-user_of-changed owned name change same = by (held_session owned name) refl
+pub user_of-changed : (state : UserState) (name : List ℕ) (change : LiveSession → LiveSession)
+    → ((held : LiveSession) → settled_session (change held) ≡ settled_session held)
+    → user_of (with_session_changed name change state) ≡ user_of state
+user_of-changed state name change same = by (live_session state name) refl
   where
-    by : (o : Option HeldSession) → held_session owned name ≡ o → user_of (with_session_changed name change owned) ≡ user_of owned
+    by : (o : Option LiveSession) → live_session state name ≡ o → user_of (with_session_changed name change state) ≡ user_of state
     by None e = rw e refl
     by (Some held) e =
-        rw e (user_of-put owned name (change held)
-        ∙ (rw (same held) (ap (λ (s : List (List ℕ × Session)). record { quota = owned.quota; sessions = s })
-        (put-same name (user_of owned).sessions (session_meant held) (named-held owned name held e)))))
+        rw e (user_of-put state name (change held)
+        ∙ (rw (same held) (ap (λ (s : List (List ℕ × Session)). record { quota = state.quota; sessions = s })
+        (put-same name (user_of state).sessions (settled_session held) (named-held state name held e)))))
 
 -- a look-up by reference, and what is there
-pub present : (owned : UserState) (name : List ℕ) (o : Option (Bor HeldSession)) → option_copied o ≡ held_session owned name
-    → is_some (value_named name (user_of owned).sessions) ≡ is_some o
-present owned name None h = ap is_some (named-absent owned name (sym h))
-present owned name (Some held) h = ap is_some (named-held owned name held.now (sym h))
+pub present : (state : UserState) (name : List ℕ) (o : Option (Bor LiveSession)) → option_copied o ≡ live_session state name
+    → is_some (value_named name (user_of state).sessions) ≡ is_some o
+present state name None h = ap is_some (named-absent state name (sym h))
+present state name (Some held) h = ap is_some (named-held state name held.now (sym h))
 
 -- a session taken out of the map
-pub taken-of : (a : Inside) (old : UserState) → state_of_kept a ≡ old → (name : List ℕ) (entries : List (List ℕ × HeldSession))
+pub taken-of : (a : Inside) (old : UserState) → state_of_kept a ≡ old → (name : List ℕ) (entries : List (List ℕ × LiveSession))
     → entries ≡ without_value name a.sessions.entries
     → record { quota = a.quota; sessions = entries } ≡ record old { sessions = without_value name old.sessions }
 taken-of a old view name entries is =
-    ap (λ (es : List (List ℕ × HeldSession)). record { quota = a.quota; sessions = es }) is
+    ap (λ (es : List (List ℕ × LiveSession)). record { quota = a.quota; sessions = es }) is
     ∙ ap (λ (o : UserState). record { quota = o.quota; sessions = without_value name o.sessions }) view
 
 -- a new session in the map
 pub inserted : (a : Inside) (old : UserState) → state_of_kept a ≡ old → (name copy : List ℕ) → copy ≡ name
-    → (entries : List (List ℕ × HeldSession)) (new made : HeldSession) → new ≡ made
+    → (entries : List (List ℕ × LiveSession)) (new made : LiveSession) → new ≡ made
     → entries ≡ with_value copy new a.sessions.entries → record { quota = a.quota; sessions = entries }
-    ≡ with_held_session name made old
+    ≡ with_live_session name made old
 inserted a old view name copy same entries new made is put_in =
-    ap (λ (es : List (List ℕ × HeldSession)). record { quota = a.quota; sessions = es })
-    (put_in ∙ ap (λ n. with_value n new a.sessions.entries) same ∙ ap (λ (h : HeldSession). with_value name h a.sessions.entries) is)
-    ∙ ap (with_held_session name made) view
+    ap (λ (es : List (List ℕ × LiveSession)). record { quota = a.quota; sessions = es })
+    (put_in ∙ ap (λ n. with_value n new a.sessions.entries) same ∙ ap (λ (h : LiveSession). with_value name h a.sessions.entries) is)
+    ∙ ap (with_live_session name made) view
 
 -- where there is no such session, nothing is changed
-pub changed-none : (owned : UserState) (name : List ℕ) (change : HeldSession → HeldSession) → held_session owned name ≡ None
-    → with_session_changed name change owned ≡ owned
-changed-none owned name change absent = rw absent refl
+pub changed-none : (state : UserState) (name : List ℕ) (change : LiveSession → LiveSession) → live_session state name ≡ None
+    → with_session_changed name change state ≡ state
+changed-none state name change absent = rw absent refl
 
-pub changed-some : (owned : UserState) (name : List ℕ) (change : HeldSession → HeldSession) (held : HeldSession) → held_session owned name ≡ Some held
-    → with_session_changed name change owned ≡ with_held_session name (change held) owned
-changed-some owned name change held found = rw found refl
+pub changed-some : (state : UserState) (name : List ℕ) (change : LiveSession → LiveSession) (held : LiveSession) → live_session state name ≡ Some held
+    → with_session_changed name change state ≡ with_live_session name (change held) state
+changed-some state name change held found = rw found refl
 
 -- a session put that is the same session leaves the user
-pub user_of-kept : (owned : UserState) (name : List ℕ) (held new : HeldSession) → held_session owned name ≡ Some held
-    → session_meant new ≡ session_meant held → user_of (with_held_session name new owned) ≡ user_of owned
-user_of-kept owned name held new found same =
-    user_of-put owned name new ∙ ap (λ (s : Session). with_session name s (user_of owned)) same
-    ∙ ap (λ (s : List (List ℕ × Session)). record { quota = owned.quota; sessions = s })
-    (put-same name (user_of owned).sessions (session_meant held) (named-held owned name held found))
+pub user_of-kept : (state : UserState) (name : List ℕ) (held new : LiveSession) → live_session state name ≡ Some held
+    → settled_session new ≡ settled_session held → user_of (with_live_session name new state) ≡ user_of state
+user_of-kept state name held new found same =
+    user_of-put state name new ∙ ap (λ (s : Session). with_session name s (user_of state)) same
+    ∙ ap (λ (s : List (List ℕ × Session)). record { quota = state.quota; sessions = s })
+    (put-same name (user_of state).sessions (settled_session held) (named-held state name held found))
 
 -- a change of a session leaves the quota
-pub changed-quota : (owned : UserState) (name : List ℕ) (change : HeldSession → HeldSession) → (with_session_changed name change owned).quota ≡ owned.quota
-changed-quota owned name change = by (held_session owned name) refl
+pub changed-quota : (state : UserState) (name : List ℕ) (change : LiveSession → LiveSession) → (with_session_changed name change state).quota ≡ state.quota
+changed-quota state name change = by (live_session state name) refl
   where
-    by : (o : Option HeldSession) → held_session owned name ≡ o → (with_session_changed name change owned).quota ≡ owned.quota
+    by : (o : Option LiveSession) → live_session state name ≡ o → (with_session_changed name change state).quota ≡ state.quota
     by None e = rw e refl
     by (Some held) e = rw e refl
 
 -- to the session that a command waits for no step is owed, where no turn comes before it
-pub none-before : (owned : UserState) (command : Command) (name : List ℕ) → waits_for command ≡ Some name
-    → turns_before owned command ≡ 0 → owed_in owned name ≡ 0
-none-before owned command name waits none =
-    let is = ap (λ o. option_map_or (owed_in owned) o 0) waits in omega (arith, none, is)
+pub none-before : (state : UserState) (command : Command) (name : List ℕ) → waits_for command ≡ Some name
+    → turns_before state command ≡ 0 → owed_in state name ≡ 0
+none-before state command name waits none =
+    let is = ap (λ o. option_map_or (owed_in state) o 0) waits in omega (arith, none, is)

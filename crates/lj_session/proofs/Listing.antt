@@ -9,9 +9,9 @@ use Rattle.lj_session.specs.declared.refusal.Refusal.{Refusal}
 use Rattle.lj_session.specs.declared.refusal.Refusal.TheVariants.{NoSession, BranchExists, QuotaBranches, StepRange, Memory}
 use Rattle.lj_session.specs.declared.reply.Reply.{Reply}
 use Rattle.lj_session.specs.declared.reply.Reply.TheVariants as reply
-use Rattle.lj_session.specs.declared.substance.Substance.{Substance}
-use Rattle.lj_session.specs.declared.substance.Substance.TheVariants.{Pure, Mixed}
-use Rattle.lj_session.specs.Substances.{load_reply}
+use Rattle.lj_session.specs.declared.interactions.Interactions.{Interactions}
+use Rattle.lj_session.specs.declared.interactions.Interactions.TheVariants.{Pure, Mixed}
+use Rattle.lj_session.specs.Interactions.{load_reply}
 use Rattle.lj_session.specs.Users.{Session, User, atoms_of, branches_used}
 use Rattle.lj_session.specs.Loads.{admission, body_or_refusal, session_read, refusal_unless}
 use Rattle.lj_session.specs.Answers.{value_or_refusal, session_of, simulation_saved, atom_or_refusal, can_advance, command_result, answer, reply_and_user}
@@ -38,14 +38,14 @@ found user name made lists None e = tt
 found user name made lists (Some session) e = rw (lists, e) refl
 
 -- what is loaded is not listed
-loaded-lists : (substance : Substance) (name : List ℕ) (atoms : ℕ) → session_listed (load_reply substance name atoms) ≡ None
+loaded-lists : (interactions : Interactions) (name : List ℕ) (atoms : ℕ) → session_listed (load_reply interactions name atoms) ≡ None
 loaded-lists (Pure sigma step_factor) name atoms = refl
 loaded-lists (Mixed symbols first unlike second) name atoms = refl
 
 pub listed : (user : User) (command : Command) (mark : Bool) → IsThere (answer user command mark)
 unfolding command_result
 listed user (Load load) mark = after user (admission user load) _ (λ mix. after user (body_or_refusal load.body mark) _ (λ body.
-    after user (session_read user mix load body) _ (λ session. rw (loaded-lists load.substance load.name (atoms_of session)) tt)))
+    after user (session_read user mix load body) _ (λ session. rw (loaded-lists load.interactions load.name (atoms_of session)) tt)))
 listed user (Advance name n) mark = after user (session_of user name) _ (λ session. after user (refusal_unless (can_advance session n) StepRange) _ (λ near. tt))
 listed user (Start name n) mark = after user (session_of user name) _ (λ session. after user (refusal_unless (can_advance session n) StepRange) _ (λ near. tt))
 listed user (Reverse name) mark = after user (session_of user name) _ (λ session. tt)

@@ -12,48 +12,48 @@ use Rattle.lj_session.specs.declared.refusal.Refusal.{Refusal}
 use Rattle.lj_session.specs.declared.refusal.Refusal.TheVariants.{BranchExists, QuotaBranches, StepRange, Memory}
 use Rattle.lj_session.specs.declared.reply.Reply.{Reply}
 use Rattle.lj_session.specs.declared.reply.Reply.TheVariants as reply
-use Rattle.lj_session.specs.declared.substance.Substance.{Substance}
-use Rattle.lj_session.specs.declared.substance.Substance.TheVariants.{Pure, Mixed}
-use Rattle.lj_session.specs.Substances.{load_reply}
+use Rattle.lj_session.specs.declared.interactions.Interactions.{Interactions}
+use Rattle.lj_session.specs.declared.interactions.Interactions.TheVariants.{Pure, Mixed}
+use Rattle.lj_session.specs.Interactions.{load_reply}
 use Rattle.lj_session.specs.Users.{User, atoms_of, branches_used}
 use Rattle.lj_session.specs.Answers.{session_of, simulation_saved, atom_or_refusal, can_advance, command_result, session_named}
 use Rattle.lj_session.specs.Loads.{admission, body_or_refusal, session_read, refusal_unless}
 use Rattle.lj_session.specs.Begins.{OnRefusal, reply_of}
-use Rattle.lj_session.specs.UserState.{HeldSession, UserState, OthersKept, Reads, StepsAfter, Performs, held_session, with_held_session, with_session_changed, names, owed_in, steps_before}
+use Rattle.lj_session.specs.UserState.{LiveSession, UserState, OthersKept, Reads, StepsAfter, Performs, live_session, with_live_session, with_session_changed, names, owed_in, steps_before}
 use Rattle.lj_session.specs.Owner.{IsSettled}
 use Rattle.lj_session.specs.Turns.{waits_for}
 use Rattle.lj_session.proofs.Entries.{named-put_other, named-taken_other, names-put}
 
-module _ (owned : UserState) (name : List ℕ) where
+module _ (state : UserState) (name : List ℕ) where
   apart_of : (other : List ℕ) → Some name ≢ Some other → name ≢ other
   apart_of other apart same = apart (ap (λ (n : List ℕ). Some n) same)
 
   -- one session put, changed or taken out leaves the others
-  pub others-put : (held : HeldSession) (other : List ℕ) → Some name ≢ Some other
-      → held_session (with_held_session name held owned) other ≡ held_session owned other
-  others-put held other apart = named-put_other name other (apart_of other apart) owned.sessions held
+  pub others-put : (held : LiveSession) (other : List ℕ) → Some name ≢ Some other
+      → live_session (with_live_session name held state) other ≡ live_session state other
+  others-put held other apart = named-put_other name other (apart_of other apart) state.sessions held
 
-  pub others-changed : (change : HeldSession → HeldSession) (other : List ℕ) → Some name ≢ Some other
-      → held_session (with_session_changed name change owned) other ≡ held_session owned other
-  others-changed change other apart = by (held_session owned name) refl
+  pub others-changed : (change : LiveSession → LiveSession) (other : List ℕ) → Some name ≢ Some other
+      → live_session (with_session_changed name change state) other ≡ live_session state other
+  others-changed change other apart = by (live_session state name) refl
     where
-      by : (found : Option HeldSession) → held_session owned name ≡ found
-          → held_session (with_session_changed name change owned) other ≡ held_session owned other
+      by : (found : Option LiveSession) → live_session state name ≡ found
+          → live_session (with_session_changed name change state) other ≡ live_session state other
       by None e = rw e refl
       by (Some held) e = rw e (others-put (change held) other apart)
 
   -- a session changed keeps its name
-  pub names-changed : (change : HeldSession → HeldSession) → names (with_session_changed name change owned) ≡ names owned
-  names-changed change = by (held_session owned name) refl
+  pub names-changed : (change : LiveSession → LiveSession) → names (with_session_changed name change state) ≡ names state
+  names-changed change = by (live_session state name) refl
     where
-      by : (found : Option HeldSession) → held_session owned name ≡ found
-          → names (with_session_changed name change owned) ≡ names owned
+      by : (found : Option LiveSession) → live_session state name ≡ found
+          → names (with_session_changed name change state) ≡ names state
       by None e = rw e refl
-      by (Some held) e = rw e (names-put name owned.sessions held (change held) e)
+      by (Some held) e = rw e (names-put name state.sessions held (change held) e)
 
   pub others-taken : (other : List ℕ) → Some name ≢ Some other
-      → held_session (record owned { sessions = without_value name owned.sessions }) other ≡ held_session owned other
-  others-taken other apart = named-taken_other name other (apart_of other apart) owned.sessions
+      → live_session (record state { sessions = without_value name state.sessions }) other ≡ live_session state other
+  others-taken other apart = named-taken_other name other (apart_of other apart) state.sessions
 
 -- where a command is refused nothing is changed, so the other sessions are as they were in any case
 pub others-performed : (old new : UserState) (command : Command) (result : Result Reply Refusal)
@@ -61,7 +61,7 @@ pub others-performed : (old new : UserState) (command : Command) (result : Resul
     → OthersKept command old new
 others-performed old new command (Ok reply) performs same = performs.others
 others-performed old new command (Err refusal) performs same =
-    λ other apart. ap (λ (owned : UserState). held_session owned other) same
+    λ other apart. ap (λ (state : UserState). live_session state other) same
 
 -- a reply that is no refusal
 abbrev IsDone : Reply → Type 0
@@ -77,8 +77,8 @@ DumpsOwn command _ = Unit {0}
 abbrev Replies : Command → Reply → Type 0
 Replies command made = IsDone made × DumpsOwn command made
 
-loaded-replies : (command : Command) (substance : Substance) (name : List ℕ) (atoms : ℕ)
-    → Replies command (load_reply substance name atoms)
+loaded-replies : (command : Command) (interactions : Interactions) (name : List ℕ) (atoms : ℕ)
+    → Replies command (load_reply interactions name atoms)
 loaded-replies command (Pure sigma step_factor) name atoms = (tt, tt)
 loaded-replies command (Mixed symbols first unlike second) name atoms = (tt, tt)
 
@@ -95,7 +95,7 @@ unfolding command_result
 is_done user (Load load) mark =
     after (Load load) (admission user load) _ (λ mix. after (Load load) (body_or_refusal load.body mark) _
     (λ body. after (Load load) (session_read user mix load body) _
-    (λ session. loaded-replies (Load load) load.substance load.name (atoms_of session))))
+    (λ session. loaded-replies (Load load) load.interactions load.name (atoms_of session))))
 is_done user (Advance name n) mark = after (Advance name n) (session_of user name) _
     (λ session. after (Advance name n) (refusal_unless (can_advance session n) StepRange) _ (λ near. (tt, tt)))
 is_done user (Start name n) mark = after (Start name n) (session_of user name) _
@@ -152,21 +152,21 @@ settled-performed old new command (Ok made) performs none = by made
     (subst (λ r. IfOk r (λ made. Replies command made.0)) performs.performs (is_done _ command performs.mark)).1
   where
     told : (name : List ℕ) → command ≡ Dump name → owed_in new name ≡ 0
-    told name is = there (held_session new name) refl
+    told name is = there (live_session new name) refl
       where
         before : owed_in old name ≡ 0
         before = rw is at none
 
-        owed : (held : HeldSession) (o : Option HeldSession) → held_session old name ≡ o → StepsAfter (Dump name) o held → held.owed ≡ 0
+        owed : (held : LiveSession) (o : Option LiveSession) → live_session old name ≡ o → StepsAfter (Dump name) o held → held.owed ≡ 0
         owed held o e (inl idle) = idle.owed
         owed held None e (inr lacking) = absurd lacking
         owed held (Some was) e (inr same) =
-            same.owed ∙ (sym (ap (λ o. option_map_or (λ (h : HeldSession). h.owed) o 0) e) ∙ before)
+            same.owed ∙ (sym (ap (λ o. option_map_or (λ (h : LiveSession). h.owed) o 0) e) ∙ before)
 
-        there : (o : Option HeldSession) → held_session new name ≡ o → owed_in new name ≡ 0
+        there : (o : Option LiveSession) → live_session new name ≡ o → owed_in new name ≡ 0
         there None e = rw e refl
-        there (Some held) e = rw e (owed held (held_session old name) refl
-            (subst (λ (k : Command). StepsAfter k (held_session old name) held) is (performs.steps name held (ap session_named is) e)))
+        there (Some held) e = rw e (owed held (live_session old name) refl
+            (subst (λ (k : Command). StepsAfter k (live_session old name) held) is (performs.steps name held (ap session_named is) e)))
 
     by : (made : Reply) → DumpsOwn command made → IsSettled new made
     by (reply.Dumped name) h = told name h

@@ -16,7 +16,7 @@ use Rattle.lj_session.specs.declared.reply.Reply.TheVariants as reply
 use Rattle.lj_branch.specs.Named.{value_named, with_value, without_value}
 use Rattle.lj_session.specs.Users.{Session, User, with_session, branches_used}
 use Rattle.lj_session.specs.Answers.{session_named, command_result, answer, reply_and_user, can_advance, with_sim}
-use Rattle.lj_session.specs.UserState.{HeldSession, UserState, Performs, with_simulation, with_saved, as_session, session_meant, user_of, held_session, with_held_session}
+use Rattle.lj_session.specs.UserState.{LiveSession, UserState, Performs, with_simulation, with_saved, as_session, settled_session, user_of, live_session, with_live_session}
 use Rattle.lj_session.specs.UserState.{StepsFollow, StepsAfter, with_more_owed}
 use Rattle.lj_session.proofs.Entries.{put-same, named-put_any}
 use Rattle.lj_session.proofs.Holding.{named-held, named-settled, user_of-put, user_of-taken}
@@ -24,29 +24,29 @@ use Rattle.lj_session.proofs.Owed.{meant-settled, meant-owing}
 use Rattle.lj_session.proofs.Others.{others-put, others-taken}
 use Rattle.lj_session.proofs.Performing as performing
 
-module _ (old : UserState) (name : List ℕ) (held : HeldSession) (found : held_session old name ≡ Some held) where
+module _ (old : UserState) (name : List ℕ) (held : LiveSession) (found : live_session old name ≡ Some held) where
   -- the steps of a session that was put
-  steps-put : (command : Command) (new : HeldSession) → session_named command ≡ Some name
-      → StepsAfter command (Some held) new → StepsFollow command old (with_held_session name new old)
+  steps-put : (command : Command) (new : LiveSession) → session_named command ≡ Some name
+      → StepsAfter command (Some held) new → StepsFollow command old (with_live_session name new old)
   steps-put command new is steps other after value_named there =
       let one : name ≡ other = same_name name other (sym is ∙ value_named) in
       let new_is : new ≡ after =
-      same_held new after (sym (named-put_any name old.sessions new) ∙ ap (held_session (with_held_session name new old)) one ∙ there) in
-      subst (λ (h : HeldSession). StepsAfter command (held_session old other) h) new_is
-      (subst (λ (n : List ℕ). StepsAfter command (held_session old n) new) one
-      (subst (λ (o : Option HeldSession). StepsAfter command o new) (sym found) steps))
+      same_held new after (sym (named-put_any name old.sessions new) ∙ ap (live_session (with_live_session name new old)) one ∙ there) in
+      subst (λ (h : LiveSession). StepsAfter command (live_session old other) h) new_is
+      (subst (λ (n : List ℕ). StepsAfter command (live_session old n) new) one
+      (subst (λ (o : Option LiveSession). StepsAfter command o new) (sym found) steps))
     where
       same_name : (a b : List ℕ) → Some a ≡ Some b → a ≡ b
       same_name a b e = cc
 
-      same_held : (a b : HeldSession) → Some a ≡ Some b → a ≡ b
+      same_held : (a b : LiveSession) → Some a ≡ Some b → a ≡ b
       same_held a b e = cc
 
   -- a command that puts its session
-  put_in : (command : Command) (made : Reply) (new : HeldSession) → session_named command ≡ Some name
-      → command_result (user_of old) command false ≡ Ok (made, with_session name (session_meant new) (user_of old))
+  put_in : (command : Command) (made : Reply) (new : LiveSession) → session_named command ≡ Some name
+      → command_result (user_of old) command false ≡ Ok (made, with_session name (settled_session new) (user_of old))
       → StepsAfter command (Some held) new
-      → Performs old command (Ok made) (with_held_session name new old)
+      → Performs old command (Ok made) (with_live_session name new old)
   put_in command made new is h steps = performing.done old _ command made
       (h ∙ ap (λ (u : User). Ok (made, u)) (sym (user_of-put old name new)))
       (λ other apart. others-put old name new other (rw is at apart))
@@ -54,40 +54,40 @@ module _ (old : UserState) (name : List ℕ) (held : HeldSession) (found : held_
 
   pub forget : (branch : List ℕ) (sim : Simulation) → value_named branch held.saved ≡ Some sim
       → Performs old (Forget name branch) (Ok (reply.Forgotten name branch))
-      (with_held_session name (with_saved held (without_value branch held.saved)) old)
+      (with_live_session name (with_saved held (without_value branch held.saved)) old)
   forget branch sim saved = put_in _ _ (with_saved held (without_value branch held.saved)) refl
-      (performing.forget-done (user_of old) name false (session_meant held) (named-held old name held found) branch sim saved)
+      (performing.forget-done (user_of old) name false (settled_session held) (named-held old name held found) branch sim saved)
       (record { live = refl; passed = refl; owed = refl })
 
-  pub start : (n : ℕ) → can_advance (session_meant held) n ≡ true
-      → Performs old (Start name n) (Ok (reply.Started name (session_meant (with_more_owed n held)).sim.step))
-      (with_held_session name (with_more_owed n held) old)
+  pub start : (n : ℕ) → can_advance (settled_session held) n ≡ true
+      → Performs old (Start name n) (Ok (reply.Started name (settled_session (with_more_owed n held)).sim.step))
+      (with_live_session name (with_more_owed n held) old)
   start n near = put_in _ _ (with_more_owed n held) refl
-      (performing.start-done (user_of old) name false (session_meant held) (named-held old name held found) n near
+      (performing.start-done (user_of old) name false (settled_session held) (named-held old name held found) n near
       ∙ ap (λ (s : Session). Ok (reply.Started name s.sim.step, with_session name s (user_of old)))
       (sym (meant-owing n held)))
       (rw near refl)
 
   -- the steps of an ADVANCE, owed to its session
-  pub owed-user : (n : ℕ) → can_advance (session_meant held) n ≡ true
-      → user_of (with_held_session name (with_more_owed n held) old) ≡ (answer (user_of old) (Advance name n) false).1
+  pub owed-user : (n : ℕ) → can_advance (settled_session held) n ≡ true
+      → user_of (with_live_session name (with_more_owed n held) old) ≡ (answer (user_of old) (Advance name n) false).1
   owed-user n near =
       user_of-put old name (with_more_owed n held)
       ∙ ap (λ (s : Session). with_session name s (user_of old)) (meant-owing n held)
       ∙ sym (ap (λ r. (reply_and_user (user_of old) r).1)
-      (performing.advance-on (user_of old) name false (session_meant held) (named-held old name held found) n near))
+      (performing.advance-on (user_of old) name false (settled_session held) (named-held old name held found) n near))
 
   -- an ADVANCE by 0 leaves the user
-  pub advance-nothing : can_advance (session_meant held) 0 ≡ true → (mark : Bool)
-      → command_result (user_of old) (Advance name 0) mark ≡ Ok (reply.Advanced name (session_meant held).sim.step, user_of old)
+  pub advance-nothing : can_advance (settled_session held) 0 ≡ true → (mark : Bool)
+      → command_result (user_of old) (Advance name 0) mark ≡ Ok (reply.Advanced name (settled_session held).sim.step, user_of old)
   advance-nothing near mark =
       let session = named-held old name held found in
-      performing.advance-on (user_of old) name mark (session_meant held) session 0 near
+      performing.advance-on (user_of old) name mark (settled_session held) session 0 near
       ∙ ap (λ (s : List (List ℕ × Session)). Ok (
-        reply.Advanced name (session_meant held).sim.step,
+        reply.Advanced name (settled_session held).sim.step,
         record { quota = old.quota; sessions = s },
       ))
-      (put-same name (user_of old).sessions (session_meant held) session)
+      (put-same name (user_of old).sessions (settled_session held) session)
 
   -- commands of a session to which nothing is owed
   module _ (none : held.owed ≡ 0) where
@@ -98,28 +98,28 @@ module _ (old : UserState) (name : List ℕ) (held : HeldSession) (found : held_
     move : (command : Command) (made : Reply) (sim : Simulation) → session_named command ≡ Some name
         → command_result (user_of old) command false ≡ Ok (made, with_sim name (as_session held) sim (user_of old))
         → StepsAfter command (Some held) (with_simulation held sim)
-        → Performs old command (Ok made) (with_held_session name (with_simulation held sim) old)
+        → Performs old command (Ok made) (with_live_session name (with_simulation held sim) old)
     move command made sim is h steps = put_in command made (with_simulation held sim) is
         (h ∙ ap (λ (s : Session). Ok (made, with_session name s (user_of old)))
         (sym (meant-settled (with_simulation held sim) none)))
         steps
 
     pub reverse : Performs old (Reverse name) (Ok (reply.Reversed name (reversal held.live.sim).step))
-        (with_held_session name (with_simulation held (reversal held.live.sim)) old)
+        (with_live_session name (with_simulation held (reversal held.live.sim)) old)
     reverse = move _ _ (reversal held.live.sim) refl
         (performing.reverse-done (user_of old) name false (as_session held) session)
         (inl (record { owed = none; closed = refl }))
 
     pub tug : (atom : ℕ) (x y z : ℤ) → nat_lt atom (length held.live.sim.cur) ≡ true
         → Performs old (Tug name atom x y z) (Ok (reply.Tugged name atom held.live.sim.step))
-        (with_held_session name (with_simulation held (with_tug atom (record { x = x; y = y; z = z }) held.live.sim)) old)
+        (with_live_session name (with_simulation held (with_tug atom (record { x = x; y = y; z = z }) held.live.sim)) old)
     tug atom x y z there = move _ _ (with_tug atom (record { x = x; y = y; z = z }) held.live.sim) refl
         (performing.tug-done (user_of old) name false (as_session held) session atom x y z there)
         (inl (record { owed = none; closed = refl }))
 
     pub restore : (branch : List ℕ) (sim : Simulation) → value_named branch held.saved ≡ Some sim
         → Performs old (Restore name branch) (Ok (reply.Restored name branch sim.step))
-        (with_held_session name (with_simulation held sim) old)
+        (with_live_session name (with_simulation held sim) old)
     restore branch sim saved = move _ _ sim refl
         (performing.restore-done (user_of old) name false (as_session held) session branch sim saved)
         (inl (record { owed = none; closed = refl }))
@@ -127,7 +127,7 @@ module _ (old : UserState) (name : List ℕ) (held : HeldSession) (found : held_
     pub branch : (saved_as : List ℕ) → is_some (value_named saved_as held.saved) ≡ false
         → nat_lt (branches_used (user_of old)) old.quota.branches ≡ true
         → Performs old (Branch name saved_as) (Ok (reply.Branched name saved_as held.live.sim.step))
-        (with_held_session name (with_saved held (with_value saved_as held.live.sim held.saved)) old)
+        (with_live_session name (with_saved held (with_value saved_as held.live.sim held.saved)) old)
     branch saved_as new room =
         let next = with_saved held (with_value saved_as held.live.sim held.saved) in
         put_in _ _ next refl
@@ -146,7 +146,7 @@ module _ (old : UserState) (name : List ℕ) (held : HeldSession) (found : held_
         (λ other after is there. absurd (none_some after (sym gone
         ∙ ap (λ n. value_named n (without_value name old.sessions)) (same_name name other is) ∙ there)))
       where
-        none_some : (x : HeldSession) → None ≡ Some x → ⊥
+        none_some : (x : LiveSession) → None ≡ Some x → ⊥
         none_some x e = cc
 
         same_name : (a b : List ℕ) → Some a ≡ Some b → a ≡ b

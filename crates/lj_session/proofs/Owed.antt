@@ -4,7 +4,7 @@ use Rattle.std.proofs.lemmas.Int.{ints}
 use Rattle.lj_tile.specs.Species.{Composition}
 use Rattle.lj_step.specs.Motion.{Simulation, next_simulation, steps}
 use Rattle.lj_session.specs.Users.{atoms_of}
-use Rattle.lj_session.specs.UserState.{HeldSession, as_session, session_meant, with_more_owed, with_step_passed, with_step_taken, session_at_rest, with_posted, with_passed_to, next_tile}
+use Rattle.lj_session.specs.UserState.{LiveSession, as_session, settled_session, with_more_owed, with_step_finished, with_step_taken, with_step_restarted, with_posted, with_passed_to, next_tile}
 use Rattle.lj_session.proofs.Entries.{by_test}
 use Rattle.lj_session.proofs.Counts.{count-stepped}
 
@@ -24,11 +24,11 @@ step-steps u (suc n) sim =
     next ∙ same
 
 -- the step number that a session is going to
-pub target_is : (held : HeldSession) → (session_meant held).sim.step ≡ held.live.sim.step +ℤ held.live.sim.dir *ℤ pos held.owed
+pub target_is : (held : LiveSession) → (settled_session held).sim.step ≡ held.live.sim.step +ℤ held.live.sim.dir *ℤ pos held.owed
 target_is held = step-steps held.live.composition held.owed held.live.sim
 
 -- and its direction
-pub dir_is : (held : HeldSession) → (session_meant held).sim.dir ≡ held.live.sim.dir
+pub dir_is : (held : LiveSession) → (settled_session held).sim.dir ≡ held.live.sim.dir
 dir_is held = dir-steps held.live.composition held.owed held.live.sim
 
 pub steps-add : (u : Composition) (m n : ℕ) (sim : Simulation) → steps u (m + n) sim ≡ steps u n (steps u m sim)
@@ -37,64 +37,64 @@ steps-add u (suc m) n sim =
     ap (λ k. steps u k sim) (let same : suc m + n ≡ suc (m + n) = omega arith in same) ∙ steps-add u m n (next_simulation u sim)
 
 -- where nothing is owed, the session that is meant is the one that is held
-pub meant-settled : (held : HeldSession) → held.owed ≡ 0 → session_meant held ≡ as_session held
+pub meant-settled : (held : LiveSession) → held.owed ≡ 0 → settled_session held ≡ as_session held
 meant-settled held none = rw none refl
 
-pub count-meant : (held : HeldSession) → atoms_of (session_meant held) ≡ length held.live.sim.cur
+pub count-meant : (held : LiveSession) → atoms_of (settled_session held) ≡ length held.live.sim.cur
 count-meant held = count-steps held.live.composition held.owed held.live.sim
 
 -- more steps owed are more steps done in the end
-pub meant-owing : (n : ℕ) (held : HeldSession) → session_meant (with_more_owed n held)
-    ≡ record (session_meant held) { sim = steps held.live.composition n (session_meant held).sim }
+pub meant-owing : (n : ℕ) (held : LiveSession) → settled_session (with_more_owed n held)
+    ≡ record (settled_session held) { sim = steps held.live.composition n (settled_session held).sim }
 meant-owing n held =
-    let added = ap (λ (sim : Simulation). record (session_meant held) { sim = sim })
+    let added = ap (λ (sim : Simulation). record (settled_session held) { sim = sim })
     (steps-add held.live.composition held.owed n held.live.sim) in
     by_test (nat_lt 0 n && nat_le held.owed 0) (λ t. rw t added) (λ t. rw t added)
 
 -- a step that was owed is done
-pub meant-turned : (held : HeldSession) → 0 < held.owed → session_meant (with_step_taken held) ≡ session_meant held
+pub meant-turned : (held : LiveSession) → 0 < held.owed → settled_session (with_step_taken held) ≡ settled_session held
 meant-turned held some = by held.owed refl
   where
-    by : (n : ℕ) → held.owed ≡ n → session_meant (with_step_taken held) ≡ session_meant held
+    by : (n : ℕ) → held.owed ≡ n → settled_session (with_step_taken held) ≡ settled_session held
     by zero e = absurd (omega (arith, some, e))
     by (suc n) e =
         let less : held.owed - 1 ≡ n = omega (arith, e) in
-        ap (λ m. record (session_meant (with_step_taken held)) { sim = steps held.live.composition m (next_simulation held.live.composition held.live.sim) }) less
-        ∙ sym (ap (λ m. record (session_meant held) { sim = steps held.live.composition m held.live.sim }) e)
+        ap (λ m. record (settled_session (with_step_taken held)) { sim = steps held.live.composition m (next_simulation held.live.composition held.live.sim) }) less
+        ∙ sym (ap (λ m. record (settled_session held) { sim = steps held.live.composition m held.live.sim }) e)
 
-pub meant-passed : (held : HeldSession) → 0 < held.owed → session_meant (with_step_passed held) ≡ session_meant held
+pub meant-passed : (held : LiveSession) → 0 < held.owed → settled_session (with_step_finished held) ≡ settled_session held
 meant-passed held some =
     by_test (nat_lt 0 (with_step_taken held).owed) (λ t. rw t (meant-turned held some)) (λ t. rw t (meant-turned held some))
 
 -- a step begun anew leaves what is meant
-pub meant-rest : (held : HeldSession) → session_meant (session_at_rest held) ≡ session_meant held
+pub meant-rest : (held : LiveSession) → settled_session (with_step_restarted held) ≡ settled_session held
 meant-rest held = by_test (nat_lt 0 held.owed) (λ t. rw t refl) (λ t. rw t refl)
 
 -- noting a tile as posted leaves it
-pub meant-posted : (held : HeldSession) → session_meant (with_posted held) ≡ session_meant held
+pub meant-posted : (held : LiveSession) → settled_session (with_posted held) ≡ settled_session held
 meant-posted held = by (next_tile held)
   where
-    by : (o : Option ℕ) → session_meant (with_passed_to o held) ≡ session_meant held
+    by : (o : Option ℕ) → settled_session (with_passed_to o held) ≡ settled_session held
     by None = refl
     by (Some i) = refl
 
 -- what is owed and passed leaves the count of atoms, and what is saved
-pub count-owing : (n : ℕ) (held : HeldSession) → length (with_more_owed n held).live.sim.cur ≡ length held.live.sim.cur
+pub count-owing : (n : ℕ) (held : LiveSession) → length (with_more_owed n held).live.sim.cur ≡ length held.live.sim.cur
 count-owing n held = by_test (nat_lt 0 n && nat_le held.owed 0) (λ t. rw t refl) (λ t. rw t refl)
 
-pub saved-owing : (n : ℕ) (held : HeldSession) → length (with_more_owed n held).saved ≡ length held.saved
+pub saved-owing : (n : ℕ) (held : LiveSession) → length (with_more_owed n held).saved ≡ length held.saved
 saved-owing n held = by_test (nat_lt 0 n && nat_le held.owed 0) (λ t. rw t refl) (λ t. rw t refl)
 
-pub count-passed : (held : HeldSession) → length (with_step_passed held).live.sim.cur ≡ length held.live.sim.cur
+pub count-passed : (held : LiveSession) → length (with_step_finished held).live.sim.cur ≡ length held.live.sim.cur
 count-passed held =
     let one = count-stepped held.live.composition held.live.sim in
     by_test (nat_lt 0 (with_step_taken held).owed) (λ t. rw t one) (λ t. rw t one)
 
-pub saved-passed : (held : HeldSession) → length (with_step_passed held).saved ≡ length held.saved
+pub saved-passed : (held : LiveSession) → length (with_step_finished held).saved ≡ length held.saved
 saved-passed held = by_test (nat_lt 0 (with_step_taken held).owed) (λ t. rw t refl) (λ t. rw t refl)
 
-pub count-rest : (held : HeldSession) → length (session_at_rest held).live.sim.cur ≡ length held.live.sim.cur
+pub count-rest : (held : LiveSession) → length (with_step_restarted held).live.sim.cur ≡ length held.live.sim.cur
 count-rest held = by_test (nat_lt 0 held.owed) (λ t. rw t refl) (λ t. rw t refl)
 
-pub owed-owing : (n : ℕ) (held : HeldSession) → (with_more_owed n held).owed ≡ held.owed + n
+pub owed-owing : (n : ℕ) (held : LiveSession) → (with_more_owed n held).owed ≡ held.owed + n
 owed-owing n held = by_test (nat_lt 0 n && nat_le held.owed 0) (λ t. rw t refl) (λ t. rw t refl)

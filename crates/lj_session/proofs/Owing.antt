@@ -6,11 +6,11 @@ use Rattle.std.specs.Prelude.{IfSome, OnOk, OnErr}
 use Rattle.std.specs.Option.{option_map_or}
 use Rattle.std.specs.Str.{bytes_eq}
 use Rattle.std.proofs.lemmas.Slice.Eq.{bytes_eq-Decides}
-use Rattle.lj_tile.specs.declared.names.Kind.{Kind}
+use Rattle.lj_tile.specs.declared.task_name.Kind.{Kind}
 use Rattle.lj_session.specs.declared.command.Command.{Command}
 use Rattle.lj_session.specs.Users.{User}
 use Rattle.lj_session.specs.Turns.{turns, waits_for}
-use Rattle.lj_session.specs.UserState.{HeldSession, UserState, IsAtWork, user_of, held_session, owed_in, with_held_session, with_session_changed, with_step_passed, is_whole_in, is_measured, steps_before, turns_before}
+use Rattle.lj_session.specs.UserState.{LiveSession, UserState, IsAtWork, user_of, live_session, owed_in, with_live_session, with_session_changed, with_step_finished, is_whole_in, is_measured, steps_before, turns_before}
 use Rattle.lj_session.specs.Owner.{Owner, is_owing, is_waited_for}
 use Rattle.lj_session.proofs.Entries.{by_test, named-put_any, named-put_other}
 use Rattle.lj_session.proofs.Holding.{changed-none, changed-some}
@@ -24,27 +24,27 @@ either-way (Ok a) x y good bad = good x
 either-way (Err b) x y good bad = bad y
 
 -- what is owed to a session that stays
-pub owed-changed : (owned : UserState) (name : List ℕ) (change : HeldSession → HeldSession) → ((held : HeldSession) → (change held).owed ≡ held.owed)
-    → (other : List ℕ) → owed_in (with_session_changed name change owned) other ≡ owed_in owned other
-owed-changed owned name change same other = by (held_session owned name) refl
+pub owed-changed : (state : UserState) (name : List ℕ) (change : LiveSession → LiveSession) → ((held : LiveSession) → (change held).owed ≡ held.owed)
+    → (other : List ℕ) → owed_in (with_session_changed name change state) other ≡ owed_in state other
+owed-changed state name change same other = by (live_session state name) refl
   where
-    owed : Option HeldSession → ℕ
-    owed o = option_map_or (λ (h : HeldSession). h.owed) o 0
+    owed : Option LiveSession → ℕ
+    owed o = option_map_or (λ (h : LiveSession). h.owed) o 0
 
-    by : (o : Option HeldSession) → held_session owned name ≡ o → owed_in (with_session_changed name change owned) other ≡ owed_in owned other
-    by None e = ap (λ (x : UserState). owed_in x other) (changed-none owned name change e)
-    by (Some held) e = ap (λ (x : UserState). owed_in x other) (changed-some owned name change held e) ∙ by_test (bytes_eq name other)
+    by : (o : Option LiveSession) → live_session state name ≡ o → owed_in (with_session_changed name change state) other ≡ owed_in state other
+    by None e = ap (λ (x : UserState). owed_in x other) (changed-none state name change e)
+    by (Some held) e = ap (λ (x : UserState). owed_in x other) (changed-some state name change held e) ∙ by_test (bytes_eq name other)
         (λ t. let is = (bytes_eq-Decides name other).0 t in
-        ap (λ (n : List ℕ). owed_in (with_held_session name (change held) owned) n) (sym is)
-        ∙ ap owed (named-put_any name owned.sessions (change held)) ∙ same held ∙ sym (ap owed e) ∙ ap (owed_in owned) is)
+        ap (λ (n : List ℕ). owed_in (with_live_session name (change held) state) n) (sym is)
+        ∙ ap owed (named-put_any name state.sessions (change held)) ∙ same held ∙ sym (ap owed e) ∙ ap (owed_in state) is)
         (λ t. ap owed (named-put_other name other (λ is. true≢false (sym ((bytes_eq-Decides name other).1 is) ∙ t))
-        owned.sessions (change held)))
+        state.sessions (change held)))
 
 -- and to another session than the one that changes
-pub owed-apart : (owned : UserState) (name other : List ℕ) (change : HeldSession → HeldSession) → name ≢ other
-    → owed_in (with_session_changed name change owned) other ≡ owed_in owned other
-owed-apart owned name other change apart = ap (λ o. option_map_or (λ (h : HeldSession). h.owed) o 0)
-    (others-changed owned name change other (λ e. apart (same_Some name other e)))
+pub owed-apart : (state : UserState) (name other : List ℕ) (change : LiveSession → LiveSession) → name ≢ other
+    → owed_in (with_session_changed name change state) other ≡ owed_in state other
+owed-apart state name other change apart = ap (λ o. option_map_or (λ (h : LiveSession). h.owed) o 0)
+    (others-changed state name change other (λ e. apart (same_Some name other e)))
   where
     same_Some : (a b : List ℕ) → Some a ≡ Some b → a ≡ b
     same_Some a b e = cc
@@ -100,17 +100,17 @@ unwaited-quiet waiting name not = by_test (is_measured waiting name)
     (λ t. t)
 
 -- the whole step of a session that nothing waits for is one that is owed
-pub unwaited-owed : (waiting : Option Command) (owned : UserState) (name : List ℕ) → is_waited_for waiting name ≡ false
-    → is_whole_in owned name ≡ true → IsAtWork waiting owned → 0 < owed_in owned name
-unwaited-owed waiting owned name not whole work = by_test (nat_lt 0 (owed_in owned name))
-    (ltb-true 0 (owed_in owned name))
-    (λ t. let z = ltb-false 0 (owed_in owned name) t in
-    let none : owed_in owned name ≡ 0 = omega (arith, z) in
-    absurd (true≢false (sym (energies waiting owned name whole work none).measured ∙ unwaited-quiet waiting name not)))
+pub unwaited-owed : (waiting : Option Command) (state : UserState) (name : List ℕ) → is_waited_for waiting name ≡ false
+    → is_whole_in state name ≡ true → IsAtWork waiting state → 0 < owed_in state name
+unwaited-owed waiting state name not whole work = by_test (nat_lt 0 (owed_in state name))
+    (ltb-true 0 (owed_in state name))
+    (λ t. let z = ltb-false 0 (owed_in state name) t in
+    let none : owed_in state name ≡ 0 = omega (arith, z) in
+    absurd (true≢false (sym (energies waiting state name whole work none).measured ∙ unwaited-quiet waiting name not)))
 
-pub unwaited-work : (waiting : Option Command) (owned : UserState) (name : List ℕ) → is_waited_for waiting name ≡ false
-    → IsAtWork waiting owned → IsAtWork waiting (with_session_changed name with_step_passed owned)
-unwaited-work waiting owned name not work = at_work-changed waiting owned name with_step_passed
+pub unwaited-work : (waiting : Option Command) (state : UserState) (name : List ℕ) → is_waited_for waiting name ≡ false
+    → IsAtWork waiting state → IsAtWork waiting (with_session_changed name with_step_finished state)
+unwaited-work waiting state name not work = at_work-changed waiting state name with_step_finished
     (λ held e. kind-passed waiting name held (unwaited-quiet waiting name not)) work
 
 pub unwaited-apart : (command : Command) (name other : List ℕ) → waits_for command ≡ Some other

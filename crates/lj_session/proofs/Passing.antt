@@ -5,8 +5,8 @@ use Rattle.std.specs.Prelude.{IsSomeAnd}
 use Rattle.std.specs.Option.{option_map_or}
 use Rattle.std.specs.Str.{bytes_eq}
 use Rattle.std.proofs.lemmas.Slice.Eq.{bytes_eq-Decides}
-use Rattle.lj_tile.specs.declared.names.Kind.{Kind}
-use Rattle.lj_tile.specs.declared.names.Kind.TheVariants.{Force, Energy}
+use Rattle.lj_tile.specs.declared.task_name.Kind.{Kind}
+use Rattle.lj_tile.specs.declared.task_name.Kind.TheVariants.{Force, Energy}
 use Rattle.lj_step.specs.Sim.{OpenStep}
 use Rattle.lj_step.specs.OpenSteps.{kind_of, is_whole}
 use Rattle.lj_session.specs.declared.command.Command.{Command}
@@ -16,7 +16,7 @@ use Rattle.lj_session.specs.declared.command.Command.TheVariants.{ListBranches, 
 use Rattle.lj_session.specs.declared.reply.Reply.{Reply}
 use Rattle.lj_session.specs.Answers.{command_result, reply_and_user, session_named}
 use Rattle.lj_session.specs.Turns.{turns, waits_for}
-use Rattle.lj_session.specs.UserState.{HeldSession, UserState, OthersKept, OtherSessionsKept, StepsFollow, StepsAfter, SameSteps, IsIdle, IsIdleIn, IsAtWork, IsWhole, Reads, user_of, held_session, owed_in, with_session_changed, with_held_session, with_step_passed, with_no_step, is_whole_in, is_measured, kind_owed, turns_before}
+use Rattle.lj_session.specs.UserState.{LiveSession, UserState, OthersKept, OtherSessionsKept, StepsFollow, StepsAfter, SameSteps, IsIdle, IsIdleIn, IsAtWork, IsWhole, Reads, user_of, live_session, owed_in, with_session_changed, with_live_session, with_step_finished, with_no_step, is_whole_in, is_measured, kind_owed, turns_before}
 use Rattle.lj_session.specs.Owner.{IsAnswered}
 use Rattle.lj_session.proofs.AtWork.{kind-none, kind-passed}
 use Rattle.lj_session.proofs.Entries.{by_test, named-put_any, named-put_other}
@@ -28,20 +28,20 @@ same_Some : {A : Type 0} (x y : A) → Some x ≡ Some y → x ≡ y
 same_Some x y e = cc
 
 -- a session whose open step is whole, and the step that it owes
-pub record Open (waiting : Option Command) (owned : UserState) (name : List ℕ) : Type 0 where
-  pub held : HeldSession
-  pub there : held_session owned name ≡ Some held
+pub record Open (waiting : Option Command) (state : UserState) (name : List ℕ) : Type 0 where
+  pub held : LiveSession
+  pub there : live_session state name ≡ Some held
   pub kind : Kind
   pub is : kind_of held.live.part ≡ Some kind
   pub whole : is_whole held.live.part ≡ true
   pub owes : kind_owed waiting name held ≡ Some kind
 
-pub opens : (waiting : Option Command) (owned : UserState) (name : List ℕ) → is_whole_in owned name ≡ true
-    → IsAtWork waiting owned → Open waiting owned name
-opens waiting owned name whole work = by (held_session owned name) refl
+pub opens : (waiting : Option Command) (state : UserState) (name : List ℕ) → is_whole_in state name ≡ true
+    → IsAtWork waiting state → Open waiting state name
+opens waiting state name whole work = by (live_session state name) refl
   where
-    of : (held : HeldSession) (part : Option OpenStep) → held_session owned name ≡ Some held → held.live.part ≡ part → is_whole part ≡ true
-        → Open waiting owned name
+    of : (held : LiveSession) (part : Option OpenStep) → live_session state name ≡ Some held → held.live.part ≡ part → is_whole part ≡ true
+        → Open waiting state name
     of held None e is all = absurd (true≢false (sym all))
     of held (Some p) e is all = record {
       held = held;
@@ -52,44 +52,44 @@ opens waiting owned name whole work = by (held_session owned name) refl
       owes = sym (work name held e) ∙ ap kind_of is;
     }
 
-    by : (o : Option HeldSession) → held_session owned name ≡ o → Open waiting owned name
+    by : (o : Option LiveSession) → live_session state name ≡ o → Open waiting state name
     by None e = absurd (true≢false (sym (rw e at whole)))
     by (Some held) e = of held held.live.part e refl (rw e at whole)
 
-pub owed-held : (owned : UserState) (name : List ℕ) (held : HeldSession) → held_session owned name ≡ Some held → owed_in owned name ≡ held.owed
-owed-held owned name held e = ap (λ o. option_map_or (λ (h : HeldSession). h.owed) o 0) e
+pub owed-held : (state : UserState) (name : List ℕ) (held : LiveSession) → live_session state name ≡ Some held → owed_in state name ≡ held.owed
+owed-held state name held e = ap (λ o. option_map_or (λ (h : LiveSession). h.owed) o 0) e
 
 -- where steps are owed it is one of pushes
-pub forces : (waiting : Option Command) (owned : UserState) (name : List ℕ) → is_whole_in owned name ≡ true
-    → IsAtWork waiting owned → 0 < owed_in owned name → (held : HeldSession) → held_session owned name ≡ Some held → IsWhole Force held
-forces waiting owned name whole work some held e =
-    let o = opens waiting owned name whole work in
+pub forces : (waiting : Option Command) (state : UserState) (name : List ℕ) → is_whole_in state name ≡ true
+    → IsAtWork waiting state → 0 < owed_in state name → (held : LiveSession) → live_session state name ≡ Some held → IsWhole Force held
+forces waiting state name whole work some held e =
+    let o = opens waiting state name whole work in
     let is : o.held ≡ held = same_Some o.held held (sym o.there ∙ e) in
-    subst (λ (h : HeldSession). IsWhole Force h) is
-    (record { kind = o.is ∙ sym o.owes ∙ kind o.held (subst (λ n. 0 < n) (owed-held owned name o.held o.there) some); whole = o.whole })
+    subst (λ (h : LiveSession). IsWhole Force h) is
+    (record { kind = o.is ∙ sym o.owes ∙ kind o.held (subst (λ n. 0 < n) (owed-held state name o.held o.there) some); whole = o.whole })
   where
-    kind : (h : HeldSession) → 0 < h.owed → kind_owed waiting name h ≡ Some Force
+    kind : (h : LiveSession) → 0 < h.owed → kind_owed waiting name h ≡ Some Force
     kind h more = rw (lt-ltb 0 h.owed more) refl
 
 -- where none are it is one of energies, since what waits measures the session
-pub record Energies (waiting : Option Command) (owned : UserState) (name : List ℕ) : Type 0 where
-  pub held : HeldSession
-  pub there : held_session owned name ≡ Some held
+pub record Energies (waiting : Option Command) (state : UserState) (name : List ℕ) : Type 0 where
+  pub held : LiveSession
+  pub there : live_session state name ≡ Some held
   pub none : held.owed ≡ 0
   pub whole : IsWhole Energy held
   pub measured : is_measured waiting name ≡ true
 
-pub energies : (waiting : Option Command) (owned : UserState) (name : List ℕ) → is_whole_in owned name ≡ true
-    → IsAtWork waiting owned → owed_in owned name ≡ 0 → Energies waiting owned name
-energies waiting owned name whole work none = by_test (is_measured waiting name) some lacking
+pub energies : (waiting : Option Command) (state : UserState) (name : List ℕ) → is_whole_in state name ≡ true
+    → IsAtWork waiting state → owed_in state name ≡ 0 → Energies waiting state name
+energies waiting state name whole work none = by_test (is_measured waiting name) some lacking
   where
-    o : Open waiting owned name
-    o = opens waiting owned name whole work
+    o : Open waiting state name
+    o = opens waiting state name whole work
 
     nothing : o.held.owed ≡ 0
-    nothing = sym (owed-held owned name o.held o.there) ∙ none
+    nothing = sym (owed-held state name o.held o.there) ∙ none
 
-    some : is_measured waiting name ≡ true → Energies waiting owned name
+    some : is_measured waiting name ≡ true → Energies waiting state name
     some t =
         let kind : kind_owed waiting name o.held ≡ Some Energy = rw (nothing, t) refl in record {
           held = o.held;
@@ -99,7 +99,7 @@ energies waiting owned name whole work none = by_test (is_measured waiting name)
           measured = t;
         }
 
-    lacking : is_measured waiting name ≡ false → Energies waiting owned name
+    lacking : is_measured waiting name ≡ false → Energies waiting state name
     lacking t =
         let kind : kind_owed waiting name o.held ≡ None = rw (nothing, t) refl in
         absurd (none_some o.kind (sym kind ∙ o.owes))
@@ -134,80 +134,80 @@ unmeasured command name other waits apart = by_test (is_measured (Some command) 
     (λ t. t)
 
 -- one turn is left then
-pub measured_last : (command : Command) (owned : UserState) (name : List ℕ) → Energies (Some command) owned name
-    → turns_before owned command ≡ 1
+pub measured_last : (command : Command) (state : UserState) (name : List ℕ) → Energies (Some command) state name
+    → turns_before state command ≡ 1
 unfolding waits_for
-measured_last command owned name e =
+measured_last command state name e =
     let is = measures command name e.measured in
-    let owed : owed_in owned name ≡ 0 = owed-held owned name e.held e.there ∙ e.none in
-    let one = measure-turns-one (user_of owned) name _ (named-held owned name e.held e.there) in
-    ap (turns_before owned) is ∙ (let sum : owed_in owned name + turns (user_of owned) (Measure name) ≡ 1 = omega (arith, owed, one) in sum)
+    let owed : owed_in state name ≡ 0 = owed-held state name e.held e.there ∙ e.none in
+    let one = measure-turns-one (user_of state) name _ (named-held state name e.held e.there) in
+    ap (turns_before state) is ∙ (let sum : owed_in state name + turns (user_of state) (Measure name) ≡ 1 = omega (arith, owed, one) in sum)
 
-pub measured_answered : (command : Command) (owned next : UserState) (name : List ℕ) (reply : Reply) → command ≡ Measure name
-    → Reads owned (Measure name) (Ok reply) → user_of next ≡ user_of owned
-    → IsAnswered (user_of owned) command reply (user_of next)
-measured_answered command owned next name reply is reads same = record {
+pub measured_answered : (command : Command) (state next : UserState) (name : List ℕ) (reply : Reply) → command ≡ Measure name
+    → Reads state (Measure name) (Ok reply) → user_of next ≡ user_of state
+    → IsAnswered (user_of state) command reply (user_of next)
+measured_answered command state next name reply is reads same = record {
   mark = false;
-  answers = ap (λ u. (reply, u)) same ∙ sym (ap (reply_and_user (user_of owned)) (reads false))
-      ∙ ap (λ (k : Command). reply_and_user (user_of owned) (command_result (user_of owned) k false)) (sym is);
+  answers = ap (λ u. (reply, u)) same ∙ sym (ap (reply_and_user (user_of state)) (reads false))
+      ∙ ap (λ (k : Command). reply_and_user (user_of state) (command_result (user_of state) k false)) (sym is);
   only_memory = λ set. absurd (true≢false (sym set));
 }
 
 -- and no step is open then but where steps are owed
-pub at_work-closed : (command : Command) (owned : UserState) (name : List ℕ) → waits_for command ≡ Some name
-    → Energies (Some command) owned name → IsAtWork (Some command) owned → IsAtWork None (with_session_changed name with_no_step owned)
-at_work-closed command owned name waits en work other h e = by_test (bytes_eq name other) here there
+pub at_work-closed : (command : Command) (state : UserState) (name : List ℕ) → waits_for command ≡ Some name
+    → Energies (Some command) state name → IsAtWork (Some command) state → IsAtWork None (with_session_changed name with_no_step state)
+at_work-closed command state name waits en work other h e = by_test (bytes_eq name other) here there
   where
-    now : with_session_changed name with_no_step owned ≡ with_held_session name (with_no_step en.held) owned
-    now = changed-some owned name with_no_step en.held en.there
+    now : with_session_changed name with_no_step state ≡ with_live_session name (with_no_step en.held) state
+    now = changed-some state name with_no_step en.held en.there
 
     here : bytes_eq name other ≡ true → kind_of h.live.part ≡ kind_owed None other h
     here t =
         let same = (bytes_eq-Decides name other).0 t in
         let is : with_no_step en.held ≡ h =
-        same_Some (with_no_step en.held) h (sym (named-put_any name owned.sessions (with_no_step en.held))
-        ∙ ap (λ (o : UserState). held_session o name) (sym now)
-        ∙ ap (held_session (with_session_changed name with_no_step owned)) same ∙ e) in
-        subst (λ (x : HeldSession). kind_of x.live.part ≡ kind_owed None other x) is (rw en.none refl)
+        same_Some (with_no_step en.held) h (sym (named-put_any name state.sessions (with_no_step en.held))
+        ∙ ap (λ (o : UserState). live_session o name) (sym now)
+        ∙ ap (live_session (with_session_changed name with_no_step state)) same ∙ e) in
+        subst (λ (x : LiveSession). kind_of x.live.part ≡ kind_owed None other x) is (rw en.none refl)
 
     there : bytes_eq name other ≡ false → kind_of h.live.part ≡ kind_owed None other h
     there t =
         let apart : name ≢ other = λ same. true≢false (sym ((bytes_eq-Decides name other).1 same) ∙ t) in
-        let was : held_session owned other ≡ Some h =
-        sym (named-put_other name other apart owned.sessions (with_no_step en.held))
-        ∙ ap (λ (o : UserState). held_session o other) (sym now) ∙ e in
+        let was : live_session state other ≡ Some h =
+        sym (named-put_other name other apart state.sessions (with_no_step en.held))
+        ∙ ap (λ (o : UserState). live_session o other) (sym now) ∙ e in
         work other h was ∙ rw (unmeasured command name other waits apart) refl
 
 -- a step passed of the session that is waited for: nothing waits then
-pub at_work-passed : (command : Command) (owned : UserState) (name : List ℕ) → waits_for command ≡ Some name → 0 < owed_in owned name
-    → IsAtWork (Some command) owned → IsAtWork None (with_session_changed name with_step_passed owned)
-at_work-passed command owned name waits some work other h e = by_test (bytes_eq name other) here there
+pub at_work-passed : (command : Command) (state : UserState) (name : List ℕ) → waits_for command ≡ Some name → 0 < owed_in state name
+    → IsAtWork (Some command) state → IsAtWork None (with_session_changed name with_step_finished state)
+at_work-passed command state name waits some work other h e = by_test (bytes_eq name other) here there
   where
-    by : (o : Option HeldSession) → held_session owned name ≡ o → (was : HeldSession) × (held_session owned name ≡ Some was)
+    by : (o : Option LiveSession) → live_session state name ≡ o → (was : LiveSession) × (live_session state name ≡ Some was)
     by None k = absurd (let none = rw k at some in omega (arith, none))
     by (Some was) k = (was, k)
 
-    found : (was : HeldSession) × (held_session owned name ≡ Some was)
-    found = by (held_session owned name) refl
+    found : (was : LiveSession) × (live_session state name ≡ Some was)
+    found = by (live_session state name) refl
 
-    now : with_session_changed name with_step_passed owned ≡ with_held_session name (with_step_passed found.0) owned
-    now = changed-some owned name with_step_passed found.0 found.1
+    now : with_session_changed name with_step_finished state ≡ with_live_session name (with_step_finished found.0) state
+    now = changed-some state name with_step_finished found.0 found.1
 
     here : bytes_eq name other ≡ true → kind_of h.live.part ≡ kind_owed None other h
     here t =
         let same = (bytes_eq-Decides name other).0 t in
-        let is : with_step_passed found.0 ≡ h =
-        same_Some (with_step_passed found.0) h (sym (named-put_any name owned.sessions (with_step_passed found.0))
-        ∙ ap (λ (o : UserState). held_session o name) (sym now)
-        ∙ ap (held_session (with_session_changed name with_step_passed owned)) same ∙ e) in
-        subst (λ (x : HeldSession). kind_of x.live.part ≡ kind_owed None other x) is (kind-passed None other found.0 refl)
+        let is : with_step_finished found.0 ≡ h =
+        same_Some (with_step_finished found.0) h (sym (named-put_any name state.sessions (with_step_finished found.0))
+        ∙ ap (λ (o : UserState). live_session o name) (sym now)
+        ∙ ap (live_session (with_session_changed name with_step_finished state)) same ∙ e) in
+        subst (λ (x : LiveSession). kind_of x.live.part ≡ kind_owed None other x) is (kind-passed None other found.0 refl)
 
     there : bytes_eq name other ≡ false → kind_of h.live.part ≡ kind_owed None other h
     there t =
         let apart : name ≢ other = λ same. true≢false (sym ((bytes_eq-Decides name other).1 same) ∙ t) in
-        let was : held_session owned other ≡ Some h =
-        sym (named-put_other name other apart owned.sessions (with_step_passed found.0))
-        ∙ ap (λ (o : UserState). held_session o other) (sym now) ∙ e in
+        let was : live_session state other ≡ Some h =
+        sym (named-put_other name other apart state.sessions (with_step_finished found.0))
+        ∙ ap (λ (o : UserState). live_session o other) (sym now) ∙ e in
         work other h was ∙ rw (unmeasured command name other waits apart) refl
 
 -- the session that a command waits for is the one that it names
@@ -254,7 +254,7 @@ unfolding waits_for
 rests-followed command old new name waits none work steps held there =
     after command waits (steps name held (waited_named command name waits) there)
   where
-    same : (o : Option HeldSession) → held_session old name ≡ o → IsSomeAnd o (λ before. SameSteps before held) → IsIdle held
+    same : (o : Option LiveSession) → live_session old name ≡ o → IsSomeAnd o (λ before. SameSteps before held) → IsIdle held
     same None h lacking = absurd lacking
     same (Some before) h s =
         let owed : before.owed ≡ 0 = sym (owed-held old name before h) ∙ none-before old command name waits none in record {
@@ -265,36 +265,36 @@ rests-followed command old new name waits none work steps held there =
     none_some : None ≡ Some name → ⊥
     none_some e = cc
 
-    after : (command : Command) → waits_for command ≡ Some name → StepsAfter command (held_session old name) held → IsIdle held
+    after : (command : Command) → waits_for command ≡ Some name → StepsAfter command (live_session old name) held → IsIdle held
     after (Load load) w s = absurd (none_some w)
     after (Start session n) w s = absurd (none_some w)
     after (Forget session branch) w s = absurd (none_some w)
     after (ListBranches session) w s = absurd (none_some w)
     after command w s = either s
       where
-        either : IsIdle held ⊎ IsSomeAnd (held_session old name) (λ before. SameSteps before held) → IsIdle held
+        either : IsIdle held ⊎ IsSomeAnd (live_session old name) (λ before. SameSteps before held) → IsIdle held
         either (inl i) = i
-        either (inr s) = same (held_session old name) refl s
+        either (inr s) = same (live_session old name) refl s
 
 pub rests-closed : (old : UserState) (name : List ℕ) → owed_in old name ≡ 0 → IsIdleIn (with_session_changed name with_no_step old) name
-rests-closed old name none held there = by (held_session old name) refl
+rests-closed old name none held there = by (live_session old name) refl
   where
-    none_some : (x : HeldSession) → None ≡ Some x → ⊥
+    none_some : (x : LiveSession) → None ≡ Some x → ⊥
     none_some x e = cc
 
-    by : (o : Option HeldSession) → held_session old name ≡ o → IsIdle held
-    by None e = absurd (none_some held (sym e ∙ ap (λ (o : UserState). held_session o name) (sym (changed-none old name with_no_step e)) ∙ there))
+    by : (o : Option LiveSession) → live_session old name ≡ o → IsIdle held
+    by None e = absurd (none_some held (sym e ∙ ap (λ (o : UserState). live_session o name) (sym (changed-none old name with_no_step e)) ∙ there))
     by (Some was) e =
         let is : with_no_step was ≡ held = same_Some (with_no_step was) held (sym (named-put_any name old.sessions (with_no_step was))
-        ∙ ap (λ (o : UserState). held_session o name) (sym (changed-some old name with_no_step was e)) ∙ there) in
+        ∙ ap (λ (o : UserState). live_session o name) (sym (changed-some old name with_no_step was e)) ∙ there) in
         subst IsIdle is (record { owed = sym (owed-held old name was e) ∙ none; closed = refl })
 
 -- the others are left by the step and by what is begun again
 pub others-passed : (command : Command) (old new : UserState) (name : List ℕ) → waits_for command ≡ Some name
-    → OthersKept command (with_session_changed name with_step_passed old) new → OtherSessionsKept name old new
+    → OthersKept command (with_session_changed name with_step_finished old) new → OtherSessionsKept name old new
 others-passed command old new name waits kept other apart =
     kept other (λ same. apart (same_Some name other (sym (waited_named command name waits) ∙ same)))
-    ∙ others-changed old name with_step_passed other (λ same. apart (same_Some name other same))
+    ∙ others-changed old name with_step_finished other (λ same. apart (same_Some name other same))
 
 pub others-closed : (old : UserState) (name : List ℕ) → OtherSessionsKept name old (with_session_changed name with_no_step old)
 others-closed old name other apart = others-changed old name with_no_step other (λ same. apart (same_Some name other same))

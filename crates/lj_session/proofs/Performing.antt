@@ -15,7 +15,7 @@ use Rattle.lj_session.specs.declared.reply.Reply.TheVariants as reply
 use Rattle.lj_branch.specs.Named.{value_named, with_value, without_value}
 use Rattle.lj_session.specs.Users.{Session, User, with_session, atoms_of, branches_used}
 use Rattle.lj_session.specs.Answers.{session_named, command_result, can_advance, with_sim}
-use Rattle.lj_session.specs.UserState.{HeldSession, UserState, OthersKept, StepsFollow, StepsAfter, Performs, outcome, user_of, held_session, session_meant}
+use Rattle.lj_session.specs.UserState.{LiveSession, UserState, OthersKept, StepsFollow, StepsAfter, Performs, outcome, user_of, live_session, settled_session}
 
 -- a command that is done without the mark
 pub done : (old new : UserState) (command : Command) (reply : Reply)
@@ -26,25 +26,25 @@ done old new command reply h others steps =
     record { mark = false; performs = h; only_memory = λ marked. cc; others = others; steps = steps }
 
 -- a START that the range does not allow, or another command
-abbrev pub IsFar : Command → HeldSession → Type 0
-IsFar (Start name n) held = can_advance (session_meant held) n ≡ false
+abbrev pub IsFar : Command → LiveSession → Type 0
+IsFar (Start name n) held = can_advance (settled_session held) n ≡ false
 IsFar command held = Unit {0}
 
 abbrev pub IsFarIn : UserState → Command → Type 0
-IsFarIn owned command =
-    (name : List ℕ) (held : HeldSession) → session_named command ≡ Some name → held_session owned name ≡ Some held → IsFar command held
+IsFarIn state command =
+    (name : List ℕ) (held : LiveSession) → session_named command ≡ Some name → live_session state name ≡ Some held → IsFar command held
 
 -- nothing has changed
-same-after : (command : Command) (held : HeldSession) → IsFar command held → StepsAfter command (Some held) held
+same-after : (command : Command) (held : LiveSession) → IsFar command held → StepsAfter command (Some held) held
 same-after (Load load) held far = record { live = refl; passed = refl; owed = refl }
 same-after (Start name n) held far = rw far refl
 same-after (Forget name branch) held far = record { live = refl; passed = refl; owed = refl }
 same-after (ListBranches name) held far = record { live = refl; passed = refl; owed = refl }
 same-after command held far = inr (record { live = refl; passed = refl; owed = refl })
 
-pub steps-same : (owned : UserState) (command : Command) → IsFarIn owned command → StepsFollow command owned owned
-steps-same owned command far name held is there =
-    subst (λ (o : Option HeldSession). StepsAfter command o held) (sym there) (same-after command held (far name held is there))
+pub steps-same : (state : UserState) (command : Command) → IsFarIn state command → StepsFollow command state state
+steps-same state command far name held is there =
+    subst (λ (o : Option LiveSession). StepsAfter command o held) (sym there) (same-after command held (far name held is there))
 
 -- a command that is refused without it
 pub refused : (old new : UserState) (command : Command) (refusal : Refusal)
@@ -59,11 +59,11 @@ starved old new command h =
     record { mark = true; performs = h; only_memory = λ marked. refl; others = tt; steps = tt }
 
 -- a command that only reads
-pub read : (owned : UserState) (command : Command) (result : Result Reply Refusal)
-    → ((mark : Bool) → command_result (user_of owned) command mark ≡ outcome result (user_of owned))
-    → IsFarIn owned command → Performs owned command result owned
-read owned command (Ok reply) h far = done owned owned command reply (h false) (λ other apart. refl) (steps-same owned command far)
-read owned command (Err refusal) h far = refused owned owned command refusal (h false)
+pub read : (state : UserState) (command : Command) (result : Result Reply Refusal)
+    → ((mark : Bool) → command_result (user_of state) command mark ≡ outcome result (user_of state))
+    → IsFarIn state command → Performs state command result state
+read state command (Ok reply) h far = done state state command reply (h false) (λ other apart. refl) (steps-same state command far)
+read state command (Err refusal) h far = refused state state command refusal (h false)
 
 -- no session has the name
 abbrev pub IsNone : User → Option (List ℕ) → Type 0

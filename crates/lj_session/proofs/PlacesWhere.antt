@@ -8,7 +8,7 @@ use Rattle.std.proofs.lemmas.Bool.{cases_lt}
 use Rattle.std.proofs.lemmas.List.{length-append}
 use Rattle.std.proofs.lemmas.Nat.{pow-add}
 use Rattle.lj_step.specs.Sets.{number_of_bits}
-use Rattle.lj_session.specs.Substances.{places_where}
+use Rattle.lj_session.specs.Interactions.{places_where}
 
 pub bit_of : (t : ℕ) → t < 64 → 1 * 2 ^ t % 2 ^ 64 ≡ 2 ^ t * 1
 bit_of t few =
@@ -47,7 +47,7 @@ module _ {A : Type 0} (test : A → Bool) where
 pub joined-more : (list : List ℕ) (word : ℕ) → word < 2 ^ 64
     → number_of_bits (list ++ word ∷ []) ≡ number_of_bits list + 2 ^ (64 * length list) * word
 joined-more [] word fits = omega (arith, mod-eq_of_lt fits)
-joined-more (seconds ∷ others) word fits =
+joined-more (species_bits ∷ others) word fits =
     let n = length others in
     let from : 64 * suc n ≡ 64 + 64 * n = omega arith in
     let next : 2 ^ (64 * suc n) * word ≡ 2 ^ 64 * (2 ^ (64 * n) * word) =

@@ -6,10 +6,10 @@ use Rattle.std.proofs.lemmas.Bool.{and_parts, leb-true}
 use Rattle.std.proofs.lemmas.Int.{ints, to_z-of_z, to_z_pos, fits_signed_from_abs}
 use Rattle.lj_step.specs.Motion.{Simulation, next_simulation}
 use Rattle.lj_step.specs.Sim.{Sim}
-use Rattle.lj_session.specs.declared.session.HeldSession.TheInside.{Inside}
+use Rattle.lj_session.specs.declared.live_session.LiveSession.TheInside.{Inside}
 use Rattle.lj_session.specs.Answers.{can_advance}
 use Rattle.lj_session.specs.Kept.{IsHeld, session_of_kept}
-use Rattle.lj_session.specs.UserState.{HasCount, session_meant}
+use Rattle.lj_session.specs.UserState.{HasCount, settled_session}
 use Rattle.lj_session.proofs.Counts.{count-stepped}
 use Rattle.lj_session.proofs.Owed.{target_is, dir-steps}
 
@@ -27,10 +27,10 @@ together : (step dir : ℤ) (m n : ℕ) → step +ℤ dir *ℤ pos m +ℤ dir *�
 together step dir m n = omega (arith, ints)
 
 pub owed_more : (a : Inside) → IsHeld a → (n : ℕ) → unsigned_abs a.sim.sim.step ≤ 10 ^ 12 → unsigned_abs a.sim.sim.dir ≡ 1
-    → can_advance (session_meant (session_of_kept a)) n ≡ true → IsHeld (record a { owed = a.owed + n })
+    → can_advance (settled_session (session_of_kept a)) n ≡ true → IsHeld (record a { owed = a.owed + n })
 owed_more a kept n here one near =
     let sim = a.sim.sim in
-    let meant = (session_meant (session_of_kept a)).sim in
+    let meant = (settled_session (session_of_kept a)).sim in
     let p = and_parts (nat_le n 1000000) (nat_le (unsigned_abs (meant.step +ℤ meant.dir *ℤ pos n)) (10 ^ 12)) near in
     let far = leb-true (unsigned_abs (meant.step +ℤ meant.dir *ℤ pos n)) (10 ^ 12) p.1 in
     let is : meant.step +ℤ meant.dir *ℤ pos n ≡ sim.step +ℤ sim.dir *ℤ pos (a.owed + n) =

@@ -8,7 +8,7 @@ use Rattle.std.specs.List.{find, range_with_len}
 use Rattle.lj_base.specs.declared.names.Label.{Label}
 use Rattle.lj_step.specs.Sim.{Sim, OpenStep}
 use Rattle.lj_step.specs.OpenSteps.{is_tile_awaited, cover, task_at, tiles_of}
-use Rattle.lj_session.specs.UserState.{HeldSession, as_session, next_of, next_tile, with_passed_to, with_posted}
+use Rattle.lj_session.specs.UserState.{LiveSession, as_session, next_of, next_tile, with_passed_to, with_posted}
 
 pub find-step : (test : ℕ → Bool) (i n : ℕ) → i < n
     → find test (range_with_len i (n - i)) ≡ cond (test i) (Some i) (find test (range_with_len (i + 1) (n - (i + 1))))
@@ -33,14 +33,14 @@ find-here test i n o below passes found =
     ∙ found
 
 -- noting a tile as posted leaves the simulation and the session
-pub posted-live : (held : HeldSession) → (with_posted held).live ≡ held.live
+pub posted-live : (held : LiveSession) → (with_posted held).live ≡ held.live
 posted-live held = by (next_tile held)
   where
     by : (o : Option ℕ) → (with_passed_to o held).live ≡ held.live
     by None = refl
     by (Some i) = refl
 
-pub posted-session : (held : HeldSession) → as_session (with_posted held) ≡ as_session held
+pub posted-session : (held : LiveSession) → as_session (with_posted held) ≡ as_session held
 posted-session held = by (next_tile held)
   where
     by : (o : Option ℕ) → as_session (with_passed_to o held) ≡ as_session held
@@ -76,7 +76,7 @@ awaited-task live label i h = by live.part refl
     by (Some p) e = with_part p e (slice_get (cover live.composition live.sim.cur) i) refl
 
 -- so there is a next task exactly where a tile is found
-pub found-task : (held : HeldSession) (label : Label) → is_some (next_of label (Some held)) ≡ is_some (next_tile held)
+pub found-task : (held : LiveSession) (label : Label) → is_some (next_of label (Some held)) ≡ is_some (next_tile held)
 found-task held label = by (next_tile held) refl
   where
     by : (o : Option ℕ) → next_tile held ≡ o → is_some (next_of label (Some held)) ≡ is_some o

@@ -3,7 +3,7 @@ use Rattle.std.proofs.Common.{◌≡◌, ℕ, ◌+◌, ◌-◌, ◌≤◌, List,
 use Rattle.lj_quota.specs.declared.Used.{Used}
 use Rattle.lj_branch.specs.Named.{value_named, without_value}
 use Rattle.lj_session.specs.Users.{Session, User, with_session, atoms_of, sessions_used, atoms_used, branches_used}
-use Rattle.lj_session.specs.UserState.{HeldSession, UserState, session_meant, user_of, used_by, held_session, with_held_session}
+use Rattle.lj_session.specs.UserState.{LiveSession, UserState, settled_session, user_of, used_by, live_session, with_live_session}
 use Rattle.lj_session.specs.declared.state.UserState.TheInside.{Inside}
 use Rattle.lj_session.specs.Totals.{state_of_kept}
 use Rattle.lj_session.proofs.Entries.{length-put, length-new, length-taken, sum-put, sum-new, sum-taken}
@@ -21,78 +21,78 @@ saved_of session = length session.saved
 abbrev pub user_used : User → Used
 user_used user = record { sessions = sessions_used user; atoms = atoms_used user; branches = branches_used user }
 
-module _ (old : UserState) (name : List ℕ) (new : HeldSession) where
-  put_used : used_by (with_held_session name new old) ≡ user_used (with_session name (session_meant new) (user_of old))
+module _ (old : UserState) (name : List ℕ) (new : LiveSession) where
+  put_used : used_by (with_live_session name new old) ≡ user_used (with_session name (settled_session new) (user_of old))
   put_used = ap user_used (user_of-put old name new)
 
   -- a session changed
-  module _ (held : HeldSession) (found : held_session old name ≡ Some held) where
-    session : value_named name (user_of old).sessions ≡ Some (session_meant held)
+  module _ (held : LiveSession) (found : live_session old name ≡ Some held) where
+    session : value_named name (user_of old).sessions ≡ Some (settled_session held)
     session = named-held old name held found
 
-    pub sessions-changed : (used_by (with_held_session name new old)).sessions ≡ (used_by old).sessions
+    pub sessions-changed : (used_by (with_live_session name new old)).sessions ≡ (used_by old).sessions
     sessions-changed = ap (λ (u : Used). u.sessions) put_used
-        ∙ length-put name (user_of old).sessions (session_meant held) (session_meant new) session
+        ∙ length-put name (user_of old).sessions (settled_session held) (settled_session new) session
 
-    pub atoms-changed : (used_by (with_held_session name new old)).atoms + length held.live.sim.cur
+    pub atoms-changed : (used_by (with_live_session name new old)).atoms + length held.live.sim.cur
         ≡ (used_by old).atoms + length new.live.sim.cur
     atoms-changed =
         let is = ap (λ (u : Used). u.atoms) put_used in
-        let sum = sum-put name atoms_of (user_of old).sessions (session_meant held) (session_meant new) session in
+        let sum = sum-put name atoms_of (user_of old).sessions (settled_session held) (settled_session new) session in
         let was = count-meant held in
         let now = count-meant new in
         omega (arith, is, sum, was, now)
 
-    pub branches-changed : (used_by (with_held_session name new old)).branches + length held.saved
+    pub branches-changed : (used_by (with_live_session name new old)).branches + length held.saved
         ≡ (used_by old).branches + length new.saved
     branches-changed = ap (λ (u : Used). u.branches + length held.saved) put_used
-        ∙ sum-put name saved_of (user_of old).sessions (session_meant held) (session_meant new) session
+        ∙ sum-put name saved_of (user_of old).sessions (settled_session held) (settled_session new) session
 
     -- with as many atoms and as many saved simulations as before
     pub used-same : length new.live.sim.cur ≡ length held.live.sim.cur → length new.saved ≡ length held.saved
-        → used_by (with_held_session name new old) ≡ used_by old
-    used-same atoms saved = same_used (used_by (with_held_session name new old)) (used_by old) sessions-changed
+        → used_by (with_live_session name new old) ≡ used_by old
+    used-same atoms saved = same_used (used_by (with_live_session name new old)) (used_by old) sessions-changed
         (let a = atoms-changed in omega (arith, a, atoms)) (let b = branches-changed in omega (arith, b, saved))
 
     pub sessions-taken : (used_by (record old { sessions = without_value name old.sessions })).sessions + 1
         ≡ (used_by old).sessions
     sessions-taken = ap (λ (u : User). sessions_used u + 1) (user_of-taken old name)
-        ∙ length-taken name (user_of old).sessions (session_meant held) session
+        ∙ length-taken name (user_of old).sessions (settled_session held) session
 
     pub atoms-taken : (used_by (record old { sessions = without_value name old.sessions })).atoms + length held.live.sim.cur
         ≡ (used_by old).atoms
     atoms-taken =
         let is = ap atoms_used (user_of-taken old name) in
-        let sum = sum-taken name atoms_of (user_of old).sessions (session_meant held) session in
+        let sum = sum-taken name atoms_of (user_of old).sessions (settled_session held) session in
         let was = count-meant held in
         omega (arith, is, sum, was)
 
     pub branches-taken : (used_by (record old { sessions = without_value name old.sessions })).branches + length held.saved
         ≡ (used_by old).branches
     branches-taken = ap (λ (u : User). branches_used u + length held.saved) (user_of-taken old name)
-        ∙ sum-taken name saved_of (user_of old).sessions (session_meant held) session
+        ∙ sum-taken name saved_of (user_of old).sessions (settled_session held) session
 
   -- a new session
-  module _ (absent : held_session old name ≡ None) where
+  module _ (absent : live_session old name ≡ None) where
     none : value_named name (user_of old).sessions ≡ None
     none = named-absent old name absent
 
-    pub sessions-new : (used_by (with_held_session name new old)).sessions ≡ (used_by old).sessions + 1
-    sessions-new = ap (λ (u : Used). u.sessions) put_used ∙ length-new name (user_of old).sessions (session_meant new) none
+    pub sessions-new : (used_by (with_live_session name new old)).sessions ≡ (used_by old).sessions + 1
+    sessions-new = ap (λ (u : Used). u.sessions) put_used ∙ length-new name (user_of old).sessions (settled_session new) none
 
-    pub atoms-new : (used_by (with_held_session name new old)).atoms ≡ (used_by old).atoms + length new.live.sim.cur
+    pub atoms-new : (used_by (with_live_session name new old)).atoms ≡ (used_by old).atoms + length new.live.sim.cur
     atoms-new =
-        ap (λ (u : Used). u.atoms) put_used ∙ sum-new name atoms_of (user_of old).sessions (session_meant new) none
+        ap (λ (u : Used). u.atoms) put_used ∙ sum-new name atoms_of (user_of old).sessions (settled_session new) none
         ∙ ap (λ n. (used_by old).atoms + n) (count-meant new)
 
-    pub branches-new : (used_by (with_held_session name new old)).branches ≡ (used_by old).branches + length new.saved
+    pub branches-new : (used_by (with_live_session name new old)).branches ≡ (used_by old).branches + length new.saved
     branches-new =
-        ap (λ (u : Used). u.branches) put_used ∙ sum-new name saved_of (user_of old).sessions (session_meant new) none
+        ap (λ (u : Used). u.branches) put_used ∙ sum-new name saved_of (user_of old).sessions (settled_session new) none
 
 -- The running totals, where a session is taken out and what is held becomes `next`.
 module _ (a : Inside) (old : UserState) (view : state_of_kept a ≡ old) (counted : a.used ≡ used_by (state_of_kept a))
-    (name : List ℕ) (held : HeldSession)
-    (found : held_session old name ≡ Some held) (next : UserState) where
+    (name : List ℕ) (held : LiveSession)
+    (found : live_session old name ≡ Some held) (next : UserState) where
   used-old : a.used ≡ used_by old
   used-old = counted ∙ ap used_by view
 
@@ -134,8 +134,8 @@ module _ (a : Inside) (old : UserState) (view : state_of_kept a ≡ old) (counte
 
 -- a session is new
 pub used-more : (a : Inside) (old : UserState) → state_of_kept a ≡ old → a.used ≡ used_by (state_of_kept a)
-    → (name : List ℕ) → held_session old name ≡ None
-    → (next : UserState) (new : HeldSession) → next ≡ with_held_session name new old → (atoms : ℕ)
+    → (name : List ℕ) → live_session old name ≡ None
+    → (next : UserState) (new : LiveSession) → next ≡ with_live_session name new old → (atoms : ℕ)
     → atoms ≡ length new.live.sim.cur → length new.saved ≡ 0
     → record { sessions = a.used.sessions + 1; atoms = a.used.atoms + atoms; branches = a.used.branches } ≡ used_by next
 used-more a old view counted name absent next new is atoms its none =
@@ -144,7 +144,7 @@ used-more a old view counted name absent next new is atoms its none =
     let t = atoms-new old name new absent in
     let u = branches-new old name new absent in
     same_used (record { sessions = a.used.sessions + 1; atoms = a.used.atoms + atoms; branches = a.used.branches })
-    (used_by (with_held_session name new old))
+    (used_by (with_live_session name new old))
     (let b = ap (λ (v : Used). v.sessions) before in omega (arith, b, s))
     (let b = ap (λ (v : Used). v.atoms) before in omega (arith, b, t, its))
     (let b = ap (λ (v : Used). v.branches) before in omega (arith, b, u, none))

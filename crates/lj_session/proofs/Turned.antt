@@ -3,13 +3,13 @@
 use Rattle.std.proofs.Common.{◌≡◌, ℕ, ◌+◌, ◌<◌, true, List, Option, Some, None, Ok, sym, ap, ◌∙◌, subst, arith}
 use Rattle.std.specs.Prelude.{IfSome}
 use Rattle.std.specs.Option.{option_map_or}
-use Rattle.lj_tile.specs.declared.names.Kind.TheVariants.{Force, Energy}
+use Rattle.lj_tile.specs.declared.task_name.Kind.TheVariants.{Force, Energy}
 use Rattle.lj_session.specs.declared.command.Command.{Command}
 use Rattle.lj_session.specs.declared.command.Command.TheVariants.{Measure}
 use Rattle.lj_session.specs.declared.reply.Reply.{Reply}
 use Rattle.lj_session.specs.Users.{User}
 use Rattle.lj_session.specs.Turns.{waits_for}
-use Rattle.lj_session.specs.UserState.{HeldSession, UserState, IsAtWork, IsIdleIn, IsWhole, OthersKept, OtherSessionsKept, Reads, StepsFollow, user_of, held_session, owed_in, with_session_changed, with_step_passed, with_no_step, is_whole_in, turns_before}
+use Rattle.lj_session.specs.UserState.{LiveSession, UserState, IsAtWork, IsIdleIn, IsWhole, OthersKept, OtherSessionsKept, Reads, StepsFollow, user_of, live_session, owed_in, with_session_changed, with_step_finished, with_no_step, is_whole_in, turns_before}
 use Rattle.lj_session.specs.Owner.{Owner, IsAnswered, IsLastTurn, IsReplied, is_waited_for, user_in}
 use Rattle.lj_session.proofs.Passing.{Energies, energies, forces, measures, measured_last, measured_answered, at_work-closed, at_work-passed, others-passed, rests-followed}
 use Rattle.lj_session.proofs.Waiting.{passed_turns, same_name}
@@ -39,11 +39,11 @@ module _ (old : Owner) (name : List ℕ) (command : Command) (waiting : Some com
     measured : Energies (Some command) old.state name
     measured = energies (Some command) old.state name whole at_work none
 
-    pub measured-whole : (held : HeldSession) → held_session old.state name ≡ Some held → IsWhole Energy held
+    pub measured-whole : (held : LiveSession) → live_session old.state name ≡ Some held → IsWhole Energy held
     measured-whole held there =
-        subst (λ (h : HeldSession). IsWhole Energy h) (same measured.held held (sym measured.there ∙ there)) measured.whole
+        subst (λ (h : LiveSession). IsWhole Energy h) (same measured.held held (sym measured.there ∙ there)) measured.whole
       where
-        same : (a b : HeldSession) → Some a ≡ Some b → a ≡ b
+        same : (a b : LiveSession) → Some a ≡ Some b → a ≡ b
         same a b k = cc
 
     pub measured-last : IsLastTurn name old
@@ -60,10 +60,10 @@ module _ (old : Owner) (name : List ℕ) (command : Command) (waiting : Some com
 
   -- a step that was owed
   module _ (some : 0 < owed_in old.state name) where
-    pub passed-whole : (held : HeldSession) → held_session old.state name ≡ Some held → IsWhole Force held
+    pub passed-whole : (held : LiveSession) → live_session old.state name ≡ Some held → IsWhole Force held
     passed-whole = forces (Some command) old.state name whole at_work some
 
-    module _ (passed : UserState) (is : passed ≡ with_session_changed name with_step_passed old.state) where
+    module _ (passed : UserState) (is : passed ≡ with_session_changed name with_step_finished old.state) where
       pub passed-work : IsAtWork None passed
       passed-work = subst (λ (o : UserState). IsAtWork None o) (sym is) (at_work-passed command old.state name waits some at_work)
 

@@ -5,7 +5,7 @@ use Rattle.std.specs.Option.{option_map_or}
 use Rattle.std.specs.Str.{bytes_eq}
 use Rattle.std.proofs.lemmas.Slice.Eq.{bytes_eq-Decides}
 use Rattle.lj_tile.specs.Task.{Task}
-use Rattle.lj_tile.specs.declared.names.Kind.TheVariants.{Energy}
+use Rattle.lj_tile.specs.declared.task_name.Kind.TheVariants.{Energy}
 use Rattle.lj_step.specs.OpenSteps.{tile_number_of}
 use Rattle.lj_branch.specs.Named.{value_named}
 use Rattle.lj_session.specs.declared.command.Command.{Command}
@@ -13,7 +13,7 @@ use Rattle.lj_session.specs.declared.command.Command.TheVariants.{Advance, Measu
 use Rattle.lj_session.specs.Users.{Session, User}
 use Rattle.lj_session.specs.Answers.{answer, AnswersAlike, can_advance}
 use Rattle.lj_session.specs.Turns.{turns, waits_for, advance_turns}
-use Rattle.lj_session.specs.UserState.{HeldSession, UserState, user_of, as_entry, session_meant, held_session, with_session_changed, with_step, with_posted, with_tile_in, session_at_rest, state_at_rest, with_more_owed, with_step_passed, owed_in, steps_before, turns_before}
+use Rattle.lj_session.specs.UserState.{LiveSession, UserState, user_of, as_entry, settled_session, live_session, with_session_changed, with_step, with_posted, with_tile_in, with_step_restarted, with_steps_restarted, with_more_owed, with_step_finished, owed_in, steps_before, turns_before}
 use Rattle.lj_session.specs.Owner.{Owner, user_in, state_begun, command_left, state_taking_up, rest_of, state_changed_in, next_session, with_task_posted, with_task_in, is_waited_for}
 use Rattle.lj_session.specs.Laws.{user_taking, BeginsAlike}
 use Rattle.lj_session.proofs.Advancing.{advanced, alike}
@@ -24,21 +24,21 @@ use Rattle.lj_session.proofs.Owed.{meant-rest, meant-posted, meant-passed, owed-
 use Rattle.lj_session.proofs.Turning.{advance-turns-none, advance-turns-far, advance-turns-near, measure-turns-none}
 
 -- a state whose steps are begun anew means the same user
-rested_entries : (entries : List (List ℕ × HeldSession))
-    → map as_entry (map (λ (e : List ℕ × HeldSession). (e.0, session_at_rest e.1)) entries) ≡ map as_entry entries
+rested_entries : (entries : List (List ℕ × LiveSession))
+    → map as_entry (map (λ (e : List ℕ × LiveSession). (e.0, with_step_restarted e.1)) entries) ≡ map as_entry entries
 rested_entries [] = refl
 rested_entries (e ∷ es) =
-    ap (λ (s : Session). (e.0, s) ∷ map as_entry (map (λ (f : List ℕ × HeldSession). (f.0, session_at_rest f.1)) es)) (meant-rest e.1)
+    ap (λ (s : Session). (e.0, s) ∷ map as_entry (map (λ (f : List ℕ × LiveSession). (f.0, with_step_restarted f.1)) es)) (meant-rest e.1)
     ∙ ap (λ (l : List (List ℕ × Session)). as_entry e ∷ l) (rested_entries es)
 
-pub rested_user : (owned : UserState) → user_of (state_at_rest owned) ≡ user_of owned
-rested_user owned =
-    ap (λ (l : List (List ℕ × Session)). record { quota = owned.quota; sessions = l }) (rested_entries owned.sessions)
+pub rested_user : (state : UserState) → user_of (with_steps_restarted state) ≡ user_of state
+rested_user state =
+    ap (λ (l : List (List ℕ × Session)). record { quota = state.quota; sessions = l }) (rested_entries state.sessions)
 
-changed_user : (name : Option (List ℕ)) (change : HeldSession → HeldSession) (owned : UserState)
-    → ((held : HeldSession) → session_meant (change held) ≡ session_meant held) → user_of (state_changed_in name change owned) ≡ user_of owned
-changed_user None change owned same = refl
-changed_user (Some name) change owned same = user_of-changed owned name change same
+changed_user : (name : Option (List ℕ)) (change : LiveSession → LiveSession) (state : UserState)
+    → ((held : LiveSession) → settled_session (change held) ≡ settled_session held) → user_of (state_changed_in name change state) ≡ user_of state
+changed_user None change state same = refl
+changed_user (Some name) change state same = user_of-changed state name change same
 
 pub posted_user : (owner : Owner) → user_in (with_task_posted owner) ≡ user_in owner
 posted_user owner = changed_user (next_session owner) with_posted owner.state meant-posted
@@ -48,64 +48,64 @@ taken_user work owner =
     user_of-changed owner.state work.name.label.session (with_tile_in (tile_number_of work)) (λ held. refl)
 
 -- a step that was owed is passed
-pub passed_user : (owned : UserState) (name : List ℕ) → 0 < owed_in owned name → user_of (with_session_changed name with_step_passed owned) ≡ user_of owned
-passed_user owned name some = by (held_session owned name) refl
+pub passed_user : (state : UserState) (name : List ℕ) → 0 < owed_in state name → user_of (with_session_changed name with_step_finished state) ≡ user_of state
+passed_user state name some = by (live_session state name) refl
   where
-    by : (o : Option HeldSession) → held_session owned name ≡ o → user_of (with_session_changed name with_step_passed owned) ≡ user_of owned
+    by : (o : Option LiveSession) → live_session state name ≡ o → user_of (with_session_changed name with_step_finished state) ≡ user_of state
     by None e = absurd (let none = rw e at some in omega (arith, none))
     by (Some held) e =
-        ap user_of (changed-some owned name with_step_passed held e)
-        ∙ user_of-kept owned name held (with_step_passed held) e (meant-passed held (rw e at some))
+        ap user_of (changed-some state name with_step_finished held e)
+        ∙ user_of-kept state name held (with_step_finished held) e (meant-passed held (rw e at some))
 
 -- and one step less is owed
-pub passed_owed : (owned : UserState) (name : List ℕ) → 0 < owed_in owned name
-    → owed_in (with_session_changed name with_step_passed owned) name + 1 ≡ owed_in owned name
-passed_owed owned name some = by (held_session owned name) refl
+pub passed_owed : (state : UserState) (name : List ℕ) → 0 < owed_in state name
+    → owed_in (with_session_changed name with_step_finished state) name + 1 ≡ owed_in state name
+passed_owed state name some = by (live_session state name) refl
   where
-    less : (held : HeldSession) → (with_step_passed held).owed + 1 ≡ held.owed - 1 + 1
+    less : (held : LiveSession) → (with_step_finished held).owed + 1 ≡ held.owed - 1 + 1
     less held = by_test (nat_lt 0 (held.owed - 1)) (λ t. rw t refl) (λ t. rw t refl)
 
-    by : (o : Option HeldSession) → held_session owned name ≡ o → owed_in (with_session_changed name with_step_passed owned) name + 1 ≡ owed_in owned name
+    by : (o : Option LiveSession) → live_session state name ≡ o → owed_in (with_session_changed name with_step_finished state) name + 1 ≡ owed_in state name
     by None e = absurd (let none = rw e at some in omega (arith, none))
     by (Some held) e =
-        let there : held_session (with_session_changed name with_step_passed owned) name ≡ Some (with_step_passed held) =
-        ap (λ (o : UserState). held_session o name) (changed-some owned name with_step_passed held e) ∙ named-put_any name owned.sessions (with_step_passed held) in
+        let there : live_session (with_session_changed name with_step_finished state) name ≡ Some (with_step_finished held) =
+        ap (λ (o : UserState). live_session o name) (changed-some state name with_step_finished held e) ∙ named-put_any name state.sessions (with_step_finished held) in
         let one = less held in
         let more : 0 < held.owed = rw e at some in
-        ap (λ o. option_map_or (λ (h : HeldSession). h.owed) o 0 + 1) there
-        ∙ (let n : (with_step_passed held).owed + 1 ≡ held.owed = omega (arith, one, more) in n)
-        ∙ sym (ap (λ o. option_map_or (λ (h : HeldSession). h.owed) o 0) e)
+        ap (λ o. option_map_or (λ (h : LiveSession). h.owed) o 0 + 1) there
+        ∙ (let n : (with_step_finished held).owed + 1 ≡ held.owed = omega (arith, one, more) in n)
+        ∙ sym (ap (λ o. option_map_or (λ (h : LiveSession). h.owed) o 0) e)
 
 -- an ADVANCE that takes steps can go on by them
-pub record Goes (owned : UserState) (name : List ℕ) (n : ℕ) : Type 0 where
-  pub held : HeldSession
-  pub there : held_session owned name ≡ Some held
-  pub near : can_advance (session_meant held) n ≡ true
+pub record Goes (state : UserState) (name : List ℕ) (n : ℕ) : Type 0 where
+  pub held : LiveSession
+  pub there : live_session state name ≡ Some held
+  pub near : can_advance (settled_session held) n ≡ true
 
-pub goes : (owned : UserState) (name : List ℕ) (n : ℕ) → 0 < turns (user_of owned) (Advance name n) → Goes owned name n
-goes owned name n some = by (held_session owned name) refl
+pub goes : (state : UserState) (name : List ℕ) (n : ℕ) → 0 < turns (user_of state) (Advance name n) → Goes state name n
+goes state name n some = by (live_session state name) refl
   where
-    by : (o : Option HeldSession) → held_session owned name ≡ o → Goes owned name n
-    by None e = absurd (let none = advance-turns-none (user_of owned) name n (named-absent owned name e) in omega (arith, none, some))
-    by (Some held) e = by_test (can_advance (session_meant held) n)
+    by : (o : Option LiveSession) → live_session state name ≡ o → Goes state name n
+    by None e = absurd (let none = advance-turns-none (user_of state) name n (named-absent state name e) in omega (arith, none, some))
+    by (Some held) e = by_test (can_advance (settled_session held) n)
         (λ near. record { held = held; there = e; near = near })
-        (λ far. absurd (let none = advance-turns-far (user_of owned) name n (session_meant held) (named-held owned name held e) far in
+        (λ far. absurd (let none = advance-turns-far (user_of state) name n (settled_session held) (named-held state name held e) far in
         omega (arith, none, some)))
 
 -- the steps of an ADVANCE that are owed are counted
-pub taken_user_of : (owned : UserState) (name : List ℕ) (n : ℕ) → Goes owned name n
-    → user_of (with_session_changed name (with_more_owed n) owned) ≡ (answer (user_of owned) (Advance name n) false).1
-taken_user_of owned name n g =
-    ap user_of (changed-some owned name (with_more_owed n) g.held g.there) ∙ owed-user owned name g.held g.there n g.near
+pub taken_user_of : (state : UserState) (name : List ℕ) (n : ℕ) → Goes state name n
+    → user_of (with_session_changed name (with_more_owed n) state) ≡ (answer (user_of state) (Advance name n) false).1
+taken_user_of state name n g =
+    ap user_of (changed-some state name (with_more_owed n) g.held g.there) ∙ owed-user state name g.held g.there n g.near
 
 -- and an ADVANCE by 0 is then answered as the whole
-pub taken_alike : (owned : UserState) (name : List ℕ) (n : ℕ) → Goes owned name n
-    → AnswersAlike (user_of (with_session_changed name (with_more_owed n) owned)) (Advance name 0) (user_of owned) (Advance name n)
-taken_alike owned name n g mark =
-    let found = named-held owned name g.held g.there in
-    ap (λ u. answer u (Advance name 0) mark) (taken_user_of owned name n g
-    ∙ ap (λ a. a.1) (advanced (user_of owned) name (session_meant g.held) found n g.near false))
-    ∙ alike (user_of owned) name (session_meant g.held) found n g.near mark
+pub taken_alike : (state : UserState) (name : List ℕ) (n : ℕ) → Goes state name n
+    → AnswersAlike (user_of (with_session_changed name (with_more_owed n) state)) (Advance name 0) (user_of state) (Advance name n)
+taken_alike state name n g mark =
+    let found = named-held state name g.held g.there in
+    ap (λ u. answer u (Advance name 0) mark) (taken_user_of state name n g
+    ∙ ap (λ a. a.1) (advanced (user_of state) name (settled_session g.held) found n g.near false))
+    ∙ alike (user_of state) name (settled_session g.held) found n g.near mark
 
 -- what a command that takes steps of its own leaves
 takes : (command : Command) (owner : Owner) → 0 < turns (user_in owner) command
@@ -143,21 +143,21 @@ same_name command name h = by (waits_for command) refl
         ap (λ n. Some n) ((bytes_eq-Decides session name).0 t)
 
 -- how many turns are left once a step of the session is passed
-pub passed_turns : (owned : UserState) (name : List ℕ) (command : Command) → waits_for command ≡ Some name → 0 < owed_in owned name
-    → turns_before (with_session_changed name with_step_passed owned) command + 1 ≡ turns_before owned command
-passed_turns owned name command waits some =
-    let less = passed_owed owned name some in
-    let same = ap (λ u. turns u command) (passed_user owned name some) in
-    let then = ap (λ o. option_map_or (owed_in (with_session_changed name with_step_passed owned)) o 0) waits in
-    let now = ap (λ o. option_map_or (owed_in owned) o 0) waits in
+pub passed_turns : (state : UserState) (name : List ℕ) (command : Command) → waits_for command ≡ Some name → 0 < owed_in state name
+    → turns_before (with_session_changed name with_step_finished state) command + 1 ≡ turns_before state command
+passed_turns state name command waits some =
+    let less = passed_owed state name some in
+    let same = ap (λ u. turns u command) (passed_user state name some) in
+    let then = ap (λ o. option_map_or (owed_in (with_session_changed name with_step_finished state)) o 0) waits in
+    let now = ap (λ o. option_map_or (owed_in state) o 0) waits in
     omega (arith, less, same, then, now)
 
 -- a command to whose session nothing is owed takes steps of its own
-pub left-taken : (command : Command) (owned : UserState) → steps_before owned command ≡ 0 → command_left command owned ≡ rest_of command
-left-taken command owned none = rw none refl
+pub left-taken : (command : Command) (state : UserState) → steps_before state command ≡ 0 → command_left command state ≡ rest_of command
+left-taken command state none = rw none refl
 
-pub begun-taken : (command : Command) (owned : UserState) → steps_before owned command ≡ 0 → state_begun command owned ≡ state_taking_up command owned
-begun-taken command owned none = rw none refl
+pub begun-taken : (command : Command) (state : UserState) → steps_before state command ≡ 0 → state_begun command state ≡ state_taking_up command state
+begun-taken command state none = rw none refl
 
 -- an ADVANCE by 0 takes no turn
 pub nothing-turns : (user : User) (name : List ℕ) → turns user (Advance name 0) ≡ 0
@@ -169,37 +169,37 @@ nothing-turns user name = by (value_named name user.sessions)
     by (Some session) = by_test (can_advance session 0) (λ t. rw t refl) (λ t. rw t refl)
 
 -- its own turns are then those that are owed
-pub taken_turns : (owned : UserState) (name : List ℕ) (n : ℕ) → Goes owned name n → owed_in owned name ≡ 0
-    → turns_before (with_session_changed name (with_more_owed n) owned) (Advance name 0) ≡ turns_before owned (Advance name n)
+pub taken_turns : (state : UserState) (name : List ℕ) (n : ℕ) → Goes state name n → owed_in state name ≡ 0
+    → turns_before (with_session_changed name (with_more_owed n) state) (Advance name 0) ≡ turns_before state (Advance name n)
 unfolding waits_for
-taken_turns owned name n g none =
-    let there : held_session (with_session_changed name (with_more_owed n) owned) name ≡ Some (with_more_owed n g.held) =
-    ap (λ (o : UserState). held_session o name) (changed-some owned name (with_more_owed n) g.held g.there)
-    ∙ named-put_any name owned.sessions (with_more_owed n g.held) in
-    let owed : owed_in (with_session_changed name (with_more_owed n) owned) name ≡ g.held.owed + n =
-    ap (λ o. option_map_or (λ (h : HeldSession). h.owed) o 0) there ∙ owed-owing n g.held in
+taken_turns state name n g none =
+    let there : live_session (with_session_changed name (with_more_owed n) state) name ≡ Some (with_more_owed n g.held) =
+    ap (λ (o : UserState). live_session o name) (changed-some state name (with_more_owed n) g.held g.there)
+    ∙ named-put_any name state.sessions (with_more_owed n g.held) in
+    let owed : owed_in (with_session_changed name (with_more_owed n) state) name ≡ g.held.owed + n =
+    ap (λ o. option_map_or (λ (h : LiveSession). h.owed) o 0) there ∙ owed-owing n g.held in
     let was : g.held.owed ≡ 0 = rw g.there at none in
-    let zero_more = nothing-turns (user_of (with_session_changed name (with_more_owed n) owned)) name in
-    let own = advance-turns-near (user_of owned) name n (session_meant g.held) (named-held owned name g.held g.there) g.near in
+    let zero_more = nothing-turns (user_of (with_session_changed name (with_more_owed n) state)) name in
+    let own = advance-turns-near (user_of state) name n (settled_session g.held) (named-held state name g.held g.there) g.near in
     omega (arith, owed, was, zero_more, own, none)
 
 -- a MEASURE that takes its turn has its session
-pub measured_there : (owned : UserState) (name : List ℕ) → 0 < turns (user_of owned) (Measure name)
-    → (held : HeldSession) × (held_session owned name ≡ Some held)
-measured_there owned name some = by (held_session owned name) refl
+pub measured_there : (state : UserState) (name : List ℕ) → 0 < turns (user_of state) (Measure name)
+    → (held : LiveSession) × (live_session state name ≡ Some held)
+measured_there state name some = by (live_session state name) refl
   where
-    by : (o : Option HeldSession) → held_session owned name ≡ o → (held : HeldSession) × (o ≡ Some held)
-    by None e = absurd (let none = measure-turns-none (user_of owned) name (named-absent owned name e) in omega (arith, none, some))
+    by : (o : Option LiveSession) → live_session state name ≡ o → (held : LiveSession) × (o ≡ Some held)
+    by None e = absurd (let none = measure-turns-none (user_of state) name (named-absent state name e) in omega (arith, none, some))
     by (Some held) e = (held, refl)
 
-pub measured_turns : (owned : UserState) (name : List ℕ) (held : HeldSession) → held_session owned name ≡ Some held
-    → turns_before (with_session_changed name (with_step Energy) owned) (Measure name) ≡ turns_before owned (Measure name)
+pub measured_turns : (state : UserState) (name : List ℕ) (held : LiveSession) → live_session state name ≡ Some held
+    → turns_before (with_session_changed name (with_step Energy) state) (Measure name) ≡ turns_before state (Measure name)
 unfolding waits_for
-measured_turns owned name held found =
-    let there : held_session (with_session_changed name (with_step Energy) owned) name ≡ Some (with_step Energy held) =
-    ap (λ (o : UserState). held_session o name) (changed-some owned name (with_step Energy) held found)
-    ∙ named-put_any name owned.sessions (with_step Energy held) in
-    let now = ap (λ o. option_map_or (λ (h : HeldSession). h.owed) o 0) there in
-    let was = ap (λ o. option_map_or (λ (h : HeldSession). h.owed) o 0) found in
-    let same = ap (λ u. turns u (Measure name)) (user_of-changed owned name (with_step Energy) (λ h. refl)) in
+measured_turns state name held found =
+    let there : live_session (with_session_changed name (with_step Energy) state) name ≡ Some (with_step Energy held) =
+    ap (λ (o : UserState). live_session o name) (changed-some state name (with_step Energy) held found)
+    ∙ named-put_any name state.sessions (with_step Energy held) in
+    let now = ap (λ o. option_map_or (λ (h : LiveSession). h.owed) o 0) there in
+    let was = ap (λ o. option_map_or (λ (h : LiveSession). h.owed) o 0) found in
+    let same = ap (λ u. turns u (Measure name)) (user_of-changed state name (with_step Energy) (λ h. refl)) in
     omega (arith, now, was, same)

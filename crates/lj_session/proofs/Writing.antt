@@ -7,8 +7,8 @@ use Rattle.lj_quota.specs.declared.Used.{Used}
 use Rattle.lj_session.specs.declared.command.Command.{Command}
 use Rattle.lj_session.specs.declared.reply.Reply.{Reply}
 use Rattle.lj_session.specs.declared.state.UserState.TheInside.{Inside}
-use Rattle.lj_session.specs.UserState.{HeldSession, UserState, Performs, Reached, as_session, session_meant, user_of, used_by, held_session, owed_in}
-use Rattle.lj_session.specs.UserState.{with_held_session, with_session_changed}
+use Rattle.lj_session.specs.UserState.{LiveSession, UserState, Performs, Reached, as_session, settled_session, user_of, used_by, live_session, owed_in}
+use Rattle.lj_session.specs.UserState.{with_live_session, with_session_changed}
 use Rattle.lj_session.specs.Answers.{answer}
 use Rattle.lj_session.specs.Totals.{state_of_kept, IsState}
 use Rattle.lj_session.proofs.Entries.{put-same, set-put}
@@ -17,9 +17,9 @@ use Rattle.lj_session.proofs.Reaching.{reached-answer, reached-performs, reached
 use Rattle.lj_session.proofs.Totals.{same_used, used-same, sessions-changed, atoms-changed, branches-changed}
 
 -- in the map a name is looked up as among what is held
-pub looked_up : (a : Inside) (old : UserState) → state_of_kept a ≡ old → (name : List ℕ) (found : Option HeldSession)
-    → found ≡ value_named name a.sessions.entries → held_session old name ≡ found
-looked_up a old view name found h = ap (λ (owned : UserState). held_session owned name) (sym view) ∙ sym h
+pub looked_up : (a : Inside) (old : UserState) → state_of_kept a ≡ old → (name : List ℕ) (found : Option LiveSession)
+    → found ≡ value_named name a.sessions.entries → live_session old name ≡ found
+looked_up a old view name found h = ap (λ (state : UserState). live_session state name) (sym view) ∙ sym h
 
 -- what is not in the map is no session of the user
 pub not_there : (a : Inside) (old : UserState) → state_of_kept a ≡ old → (name : List ℕ) → None ≡ value_named name a.sessions.entries
@@ -27,69 +27,69 @@ pub not_there : (a : Inside) (old : UserState) → state_of_kept a ≡ old → (
 not_there a old view name h = named-absent old name (looked_up a old view name None h)
 
 -- what is in the map is one
-pub is_there : (a : Inside) (old : UserState) → state_of_kept a ≡ old → (name : List ℕ) (held : HeldSession)
+pub is_there : (a : Inside) (old : UserState) → state_of_kept a ≡ old → (name : List ℕ) (held : LiveSession)
     → Some held ≡ value_named name a.sessions.entries
-    → value_named name (user_of old).sessions ≡ Some (session_meant held)
+    → value_named name (user_of old).sessions ≡ Some (settled_session held)
 is_there a old view name held h = named-held old name held (looked_up a old view name (Some held) h)
 
 -- to which nothing is owed, where nothing is owed to its name
-pub none_owed : (a : Inside) (old : UserState) → state_of_kept a ≡ old → (name : List ℕ) (held : HeldSession)
+pub none_owed : (a : Inside) (old : UserState) → state_of_kept a ≡ old → (name : List ℕ) (held : LiveSession)
     → Some held ≡ value_named name a.sessions.entries → owed_in old name ≡ 0 → held.owed ≡ 0
 none_owed a old view name held h none = owed-of old name held (looked_up a old view name (Some held) h) none
 
 -- to which steps are owed, where steps are owed to its name
-pub owes-some : (a : Inside) (old : UserState) → state_of_kept a ≡ old → (name : List ℕ) (held : HeldSession)
+pub owes-some : (a : Inside) (old : UserState) → state_of_kept a ≡ old → (name : List ℕ) (held : LiveSession)
     → Some held ≡ value_named name a.sessions.entries → 0 < owed_in old name → 0 < held.owed
 owes-some a old view name held h some = rw (looked_up a old view name (Some held) h) at some
 
-pub is_settled : (a : Inside) (old : UserState) → state_of_kept a ≡ old → (name : List ℕ) (held : HeldSession)
+pub is_settled : (a : Inside) (old : UserState) → state_of_kept a ≡ old → (name : List ℕ) (held : LiveSession)
     → Some held ≡ value_named name a.sessions.entries → owed_in old name ≡ 0
     → value_named name (user_of old).sessions ≡ Some (as_session held)
 is_settled a old view name held h none =
     let found = looked_up a old view name (Some held) h in named-settled old name held found (owed-of old name held found none)
 
 -- The session that a name stands for becomes another one, and `next` is held then.
-pub record Writes (a : Inside) (old : UserState) (name : List ℕ) (held new : HeldSession) (next : UserState) : Type 0 where
-  pub found : held_session old name ≡ Some held
-  pub is : next ≡ with_held_session name new old
+pub record Writes (a : Inside) (old : UserState) (name : List ℕ) (held new : LiveSession) (next : UserState) : Type 0 where
+  pub found : live_session old name ≡ Some held
+  pub is : next ≡ with_live_session name new old
   pub counted : a.used ≡ used_by old
   pub reached : Reached old
 
 pub writes : (a : Inside) (old : UserState) → state_of_kept a ≡ old → IsState a
-    → (name : List ℕ) (held : HeldSession)
-    → Some held ≡ value_named name a.sessions.entries → (entries : List (List ℕ × HeldSession)) (new : HeldSession)
+    → (name : List ℕ) (held : LiveSession)
+    → Some held ≡ value_named name a.sessions.entries → (entries : List (List ℕ × LiveSession)) (new : LiveSession)
     → entries ≡ set_value (bytes_eq name) a.sessions.entries new
     → Writes a old name held new (record { quota = a.quota; sessions = entries })
 writes a old view state name held found entries new set = record {
   found = looked_up a old view name (Some held) found;
-  is = ap (λ (es : List (List ℕ × HeldSession)). record { quota = a.quota; sessions = es })
+  is = ap (λ (es : List (List ℕ × LiveSession)). record { quota = a.quota; sessions = es })
       (set ∙ set-put name a.sessions.entries held new (sym found))
-      ∙ ap (with_held_session name new) view;
+      ∙ ap (with_live_session name new) view;
   counted = state.counted ∙ ap used_by view;
   reached = subst Reached view state.reached;
 }
 
-module _ {a : Inside} {old : UserState} {name : List ℕ} {held new : HeldSession} {next : UserState}
+module _ {a : Inside} {old : UserState} {name : List ℕ} {held new : LiveSession} {next : UserState}
     (w : Writes a old name held new next) where
   -- the same session, written once more
   pub unchanged : new ≡ held → next ≡ old
-  unchanged same = w.is ∙ ap (λ (h : HeldSession). with_held_session name h old) same
-      ∙ ap (λ (es : List (List ℕ × HeldSession)). record { quota = old.quota; sessions = es })
+  unchanged same = w.is ∙ ap (λ (h : LiveSession). with_live_session name h old) same
+      ∙ ap (λ (es : List (List ℕ × LiveSession)). record { quota = old.quota; sessions = es })
       (put-same name old.sessions held w.found)
 
-  pub changed_by : (change : HeldSession → HeldSession) → new ≡ change held → next ≡ with_session_changed name change old
+  pub changed_by : (change : LiveSession → LiveSession) → new ≡ change held → next ≡ with_session_changed name change old
   changed_by change same =
-      w.is ∙ ap (λ (h : HeldSession). with_held_session name h old) same ∙ sym (changed-some old name change held w.found)
+      w.is ∙ ap (λ (h : LiveSession). with_live_session name h old) same ∙ sym (changed-some old name change held w.found)
 
-  pub user_kept : session_meant new ≡ session_meant held → user_of next ≡ user_of old
+  pub user_kept : settled_session new ≡ settled_session held → user_of next ≡ user_of old
   user_kept same = ap user_of w.is ∙ user_of-kept old name held new w.found same
 
   -- commands lead to the same user
-  pub reached_kept : session_meant new ≡ session_meant held → Reached next
+  pub reached_kept : settled_session new ≡ settled_session held → Reached next
   reached_kept same = reached-same old next w.reached (user_kept same)
 
   pub reached_unchanged : new ≡ held → Reached next
-  reached_unchanged same = reached_kept (ap session_meant same)
+  reached_unchanged same = reached_kept (ap settled_session same)
 
   same_quota : next.quota ≡ old.quota
   same_quota = ap (λ (o : UserState). o.quota) w.is
@@ -99,20 +99,20 @@ module _ {a : Inside} {old : UserState} {name : List ℕ} {held new : HeldSessio
   reached_answered command is = reached-answer old next w.reached command false same_quota (sym is)
 
   -- a command that is done so
-  pub done_as : (command : Command) (reply : Reply) (other : HeldSession)
-      → Performs old command (Ok reply) (with_held_session name other old) → new ≡ other
+  pub done_as : (command : Command) (reply : Reply) (other : LiveSession)
+      → Performs old command (Ok reply) (with_live_session name other old) → new ≡ other
       → Performs old command (Ok reply) next
   done_as command reply other performs same = rw (w.is, same) performs
 
   -- and it leads to the user after it
-  pub reached_as : (command : Command) (reply : Reply) (other : HeldSession)
-      → Performs old command (Ok reply) (with_held_session name other old) → new ≡ other → Reached next
+  pub reached_as : (command : Command) (reply : Reply) (other : LiveSession)
+      → Performs old command (Ok reply) (with_live_session name other old) → new ≡ other → Reached next
   reached_as command reply other performs same =
       reached-performs old next w.reached command (Ok reply) (done_as command reply other performs same) same_quota tt
 
   -- one whose reply names a step number, as the code reads it
-  pub done_at : (command : Command) (made : ℤ → Reply) (step read : ℤ) (other : HeldSession)
-      → Performs old command (Ok (made step)) (with_held_session name other old)
+  pub done_at : (command : Command) (made : ℤ → Reply) (step read : ℤ) (other : LiveSession)
+      → Performs old command (Ok (made step)) (with_live_session name other old)
       → read ≡ step → new ≡ other → Performs old command (Ok (made read)) next
   done_at command made step read other performs same_step same =
       done_as command (made read) other (rw same_step performs) same
@@ -134,7 +134,7 @@ module _ {a : Inside} {old : UserState} {name : List ℕ} {held new : HeldSessio
         let t = atoms-changed old name new held w.found in
         let u = branches-changed old name new held w.found in
         same_used (record { sessions = a.used.sessions; atoms = a.used.atoms; branches = branches })
-        (used_by (with_held_session name new old))
+        (used_by (with_live_session name new old))
         (ap (λ (v : Used). v.sessions) w.counted ∙ sym s)
         (let b = ap (λ (v : Used). v.atoms) w.counted in omega (arith, b, t, atoms))
         (let b = ap (λ (v : Used). v.branches) w.counted in omega (arith, b, u, saved))

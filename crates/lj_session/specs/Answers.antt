@@ -12,12 +12,12 @@ use Rattle.lj_session.specs.declared.refusal.Refusal.TheVariants.{NoSession, NoB
 use Rattle.lj_session.specs.declared.refusal.Refusal.TheVariants.{QuotaBranches, StepRange, Memory}
 use Rattle.lj_session.specs.declared.reply.Reply.{Reply}
 use Rattle.lj_session.specs.declared.reply.Reply.TheVariants as reply
-use Rattle.lj_session.specs.declared.session.TheConstants.{MAX_STEPS}
+use Rattle.lj_session.specs.declared.live_session.TheConstants.{MAX_STEPS}
 use Rattle.lj_step.specs.declared.simulations.TheConstants.{MAX_STEP}
 use Rattle.lj_branch.specs.Named.{value_named, with_value, without_value}
 use Rattle.lj_session.specs.Users.{Session, User, with_session, atoms_of, branches_used}
 use Rattle.lj_session.specs.Loads.{refusal_unless, admission, body_or_refusal, session_read}
-use Rattle.lj_session.specs.Substances.{load_reply}
+use Rattle.lj_session.specs.Interactions.{load_reply}
 
 -- the value under a name, or a refusal
 abbrev pub value_or_refusal : {A : Type 0} → Option A → Refusal → Result A Refusal
@@ -69,7 +69,7 @@ command_result user (Load load) mark = do
   mix ← admission user load
   bytes ← body_or_refusal load.body mark
   session ← session_read user mix load bytes
-  Ok (load_reply load.substance load.name (atoms_of session), with_session load.name session user)
+  Ok (load_reply load.interactions load.name (atoms_of session), with_session load.name session user)
 command_result user (Advance name n) mark = do
   session ← session_of user name
   near ← refusal_unless (can_advance session n) StepRange

@@ -1,7 +1,7 @@
 -- Cursors over the tasks of a session that are still to be posted.
 use Rattle.std.specs.Prelude.{◌≡◌, ℕ, List, Some, slice_get}
 use Rattle.lj_session.specs.declared.tile_cursor.TileCursor.{TileCursor}
-use Rattle.lj_session.specs.UserState.{HeldSession, NoTaskBefore, held_session, held_session_at, names}
+use Rattle.lj_session.specs.UserState.{LiveSession, NoTaskBefore, live_session, live_session_at, names}
 use Rattle.lj_session.specs.Owner.{Owner}
 
 -- The later owner is this one once the tasks before the cursor are posted: the session of the cursor has passed their tiles, and
@@ -9,9 +9,9 @@ use Rattle.lj_session.specs.Owner.{Owner}
 pub record IsPostedTo (cursor : TileCursor) (owner later : Owner) : Type 0 where
   pub name : List ℕ
   pub named : slice_get (names owner.state) cursor.session ≡ Some name
-  pub held : HeldSession
-  pub at : held_session_at owner.state cursor.session ≡ Some held
-  pub there : held_session later.state name ≡ Some (record held { passed = cursor.from })
+  pub held : LiveSession
+  pub at : live_session_at owner.state cursor.session ≡ Some held
+  pub there : live_session later.state name ≡ Some (record held { passed = cursor.from })
   pub before : NoTaskBefore later.state cursor.session
   pub same_names : names later.state ≡ names owner.state
   pub number : later.number ≡ owner.number

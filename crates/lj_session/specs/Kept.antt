@@ -2,11 +2,11 @@
 use Rattle.std.specs.Prelude.{◌≡◌, ◌≤◌, ◌*◌, unsigned_abs, pos, ◌+ℤ◌, ◌*ℤ◌, length}
 use Rattle.std.specs.List.{AllByRecursion}
 use Rattle.lj_step.specs.declared.simulations.TheConstants.{MAX_STEP}
-use Rattle.lj_session.specs.UserState.{HeldSession, HasCount}
-use Rattle.lj_session.specs.declared.session.HeldSession.TheInside.{Inside}
+use Rattle.lj_session.specs.UserState.{LiveSession, HasCount}
+use Rattle.lj_session.specs.declared.live_session.LiveSession.TheInside.{Inside}
 
 -- the value of a session's fields
-abbrev pub session_of_kept : Inside → HeldSession
+abbrev pub session_of_kept : Inside → LiveSession
 session_of_kept a =
     record { symbols = a.symbols.items; live = a.sim; passed = a.passed; saved = a.branches; owed = a.owed }
 

@@ -8,12 +8,12 @@ use Rattle.lj_session.specs.declared.reply.Reply.{Reply}
 use Rattle.lj_session.specs.declared.reply.Reply.TheVariants.{Dumped, ListedBranches}
 use Rattle.lj_session.specs.Users.{User}
 use Rattle.lj_session.specs.Answers.{answer, AnswersAlike}
-use Rattle.lj_session.specs.UserState.{UserState, user_of, state_at_rest, steps_before, turns_before}
+use Rattle.lj_session.specs.UserState.{UserState, user_of, with_steps_restarted, steps_before, turns_before}
 use Rattle.lj_session.specs.Owner.{Owner, user_in, owner_begun, with_task_posted, with_task_in}
 
 -- Restarting each open step does not change the user.
-abbrev pub RestKeepsUser : Type 0
-RestKeepsUser = (owned : UserState) → user_of (state_at_rest owned) ≡ user_of owned
+abbrev pub RestartKeepsUser : Type 0
+RestartKeepsUser = (state : UserState) → user_of (with_steps_restarted state) ≡ user_of state
 
 -- Noting a task as posted does not change the user.
 abbrev pub PostedKeepsUser : Type 0

@@ -1,13 +1,13 @@
 pub mod Refusals
 pub mod Users
-pub mod Substances
+pub mod Interactions
 pub mod Loads
 pub mod Answers
 pub mod Turns
 pub mod UserState
 pub mod Kept
 pub mod Totals
-pub mod Openings
+pub mod ParsedLoads
 pub mod Faults
 pub mod Owner
 pub mod Begins

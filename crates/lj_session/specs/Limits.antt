@@ -2,7 +2,7 @@
 use Rattle.std.specs.Prelude.{◌≡◌, ◌^◌, refl}
 use Rattle.lj_step.specs.declared.frames.TheConstants as frames
 use Rattle.lj_xyz.specs.declared.frame_reader.TheConstants as xyz
-use Rattle.lj_session.specs.declared.session.TheConstants.{MAX_STEPS}
+use Rattle.lj_session.specs.declared.live_session.TheConstants.{MAX_STEPS}
 
 -- a command asks for at most a million steps
 most_steps : MAX_STEPS ≡ 10 ^ 6

@@ -6,7 +6,7 @@ use Rattle.lj_ring.specs.Places.{place_of}
 use Rattle.lj_ring.specs.Mix.{Mix, edge_of}
 use Rattle.lj_step.specs.Motion.{opening}
 use Rattle.lj_xyz.specs.declared.xyz_fault.XyzFault.{XyzFault}
-use Rattle.lj_xyz.specs.declared.atom_row.Row.{Row}
+use Rattle.lj_xyz.specs.declared.atom_row.AtomRow.{AtomRow}
 use Rattle.lj_xyz.specs.Atoms.{◌>>=◌}
 use Rattle.lj_xyz.specs.Lines.{lines_of}
 use Rattle.lj_xyz.specs.Frames as frames
@@ -20,7 +20,7 @@ use Rattle.lj_session.specs.declared.command.Mode.TheVariants.{Rest, Pair}
 use Rattle.lj_session.specs.declared.refusal.Refusal.{Refusal}
 use Rattle.lj_session.specs.declared.refusal.Refusal.TheVariants.{Exists, QuotaSessions, QuotaAtoms, Xyz, Memory}
 use Rattle.lj_branch.specs.Named.{value_named}
-use Rattle.lj_session.specs.Substances.{composition_of, mix_of_substance, nano_or_zero, symbols_of}
+use Rattle.lj_session.specs.Interactions.{composition_of, mix_of_interactions, nano_or_zero, symbols_of}
 use Rattle.lj_session.specs.Users.{Session, User, atoms_of, atoms_used, sessions_used}
 
 -- a refusal unless a test holds
@@ -33,7 +33,7 @@ abbrev pub admission : User → Load → Result Mix Refusal
 admission user load = do
   new ← refusal_unless (not (is_some (value_named load.name user.sessions))) Exists
   room ← refusal_unless (nat_lt (sessions_used user) user.quota.sessions) QuotaSessions
-  mix_of_substance (nano_or_zero load.edge) load.substance
+  mix_of_interactions (nano_or_zero load.edge) load.interactions
 
 -- the body, if it was read and there was memory for the load
 abbrev pub body_or_refusal : LoadBody → Bool → Result (List ℕ) Refusal
@@ -43,15 +43,15 @@ body_or_refusal Lost mark = Err Memory
 body_or_refusal Unread mark = Err Memory
 
 -- the places of atoms in a box
-abbrev pub place_in : ℕ → Row → Place
+abbrev pub place_in : ℕ → AtomRow → Place
 place_in edge row = record { x = place_of edge row.x; y = place_of edge row.y; z = place_of edge row.z }
 
 -- the frame of a list of atoms
-abbrev pub places_in : ℕ → List Row → List Place
+abbrev pub places_in : ℕ → List AtomRow → List Place
 places_in edge rows = map (place_in edge) rows
 
 -- the session that opens with two frames, under the symbols of the first, which determine the species if two are given
-abbrev pub session_from : Mix → Option SymbolPair → List Row → List Row → Session
+abbrev pub session_from : Mix → Option SymbolPair → List AtomRow → List AtomRow → Session
 session_from mix symbols first second = record {
   symbols = map (λ row. row.symbol) first;
   composition = composition_of mix symbols first;
@@ -60,13 +60,13 @@ session_from mix symbols first second = record {
 }
 
 -- a single frame is used twice, so that the atoms are at rest
-abbrev pub session_of_frames : Mix → Option SymbolPair → List (List Row) → Session
+abbrev pub session_of_frames : Mix → Option SymbolPair → List (List AtomRow) → Session
 session_of_frames mix symbols [] = session_from mix symbols [] []
 session_of_frames mix symbols (only ∷ []) = session_from mix symbols only only
 session_of_frames mix symbols (first ∷ second ∷ others) = session_from mix symbols first second
 
 -- frames, or the fault of a body as a refusal
-abbrev pub frames_or_refusal : Result (List (List Row)) XyzFault → Result (List (List Row)) Refusal
+abbrev pub frames_or_refusal : Result (List (List AtomRow)) XyzFault → Result (List (List AtomRow)) Refusal
 frames_or_refusal (Ok frames) = Ok frames
 frames_or_refusal (Err fault) = Err (Xyz fault)
 
@@ -84,5 +84,5 @@ session_within_quota user session = do
 -- the session of a body, or the first refusal of the body
 abbrev pub session_read : User → Mix → Load → List ℕ → Result Session Refusal
 session_read user mix load body = do
-  frames ← frames_or_refusal (reading (symbols_of load.substance) (reading_mode load.mode) (lines_of body))
-  session_within_quota user (session_of_frames mix (symbols_of load.substance) frames)
+  frames ← frames_or_refusal (reading (symbols_of load.interactions) (reading_mode load.mode) (lines_of body))
+  session_within_quota user (session_of_frames mix (symbols_of load.interactions) frames)

@@ -4,7 +4,7 @@ use Rattle.std.specs.Option.{option_map_or, option_and_then}
 use Rattle.std.specs.List.{find}
 use Rattle.std.specs.Str.{bytes_eq}
 use Rattle.lj_base.specs.declared.names.Label.{Label}
-use Rattle.lj_tile.specs.declared.names.Kind.TheVariants.{Energy}
+use Rattle.lj_tile.specs.declared.task_name.Kind.TheVariants.{Energy}
 use Rattle.lj_tile.specs.Task.{Task}
 use Rattle.lj_step.specs.OpenSteps.{tile_number_of}
 use Rattle.lj_session.specs.declared.command.Command.{Command}
@@ -15,8 +15,8 @@ use Rattle.lj_session.specs.declared.reply.Reply.TheVariants.{Dumped, Refused}
 use Rattle.lj_session.specs.Users.{User}
 use Rattle.lj_session.specs.Answers.{answer, AnswersAlike}
 use Rattle.lj_session.specs.Turns.{waits_for}
-use Rattle.lj_session.specs.UserState.{HeldSession, UserState, user_of, names, with_session_changed, with_step, next_task, with_posted, IsAwaited, with_tile_in, is_whole_in}
-use Rattle.lj_session.specs.UserState.{with_more_owed, with_step_passed, state_at_rest, owed_in, steps_before, turns_before, is_measured}
+use Rattle.lj_session.specs.UserState.{LiveSession, UserState, user_of, names, with_session_changed, with_step, next_task, with_posted, IsAwaited, with_tile_in, is_whole_in}
+use Rattle.lj_session.specs.UserState.{with_more_owed, with_step_finished, with_steps_restarted, owed_in, steps_before, turns_before, is_measured}
 
 -- an owner: the state, the number of its user, and the waiting command, if there is one
 pub record Owner : Type 0 where
@@ -30,7 +30,7 @@ user_in owner = user_of owner.state
 
 -- the owner of a new state: each step is restarted
 abbrev pub owner_of_state : UserState → ℕ → Owner
-owner_of_state state number = record { state = state_at_rest state; number = number; waiting = None }
+owner_of_state state number = record { state = with_steps_restarted state; number = number; waiting = None }
 
 -- an owner with another state
 abbrev pub with_state : UserState → Owner → Owner
@@ -55,9 +55,9 @@ is_waited_for waiting name = option_map_or (λ session. bytes_eq session name) (
 -- a command begins its own steps: those of an ADVANCE become pending in its session, and for a MEASURE the energy step
 -- is opened
 unfoldable pub state_taking_up : Command → UserState → UserState
-state_taking_up (Advance name n) owned = with_session_changed name (with_more_owed n) owned
-state_taking_up (Measure name) owned = with_session_changed name (with_step Energy) owned
-state_taking_up _ owned = owned
+state_taking_up (Advance name n) state = with_session_changed name (with_more_owed n) state
+state_taking_up (Measure name) state = with_session_changed name (with_step Energy) state
+state_taking_up _ state = state
 
 -- the command that waits then: an ADVANCE by 0, since its steps are pending
 unfoldable pub rest_of : Command → Command
@@ -67,11 +67,11 @@ rest_of command = command
 -- the state once a command is begun and waits: if steps are pending in its session it waits for them, else it begins
 -- its own
 abbrev pub state_begun : Command → UserState → UserState
-state_begun command owned = if nat_lt 0 (steps_before owned command) then owned else state_taking_up command owned
+state_begun command state = if nat_lt 0 (steps_before state command) then state else state_taking_up command state
 
 -- the command that waits then
 abbrev pub command_left : Command → UserState → Command
-command_left command owned = if nat_lt 0 (steps_before owned command) then command else rest_of command
+command_left command state = if nat_lt 0 (steps_before state command) then command else rest_of command
 
 -- the owner once a command is begun and waits
 abbrev pub owner_begun : Command → Owner → Owner
@@ -100,9 +100,9 @@ abbrev pub task_in : Owner → Option Task
 task_in owner = option_and_then (task_of_session owner) (next_session owner)
 
 -- the state with a session changed, if a name is given
-abbrev pub state_changed_in : Option (List ℕ) → (HeldSession → HeldSession) → UserState → UserState
-state_changed_in None change owned = owned
-state_changed_in (Some name) change owned = with_session_changed name change owned
+abbrev pub state_changed_in : Option (List ℕ) → (LiveSession → LiveSession) → UserState → UserState
+state_changed_in None change state = state
+state_changed_in (Some name) change state = with_session_changed name change state
 
 -- the owner with the tile of the next task noted as posted
 abbrev pub with_task_posted : Owner → Owner
@@ -123,7 +123,7 @@ ready_session owner = find (is_whole_in owner.state) (names owner.state)
 
 -- the state with the step of a session turned
 abbrev pub state_turned : List ℕ → UserState → UserState
-state_turned name owned = with_session_changed name with_step_passed owned
+state_turned name state = with_session_changed name with_step_finished state
 
 -- the owner with the step of a session turned, and the waiting command begun again if it needs that session
 abbrev pub owner_turned : List ℕ → Owner → Owner
@@ -159,5 +159,5 @@ WaitsAlike old new = WaitsAlikeFor old.waiting new.waiting (user_in old) (user_i
 
 -- no step is pending in a session whose frame a reply prints
 abbrev pub IsSettled : UserState → Reply → Type 0
-IsSettled owned (Dumped name) = owed_in owned name ≡ 0
-IsSettled owned _ = Unit {0}
+IsSettled state (Dumped name) = owed_in state name ≡ 0
+IsSettled state _ = Unit {0}

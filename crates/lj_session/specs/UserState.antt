@@ -5,8 +5,8 @@ use Rattle.std.specs.Option.{option_map, option_map_or, option_and_then}
 use Rattle.std.specs.List.{find, range_with_len}
 use Rattle.std.specs.Str.{bytes_eq}
 use Rattle.lj_base.specs.declared.names.Label.{Label}
-use Rattle.lj_tile.specs.declared.names.Kind.{Kind}
-use Rattle.lj_tile.specs.declared.names.Kind.TheVariants.{Force, Energy}
+use Rattle.lj_tile.specs.declared.task_name.Kind.{Kind}
+use Rattle.lj_tile.specs.declared.task_name.Kind.TheVariants.{Force, Energy}
 use Rattle.lj_tile.specs.Task.{Task}
 use Rattle.lj_step.specs.Motion.{Simulation, next_simulation, steps}
 use Rattle.lj_step.specs.Sim.{Sim}
@@ -27,7 +27,7 @@ use Rattle.lj_session.specs.Turns.{turns, waits_for}
 -- A session in the code: the symbols of its atoms, its simulation with composition and open step, its saved
 -- simulations, and the number of pending steps. The first `passed` tiles of the open step's cover were posted, or
 -- skipped because they were in.
-pub record HeldSession : Type 0 where
+pub record LiveSession : Type 0 where
   pub symbols : List (List ℕ)
   pub live : Sim
   pub passed : ℕ
@@ -41,20 +41,20 @@ HasCount count entry = length entry.1.cur ≡ count
 -- the state of a user: the quota, and sessions under names, in order of loading
 pub record UserState : Type 0 where
   pub quota : Quota
-  pub sessions : List (List ℕ × HeldSession)
+  pub sessions : List (List ℕ × LiveSession)
 
 -- a state without sessions
 abbrev pub empty_state : Quota → UserState
 empty_state quota = record { quota = quota; sessions = [] }
 
 -- the session, as it was when its present step began
-abbrev pub as_session : HeldSession → Session
+abbrev pub as_session : LiveSession → Session
 as_session held =
     record { symbols = held.symbols; composition = held.live.composition; sim = held.live.sim; saved = held.saved }
 
 -- the session with all its pending steps done
-abbrev pub session_meant : HeldSession → Session
-session_meant held = record {
+abbrev pub settled_session : LiveSession → Session
+settled_session held = record {
   symbols = held.symbols;
   composition = held.live.composition;
   sim = steps held.live.composition held.owed held.live.sim;
@@ -62,165 +62,165 @@ session_meant held = record {
 }
 
 -- a name, and its session with all pending steps done
-abbrev pub as_entry : List ℕ × HeldSession → List ℕ × Session
-as_entry entry = (entry.0, session_meant entry.1)
+abbrev pub as_entry : List ℕ × LiveSession → List ℕ × Session
+as_entry entry = (entry.0, settled_session entry.1)
 
 -- the user with all pending steps done
 abbrev pub user_of : UserState → User
-user_of owned = record { quota = owned.quota; sessions = map as_entry owned.sessions }
+user_of state = record { quota = state.quota; sessions = map as_entry state.sessions }
 
 -- how much of each part of the quota the user has used
 abbrev pub used_by : UserState → Used
-used_by owned = record {
-  sessions = sessions_used (user_of owned);
-  atoms = atoms_used (user_of owned);
-  branches = branches_used (user_of owned);
+used_by state = record {
+  sessions = sessions_used (user_of state);
+  atoms = atoms_used (user_of state);
+  branches = branches_used (user_of state);
 }
 
 -- the session of a name, if there is one
-abbrev pub held_session : UserState → List ℕ → Option HeldSession
-held_session owned name = value_named name owned.sessions
+abbrev pub live_session : UserState → List ℕ → Option LiveSession
+live_session state name = value_named name state.sessions
 
 -- the i-th session, in order of loading
-abbrev pub held_session_at : UserState → ℕ → Option HeldSession
-held_session_at owned i = option_map (λ entry. entry.1) (slice_get owned.sessions i)
+abbrev pub live_session_at : UserState → ℕ → Option LiveSession
+live_session_at state i = option_map (λ entry. entry.1) (slice_get state.sessions i)
 
 -- the names, in order of loading
 abbrev pub names : UserState → List (List ℕ)
-names owned = map (λ entry. entry.0) owned.sessions
+names state = map (λ entry. entry.0) state.sessions
 
 -- the state with this session under a name
-abbrev pub with_held_session : List ℕ → HeldSession → UserState → UserState
-with_held_session name held owned = record owned { sessions = with_value name held owned.sessions }
+abbrev pub with_live_session : List ℕ → LiveSession → UserState → UserState
+with_live_session name held state = record state { sessions = with_value name held state.sessions }
 
 -- the state with a session changed, if there is one
-abbrev pub with_session_changed_to : List ℕ → (HeldSession → HeldSession) → Option HeldSession → UserState → UserState
-with_session_changed_to name change None owned = owned
-with_session_changed_to name change (Some held) owned = with_held_session name (change held) owned
+abbrev pub with_session_changed_to : List ℕ → (LiveSession → LiveSession) → Option LiveSession → UserState → UserState
+with_session_changed_to name change None state = state
+with_session_changed_to name change (Some held) state = with_live_session name (change held) state
 
 -- the state with the session of a name changed, if there is one
-abbrev pub with_session_changed : List ℕ → (HeldSession → HeldSession) → UserState → UserState
-with_session_changed name change owned = with_session_changed_to name change (held_session owned name) owned
+abbrev pub with_session_changed : List ℕ → (LiveSession → LiveSession) → UserState → UserState
+with_session_changed name change state = with_session_changed_to name change (live_session state name) state
 
 -- the session with a step of a kind open, and no tile of it posted or in
-abbrev pub with_step : Kind → HeldSession → HeldSession
+abbrev pub with_step : Kind → LiveSession → LiveSession
 with_step kind held =
     record held { live = record held.live { part = Some (opened_step kind held.live.composition held.live.sim.cur) }; passed = 0 }
 
 -- the position in the cover of the first tile that is neither posted nor in
-abbrev pub next_tile : HeldSession → Option ℕ
+abbrev pub next_tile : LiveSession → Option ℕ
 next_tile held = find (is_tile_awaited held.live) (range_with_len held.passed (tiles_of held.live - held.passed))
 
 -- the task of the first tile of a session that is neither posted nor in
-abbrev pub next_of : Label → Option HeldSession → Option Task
+abbrev pub next_of : Label → Option LiveSession → Option Task
 next_of label None = None
 next_of label (Some held) = option_and_then (task_at held.live label) (next_tile held)
 
 -- the task of that tile for the session that a label names
 abbrev pub next_task : UserState → Label → Option Task
-next_task owned label = next_of label (held_session owned label.session)
+next_task state label = next_of label (live_session state label.session)
 
 -- the first session, in order of loading, that has a task for the user of this number
 abbrev pub first_with_task : UserState → ℕ → Option (List ℕ)
-first_with_task owned user =
-    find (λ name. is_some (next_task owned (record { user = user; session = name }))) (names owned)
+first_with_task state user =
+    find (λ name. is_some (next_task state (record { user = user; session = name }))) (names state)
 
 -- No session before the i-th has a task, whatever the number of the user.
 abbrev pub NoTaskBefore : UserState → ℕ → Type 0
-NoTaskBefore owned i = (user k : ℕ) (name : List ℕ) → k < i → slice_get (names owned) k ≡ Some name
-    → is_some (next_task owned (record { user = user; session = name })) ≡ false
+NoTaskBefore state i = (user k : ℕ) (name : List ℕ) → k < i → slice_get (names state) k ≡ Some name
+    → is_some (next_task state (record { user = user; session = name })) ≡ false
 
 -- The tile of the next task is the one at position `k` in the cover of the session at index `i`.
-pub record IsNextTile (owned : UserState) (i k : ℕ) : Type 0 where
-  pub within : i < length owned.sessions
+pub record IsNextTile (state : UserState) (i k : ℕ) : Type 0 where
+  pub within : i < length state.sessions
   pub name : List ℕ
-  pub named : slice_get (names owned) i ≡ Some name
-  pub held : HeldSession
-  pub at : held_session_at owned i ≡ Some held
-  pub there : held_session owned name ≡ Some held
+  pub named : slice_get (names state) i ≡ Some name
+  pub held : LiveSession
+  pub at : live_session_at state i ≡ Some held
+  pub there : live_session state name ≡ Some held
   pub tile : next_tile held ≡ Some k
   pub below : k < tiles_of held.live
-  pub before : NoTaskBefore owned i
-  pub first : (user : ℕ) → first_with_task owned user ≡ Some name
+  pub before : NoTaskBefore state i
+  pub first : (user : ℕ) → first_with_task state user ≡ Some name
 
 -- the session with the tiles up to and at a position passed, if one is given
-abbrev pub with_passed_to : Option ℕ → HeldSession → HeldSession
+abbrev pub with_passed_to : Option ℕ → LiveSession → LiveSession
 with_passed_to None held = held
 with_passed_to (Some i) held = record held { passed = i + 1 }
 
 -- the session with its first tile that is neither posted nor in noted as posted
-abbrev pub with_posted : HeldSession → HeldSession
+abbrev pub with_posted : LiveSession → LiveSession
 with_posted held = with_passed_to (next_tile held) held
 
 -- the task is that of a tile that the open step of its session awaits
 abbrev pub IsAwaited : UserState → Label → Task → Type 0
-IsAwaited owned label work = IsSomeAnd (held_session owned label.session) (λ held. IsAwaitedTask held.live label work)
+IsAwaited state label work = IsSomeAnd (live_session state label.session) (λ held. IsAwaitedTask held.live label work)
 
 -- the session with one more tile in
-abbrev pub with_tile_in : ℕ → HeldSession → HeldSession
+abbrev pub with_tile_in : ℕ → LiveSession → LiveSession
 with_tile_in k held = record held { live = record held.live { part = with_tile k held.live.part } }
 
 -- a step is open in a session and all its tiles are in
-abbrev pub is_whole_session : Option HeldSession → Bool
+abbrev pub is_whole_session : Option LiveSession → Bool
 is_whole_session None = false
 is_whole_session (Some held) = is_whole held.live.part
 
 -- the same for the session of a name
 abbrev pub is_whole_in : UserState → List ℕ → Bool
-is_whole_in owned name = is_whole_session (held_session owned name)
+is_whole_in state name = is_whole_session (live_session state name)
 
 -- the session with another simulation, and no step open
-abbrev pub with_simulation : HeldSession → Simulation → HeldSession
+abbrev pub with_simulation : LiveSession → Simulation → LiveSession
 with_simulation held sim = record held { live = with_step_closed held.live sim }
 
 -- the session with other saved simulations
-abbrev pub with_saved : HeldSession → List (List ℕ × Simulation) → HeldSession
+abbrev pub with_saved : LiveSession → List (List ℕ × Simulation) → LiveSession
 with_saved held saved = record held { saved = saved }
 
 -- the session with n more steps pending; if none were, the first of them is open
-abbrev pub with_more_owed : ℕ → HeldSession → HeldSession
+abbrev pub with_more_owed : ℕ → LiveSession → LiveSession
 with_more_owed n held =
     let more = record held { owed = held.owed + n } in
     if nat_lt 0 n && nat_le held.owed 0 then with_step Force more else more
 
 -- the session one step later, with one fewer step pending and none open
-abbrev pub with_step_taken : HeldSession → HeldSession
+abbrev pub with_step_taken : LiveSession → LiveSession
 with_step_taken held =
     record (with_simulation held (next_simulation held.live.composition held.live.sim)) { owed = held.owed - 1 }
 
 -- the session one step later, with the next step open if one is pending
-abbrev pub with_step_passed : HeldSession → HeldSession
-with_step_passed held =
+abbrev pub with_step_finished : LiveSession → LiveSession
+with_step_finished held =
     let next = with_step_taken held in if nat_lt 0 next.owed then with_step Force next else next
 
 -- the session with no step open, and no tile posted
-abbrev pub with_no_step : HeldSession → HeldSession
+abbrev pub with_no_step : LiveSession → LiveSession
 with_no_step held = record (with_simulation held held.live.sim) { passed = 0 }
 
 -- the session with its step restarted if one is pending, so that no tile is posted or in, else with none open
-abbrev pub session_at_rest : HeldSession → HeldSession
-session_at_rest held = if nat_lt 0 held.owed then with_step Force held else with_no_step held
+abbrev pub with_step_restarted : LiveSession → LiveSession
+with_step_restarted held = if nat_lt 0 held.owed then with_step Force held else with_no_step held
 
 -- the state with the step of each session restarted
-abbrev pub state_at_rest : UserState → UserState
-state_at_rest owned = record owned { sessions = map (λ entry. (entry.0, session_at_rest entry.1)) owned.sessions }
+abbrev pub with_steps_restarted : UserState → UserState
+with_steps_restarted state = record state { sessions = map (λ entry. (entry.0, with_step_restarted entry.1)) state.sessions }
 
 -- the number of pending steps of the session of a name, and 0 if there is none
 abbrev pub owed_in : UserState → List ℕ → ℕ
-owed_in owned name = option_map_or (λ held. held.owed) (held_session owned name) 0
+owed_in state name = option_map_or (λ held. held.owed) (live_session state name) 0
 
 -- the number of pending steps of the session that a command waits for
 abbrev pub steps_before : UserState → Command → ℕ
-steps_before owned command = option_map_or (owed_in owned) (waits_for command) 0
+steps_before state command = option_map_or (owed_in state) (waits_for command) 0
 
 -- the index, in order of loading, of the session that a command waits for, if there is one
 abbrev pub index_waited_for : UserState → Command → Option ℕ
-index_waited_for owned command =
-    option_and_then (λ name. position (bytes_eq name) (names owned)) (waits_for command)
+index_waited_for state command =
+    option_and_then (λ name. position (bytes_eq name) (names state)) (waits_for command)
 
 -- how many turns of its session come before a command is answered: the pending steps, and its own
 abbrev pub turns_before : UserState → Command → ℕ
-turns_before owned command = steps_before owned command + turns (user_of owned) command
+turns_before state command = steps_before state command + turns (user_of state) command
 
 -- the waiting command measures this session
 abbrev pub is_measured : Option Command → List ℕ → Bool
@@ -229,21 +229,21 @@ is_measured _ name = false
 
 -- the kind of a session's open step: of forces if steps are pending, of energies if the waiting command measures it,
 -- else no step is open
-abbrev pub kind_owed : Option Command → List ℕ → HeldSession → Option Kind
+abbrev pub kind_owed : Option Command → List ℕ → LiveSession → Option Kind
 kind_owed waiting name held =
     if nat_lt 0 held.owed then Some Force else (if is_measured waiting name then Some Energy else None)
 
 -- a session may advance by n steps after the pending ones
-abbrev pub MayAdvance : ℕ → HeldSession → Type 0
-MayAdvance n held = can_advance (session_meant held) n ≡ true
+abbrev pub MayAdvance : ℕ → LiveSession → Type 0
+MayAdvance n held = can_advance (settled_session held) n ≡ true
 
 -- A step is open in each session that has one to make, and in no other.
 abbrev pub IsAtWork : Option Command → UserState → Type 0
-IsAtWork waiting owned = (name : List ℕ) (held : HeldSession) → held_session owned name ≡ Some held
+IsAtWork waiting state = (name : List ℕ) (held : LiveSession) → live_session state name ≡ Some held
     → kind_of held.live.part ≡ kind_owed waiting name held
 
 -- a whole step of a kind is open
-pub record IsWhole (expected : Kind) (held : HeldSession) : Type 0 where
+pub record IsWhole (expected : Kind) (held : LiveSession) : Type 0 where
   pub kind : kind_of held.live.part ≡ Some expected
   pub whole : is_whole held.live.part ≡ true
 
@@ -254,40 +254,40 @@ outcome (Err refusal) next = Err refusal
 
 -- A command only reads, and has this outcome, whether memory is refused to it or not.
 abbrev pub Reads : UserState → Command → Result Reply Refusal → Type 0
-Reads owned command result = (mark : Bool) → command_result (user_of owned) command mark ≡ outcome result (user_of owned)
+Reads state command result = (mark : Bool) → command_result (user_of state) command mark ≡ outcome result (user_of state)
 
 -- Every session except the one of this name is unchanged, with its open step and what is posted of it.
 abbrev pub OtherSessionsKept : List ℕ → UserState → UserState → Type 0
-OtherSessionsKept name old new = (other : List ℕ) → name ≢ other → held_session new other ≡ held_session old other
+OtherSessionsKept name old new = (other : List ℕ) → name ≢ other → live_session new other ≡ live_session old other
 
 -- Every session except that of the command is unchanged, with its open step and what is posted of it.
 abbrev pub OthersKept : Command → UserState → UserState → Type 0
 OthersKept command old new =
-    (other : List ℕ) → session_named command ≢ Some other → held_session new other ≡ held_session old other
+    (other : List ℕ) → session_named command ≢ Some other → live_session new other ≡ live_session old other
 
 -- no step is pending or open in a session
-pub record IsIdle (held : HeldSession) : Type 0 where
+pub record IsIdle (held : LiveSession) : Type 0 where
   pub owed : held.owed ≡ 0
   pub closed : kind_of held.live.part ≡ None
 
 -- the steps of a session are unchanged: those pending, the open one, and which of its tiles are posted and in
-pub record SameSteps (old new : HeldSession) : Type 0 where
+pub record SameSteps (old new : LiveSession) : Type 0 where
   pub live : new.live ≡ old.live
   pub passed : new.passed ≡ old.passed
   pub owed : new.owed ≡ old.owed
 
 -- the session with the steps of a START pending, if it may advance by them
-abbrev pub with_start : ℕ → HeldSession → HeldSession
-with_start n held = if can_advance (session_meant held) n then with_more_owed n held else held
+abbrev pub with_start : ℕ → LiveSession → LiveSession
+with_start n held = if can_advance (settled_session held) n then with_more_owed n held else held
 
 -- the steps of its session after a load: none in a new session, and unchanged in one that was there
-abbrev pub StepsAfterLoad : Option HeldSession → HeldSession → Type 0
+abbrev pub StepsAfterLoad : Option LiveSession → LiveSession → Type 0
 StepsAfterLoad None after = IsIdle after
 StepsAfterLoad (Some held) after = SameSteps held after
 
 -- The steps of its session after a command: a load opens none and leaves those that were there, START adds pending
 -- ones, FORGET and LIST leave them unchanged, and after any other they are unchanged, or none is pending or open.
-abbrev pub StepsAfter : Command → Option HeldSession → HeldSession → Type 0
+abbrev pub StepsAfter : Command → Option LiveSession → LiveSession → Type 0
 StepsAfter (Load load) before after = StepsAfterLoad before after
 StepsAfter (Start name n) before after = IsSomeAnd before (λ held. after ≡ with_start n held)
 StepsAfter (Forget name branch) before after = IsSomeAnd before (λ held. SameSteps held after)
@@ -296,12 +296,12 @@ StepsAfter command before after = IsIdle after ⊎ IsSomeAnd before (λ held. Sa
 
 -- The session that a command names, if it is there, has these steps after the command.
 abbrev pub StepsFollow : Command → UserState → UserState → Type 0
-StepsFollow command old new = (name : List ℕ) (after : HeldSession) → session_named command ≡ Some name → held_session new name ≡ Some after
-    → StepsAfter command (held_session old name) after
+StepsFollow command old new = (name : List ℕ) (after : LiveSession) → session_named command ≡ Some name → live_session new name ≡ Some after
+    → StepsAfter command (live_session old name) after
 
 -- the session of a name, if there is one, has no step pending or open
 abbrev pub IsIdleIn : UserState → List ℕ → Type 0
-IsIdleIn owned name = (held : HeldSession) → held_session owned name ≡ Some held → IsIdle held
+IsIdleIn state name = (held : LiveSession) → live_session state name ≡ Some held → IsIdle held
 
 -- A command is performed as the definition says, under some mark, which is set only for the memory refusal.
 pub record Performs (old : UserState) (command : Command) (result : Result Reply Refusal) (new : UserState) : Type 0 where
@@ -318,7 +318,7 @@ user_after user (command ∷ commands) [] = user_after (answer user command fals
 user_after user (command ∷ commands) (mark ∷ marks) = user_after (answer user command mark).1 commands marks
 
 -- the user is the last one of some commands with marks, from no sessions
-pub record Reached (owned : UserState) : Type 0 where
+pub record Reached (state : UserState) : Type 0 where
   pub commands : List Command
   pub marks : List Bool
-  pub leads : user_of owned ≡ user_after (fresh_user owned.quota) commands marks
+  pub leads : user_of state ≡ user_after (fresh_user state.quota) commands marks

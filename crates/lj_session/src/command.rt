@@ -1,7 +1,7 @@
 //! Commands of a user.
 
 use crate::body::LoadBody;
-use crate::substance::Substance;
+use crate::interactions::Interactions;
 use lj_base::Name;
 use lj_fixed::Nano;
 
@@ -21,7 +21,7 @@ pub struct Load {
     pub name: Name,
     /// The edge of the box, in nano.
     pub edge: Option<Nano>,
-    pub substance: Substance,
+    pub interactions: Interactions,
     pub mode: Mode,
     pub body: LoadBody,
 }

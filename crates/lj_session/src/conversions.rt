@@ -1,7 +1,7 @@
 //! The faults of the crates below as refusals.
 ghost use Rattle.std.specs.Prelude.{◌≡◌};
 ghost use Rattle.lj_session.specs.declared.refusal.Refusal.TheVariants.{Memory, NoBranch as no_branch};
-ghost use Rattle.lj_session.specs.Substances.{scale_refusal, class_refusal, mix_refusal};
+ghost use Rattle.lj_session.specs.Interactions.{scale_refusal, class_refusal, mix_refusal};
 ghost use Rattle.lj_session.specs.Faults.{xyz_refusal, save_refusal, quota_refusal};
 
 use crate::refusal::Refusal;

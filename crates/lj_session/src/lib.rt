@@ -4,26 +4,26 @@
 mod body;
 mod command;
 mod conversions;
-mod laws;
-mod opening;
+mod interactions;
+mod live_session;
 mod owner;
+mod owner_laws;
+mod parsed_load;
 mod refusal;
 mod reply;
-mod seconds;
-mod session;
+mod species_bits;
 mod state;
-mod substance;
 mod tile_cursor;
 
 pub use body::{Body, LoadBody};
 pub use command::{Command, Load, Mode};
-pub use laws::{
-    accept_keeps_user, begun_waits_alike, listed_is_there, posted_keeps_user, rest_keeps_user,
-};
+pub use interactions::{ClassNumbers, Interactions};
 pub use lj_base::Name;
 pub use owner::{Begin, Owner};
+pub use owner_laws::{
+    accept_keeps_user, begun_waits_alike, listed_is_there, posted_keeps_user, restart_keeps_user,
+};
 pub use refusal::Refusal;
 pub use reply::Reply;
 pub use state::UserState;
-pub use substance::{ClassNumbers, Substance};
 pub use tile_cursor::TileCursor;

@@ -5,7 +5,7 @@ ghost use Rattle.std.specs.List.{IsDistinct};
 ghost use Rattle.std.specs.Str.{bytes_eq};
 ghost use Rattle.lj_session.specs.Answers.{AnswersAlike};
 ghost use Rattle.lj_session.specs.UserState.{OthersKept, OtherSessionsKept, StepsFollow, IsIdleIn, is_measured};
-ghost use Rattle.lj_session.specs.UserState.{is_whole_in, names, state_at_rest};
+ghost use Rattle.lj_session.specs.UserState.{is_whole_in, names, with_steps_restarted};
 ghost use Rattle.lj_session.specs.UserState.{IsAtWork, index_waited_for, turns_before, user_of};
 ghost use Rattle.lj_session.specs.Owner.{IsAnswered, IsReplied, IsAwaitedIn, IsLastTurn, IsSettled};
 ghost use Rattle.lj_session.specs.Owner.{WaitsAlike};
@@ -65,7 +65,7 @@ impl Owner {
         ensures distinct { IsDistinct bytes_eq (names result.state) }
     {
         let mut state = state;
-        state.rest();
+        state.restart_steps();
         Owner {
             state,
             user,
@@ -134,25 +134,25 @@ impl Owner {
     pub fn next_task(&self) -> Option<Task>
         ensures { result ≡ task_in self.now }
     {
-        let mut room = Task::blank();
-        if self.next_task_in(&mut room) {
-            Some(room)
+        let mut out = Task::blank();
+        if self.next_task_in(&mut out) {
+            Some(out)
         } else {
             None
         }
     }
 
-    /// Writes the task that `next_task` returns to `room`. Returns false if there is none; `room` is unchanged then.
-    pub fn next_task_in(&self, room: &mut Task) -> bool
-        ensures some { result ≡ true → task_in self.now ≡ Some room.new }
+    /// Writes the task that `next_task` returns to `out`. Returns false if there is none; `out` is unchanged then.
+    pub fn next_task_in(&self, out: &mut Task) -> bool
+        ensures some { result ≡ true → task_in self.now ≡ Some out.new }
         ensures none { result ≡ false → task_in self.now ≡ None }
-        ensures unchanged { result ≡ false → room.new ≡ room.old }
+        ensures unchanged { result ≡ false → out.new ≡ out.old }
     {
         let Some((i, k)) = self.state.next_tile() else {
             return false;
         };
         let label = self.label(self.state.name_at(i).copy());
-        self.state.task_in(i, k, &label, room)
+        self.state.task_in(i, k, &label, out)
     }
 
     /// Returns the cursor at the task that `next_task` returns.
@@ -167,15 +167,15 @@ impl Owner {
         Some(TileCursor { session, from })
     }
 
-    /// Writes the task at a cursor to `room`, and moves the cursor behind it. This task is the next one once all before
+    /// Writes the task at a cursor to `out`, and moves the cursor behind it. This task is the next one once all before
     /// the cursor are posted; it posts none. Returns false if the session of the cursor has no task there; nothing has
     /// changed then.
-    pub fn task_from_in(&self, cursor: &mut TileCursor, room: &mut Task) -> bool
+    pub fn task_from_in(&self, cursor: &mut TileCursor, out: &mut Task) -> bool
         ensures task { result ≡ true → (later : Owner) → IsPostedTo cursor.old self.now later
-            → task_in later ≡ Some room.new }
+            → task_in later ≡ Some out.new }
         ensures moved { result ≡ true → (later : Owner) → IsPostedTo cursor.old self.now later
             → IsPostedTo cursor.new self.now (with_task_posted later) }
-        ensures unchanged { result ≡ false → room.new ≡ room.old }
+        ensures unchanged { result ≡ false → out.new ≡ out.old }
         ensures stays { result ≡ false → cursor.new ≡ cursor.old }
     {
         let TileCursor { session, from } = *cursor;
@@ -183,7 +183,7 @@ impl Owner {
             return false;
         }
         let label = self.label(self.state.name_at(session).copy());
-        let Some(next) = self.state.task_from_in(session, from, &label, room) else {
+        let Some(next) = self.state.task_from_in(session, from, &label, out) else {
             return false;
         };
         cursor.from = next;
@@ -283,7 +283,7 @@ impl Owner {
         ensures quota { self.new.state.quota ≡ self.old.state.quota }
     {
         if !self.is_waited_for(name) {
-            self.state.pass_step(name);
+            self.state.finish_step(name);
             return None;
         }
         let command = self.waiting.take()?;
@@ -292,7 +292,7 @@ impl Owner {
             self.state.close_step(name);
             return Some(reply);
         }
-        self.state.pass_step(name);
+        self.state.finish_step(name);
         match self.begin(command) {
             Begin::Answered(reply) => Some(reply),
             Begin::Running => None,
@@ -320,11 +320,11 @@ impl Owner {
     /// Promise: the state that is handed back means the same user, with the pending steps of its sessions.
     pub fn into_state(self) -> UserState
         requires { self.waiting ≡ None }
-        ensures state { result ≡ state_at_rest self.state }
+        ensures state { result ≡ with_steps_restarted self.state }
         ensures user { user_of result ≡ user_in self }
     {
         let mut state = self.state;
-        state.rest();
+        state.restart_steps();
         state
     }
 

@@ -6,9 +6,9 @@ ghost use Rattle.std.specs.Option.{ForSome, option_copied};
 ghost use Rattle.std.specs.Str.{bytes_eq};
 ghost use Rattle.lj_ring.specs.Mix.{edge_of};
 ghost use Rattle.lj_branch.specs.Named.{value_named};
-ghost use Rattle.lj_session.specs.UserState.{Reached, Performs, empty_state, user_of, used_by, names, held_session};
-ghost use Rattle.lj_session.specs.UserState.{held_session_at};
-ghost use Rattle.lj_session.specs.UserState.{index_waited_for, session_meant, turns_before};
+ghost use Rattle.lj_session.specs.UserState.{Reached, Performs, empty_state, user_of, used_by, names, live_session};
+ghost use Rattle.lj_session.specs.UserState.{live_session_at};
+ghost use Rattle.lj_session.specs.UserState.{index_waited_for, settled_session, turns_before};
 
 mod advancing;
 mod loading;
@@ -18,9 +18,9 @@ mod showing;
 mod stepping;
 
 use crate::command::Command;
+use crate::live_session::LiveSession;
 use crate::refusal::Refusal;
 use crate::reply::Reply;
-use crate::session::HeldSession;
 use indexmap::IndexMap;
 use lj_base::Name;
 use lj_branch::Branches;
@@ -39,7 +39,7 @@ use std::mem;
 pub struct UserState {
     quota: Quota,
     used: Used,
-    sessions: IndexMap<Name, HeldSession>,
+    sessions: IndexMap<Name, LiveSession>,
 }
 
 impl Model for UserState {
@@ -111,7 +111,7 @@ impl UserState {
     /// Returns the simulation of the i-th session, as it was when its present step began.
     pub fn sim_at(&self, i: usize) -> &Sim
         requires { i < length self.now.sessions }
-        ensures { option_map (λ held. held.live) (held_session_at self.now i) ≡ Some result.now }
+        ensures { option_map (λ held. held.live) (live_session_at self.now i) ≡ Some result.now }
     {
         self.at(i).sim()
     }
@@ -119,7 +119,7 @@ impl UserState {
     /// Returns the edge of the i-th session's box.
     pub fn edge_at(&self, i: usize) -> Edge
         requires { i < length self.now.sessions }
-        ensures { option_map (λ held. edge_of held.live.composition.mix) (held_session_at self.now i)
+        ensures { option_map (λ held. edge_of held.live.composition.mix) (live_session_at self.now i)
             ≡ Some result }
     {
         self.sim_at(i).edge()
@@ -128,8 +128,8 @@ impl UserState {
     /// Returns the symbol of an atom of the i-th session.
     pub fn symbol_at(&self, i: usize, atom: usize) -> &Symbol
         requires session { i < length self.now.sessions }
-        requires atom { ForSome (held_session_at self.now i) (λ held. atom < length held.live.sim.cur) }
-        ensures { IfSome (held_session_at self.now i)
+        requires atom { ForSome (live_session_at self.now i) (λ held. atom < length held.live.sim.cur) }
+        ensures { IfSome (live_session_at self.now i)
             (λ held. slice_get held.symbols atom ≡ Some result.now) }
     {
         self.at(i).symbol(atom)
@@ -138,7 +138,7 @@ impl UserState {
     /// Returns the saved simulations of the i-th session.
     pub fn branches_at(&self, i: usize) -> &Branches
         requires { i < length self.now.sessions }
-        ensures { option_map (λ held. held.saved) (held_session_at self.now i) ≡ Some result.now }
+        ensures { option_map (λ held. held.saved) (live_session_at self.now i) ≡ Some result.now }
     {
         self.at(i).branches()
     }
@@ -146,31 +146,31 @@ impl UserState {
     /// Returns the step number of the i-th session after all its pending steps.
     pub fn target_at(&self, i: usize) -> i64
         requires { i < length self.now.sessions }
-        ensures { option_map (λ held. (session_meant held).sim.step) (held_session_at self.now i)
+        ensures { option_map (λ held. (settled_session held).sim.step) (live_session_at self.now i)
             ≡ Some result }
     {
         self.at(i).target()
     }
 
     /// Returns the i-th session, in order of loading.
-    fn at(&self, i: usize) -> &HeldSession
+    fn at(&self, i: usize) -> &LiveSession
         requires { i < length self.now.sessions }
-        ensures { held_session_at self.now i ≡ Some result.now }
+        ensures { live_session_at self.now i ≡ Some result.now }
     {
         self.sessions.get_index(i).unwrap().1
     }
 
     /// Returns the session of a name, if there is one.
-    fn find(&self, name: &Name) -> Option<&HeldSession>
-        ensures { option_copied result ≡ held_session self.now name.now }
+    fn find(&self, name: &Name) -> Option<&LiveSession>
+        ensures { option_copied result ≡ live_session self.now name.now }
     {
         self.sessions.get(name)
     }
 
     /// Returns the session of a name whose index was looked up, if there is one.
-    fn found(&self, name: &Name, index: Option<usize>) -> Option<&HeldSession>
+    fn found(&self, name: &Name, index: Option<usize>) -> Option<&LiveSession>
         requires { index ≡ position (bytes_eq name.now) (names self.now) }
-        ensures { option_copied result ≡ held_session self.now name.now }
+        ensures { option_copied result ≡ live_session self.now name.now }
     {
         Some(self.at(index?))
     }

@@ -10,7 +10,7 @@ use Rattle.std.proofs.Math.Numerals.{one-add}
 use Rattle.std.proofs.lemmas.List.Sums.{sum_by-cons}
 use Rattle.std.proofs.lemmas.List.FromFn.{fill_by_all, length-map-range_with_len, get_or-map-range_with_len}
 use Rattle.lj_ring.specs.declared.coordinates.Place.{Place}
-use Rattle.lj_ring.specs.Ring.{sum_below, ring_sum, int_sum_below, distance, image}
+use Rattle.lj_ring.specs.Ring.{sum_below, ring_sum, int_sum_below, squared_distance, image}
 use Rattle.lj_tile.specs.Species.{Composition, class_between}
 use Rattle.lj_ring.specs.declared.mixes.Class.{Class}
 use Rattle.lj_ring.specs.Scale.{Scale, is_in_cutoff, entry, bin}
@@ -28,18 +28,18 @@ use Rattle.lj_tile.proofs.Opposites.{entry_far, along_none}
 use Rattle.lj_step.proofs.Drift.{same_push}
 
 -- a pair that does not interact neither pushes nor has an energy
-pub push_far : (u : Scale) (p q : Place) → is_in_cutoff u (distance p q) ≡ false → push u p q ≡ no_push
+pub push_far : (u : Scale) (p q : Place) → is_in_cutoff u (squared_distance p q) ≡ false → push u p q ≡ no_push
 unfolding push
 push_far u p q far =
-    let none = entry_far u (distance p q) far in
+    let none = entry_far u (squared_distance p q) far in
     same_push (push u p q) no_push
     (ap (λ e. push_along u e (image p.x q.x)) none ∙ along_none u (image p.x q.x))
     (ap (λ e. push_along u e (image p.y q.y)) none ∙ along_none u (image p.y q.y))
     (ap (λ e. push_along u e (image p.z q.z)) none ∙ along_none u (image p.z q.z))
 
-pub energy_far : (class : Class) (p q : Place) → is_in_cutoff class.scale (distance p q) ≡ false → energy class p q ≡ pos 0
+pub energy_far : (class : Class) (p q : Place) → is_in_cutoff class.scale (squared_distance p q) ≡ false → energy class p q ≡ pos 0
 energy_far class p q far =
-    ap (weighted_energy class.weight) (ap (λ (b : Bool). if b then energy_entry (entry (bin class.scale (distance p q))) else pos 0) far)
+    ap (weighted_energy class.weight) (ap (λ (b : Bool). if b then energy_entry (entry (bin class.scale (squared_distance p q))) else pos 0) far)
     ∙ weighted_none class.weight
 
 count_more : (i j : ℕ) (tile : Tile) (tiles : List Tile)

@@ -38,7 +38,7 @@ pair_opposite u frame i j scale hi hj =
           rw (e, f)
           (subst (λ (class : Class). AddToNone (push class.scale p q) (push (class_between u j i).scale q p))
           (class_turned u j i)
-          (pushes_opposite (class_between u j i).scale q p (scale (species_at u.seconds j) (species_at u.seconds i)) hj hi))
+          (pushes_opposite (class_between u j i).scale q p (scale (species_at u.species_bits j) (species_at u.species_bits i)) hj hi))
     ]
 
 itself_none : (u : Composition) (frame : List Place) (i : ℕ) → push_of u frame i i ≡ no_push

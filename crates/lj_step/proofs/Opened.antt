@@ -10,7 +10,7 @@ use Rattle.std.proofs.lemmas.List.Sums.{length-filter, count_by-le-length}
 use Rattle.std.proofs.lemmas.List.FromFn.{length-range_with_len}
 use Rattle.lj_ring.specs.declared.coordinates.Place.{Place}
 use Rattle.lj_tile.specs.Species.{Composition, class_between}
-use Rattle.lj_tile.specs.declared.names.Kind.{Kind}
+use Rattle.lj_tile.specs.declared.task_name.Kind.{Kind}
 use Rattle.lj_tile.specs.Pushes.{no_push, push, energy}
 use Rattle.lj_tile.specs.Tiles.{are_near}
 use Rattle.lj_step.specs.declared.partial.Partial.{Partial}

@@ -9,7 +9,7 @@ use Rattle.std.proofs.lemmas.Bool.{cases_lt, cases_eq, ltb-true, lt-ltb}
 use Rattle.std.proofs.lemmas.Bool.Decides.{nat_tests}
 use Rattle.lj_ring.specs.declared.coordinates.Place.{Place}
 use Rattle.lj_ring.specs.declared.arcs.Arcs.{Arcs}
-use Rattle.lj_ring.specs.Ring.{IsOnRing, distance}
+use Rattle.lj_ring.specs.Ring.{IsOnRing, squared_distance}
 use Rattle.lj_tile.specs.Species.{Composition, class_between, species_at}
 use Rattle.lj_ring.specs.Scale.{Scale, bin, is_in_cutoff}
 use Rattle.lj_ring.specs.Mix.{can_interact}
@@ -109,7 +109,7 @@ block_on_ring frame ring b t h =
 -- the gap of the blocks of two atoms is at most their distance
 gap_least : (frame : List Place) → AreOnRing frame → (i j : ℕ) → i < length frame → j < length frame
     → squared_gap (block_arcs frame (i / 64)) (block_arcs frame (j / 64))
-    ≤ distance (place_at frame i) (place_at frame j)
+    ≤ squared_distance (place_at frame i) (place_at frame j)
 gap_least frame ring i j hi hj =
     let in_i = place_in (length frame) i hi in
     let in_j = place_in (length frame) j hj in
@@ -122,9 +122,9 @@ gap_least frame ring i j hi hj =
     block_place frame (i / 64) (i - 64 * (i / 64)) in_i.0 ∙ ap (place_at frame) in_i.1 in
     let second : place_at (block frame (j / 64)) (j - 64 * (j / 64)) ≡ place_at frame j =
     block_place frame (j / 64) (j - 64 * (j / 64)) in_j.0 ∙ ap (place_at frame) in_j.1 in
-    subst (λ p. squared_gap (block_arcs frame (i / 64)) (block_arcs frame (j / 64)) ≤ distance p (place_at frame j)) first
+    subst (λ p. squared_gap (block_arcs frame (i / 64)) (block_arcs frame (j / 64)) ≤ squared_distance p (place_at frame j)) first
     (subst (λ q. squared_gap (block_arcs frame (i / 64)) (block_arcs frame (j / 64))
-    ≤ distance (place_at (block frame (i / 64)) (i - 64 * (i / 64))) q) second least)
+    ≤ squared_distance (place_at (block frame (i / 64)) (i - 64 * (i / 64))) q) second least)
 
 -- the atoms of two blocks in order that interact
 near_in_order : (u : Composition) (frame : List Place) → AreOnRing frame → length frame ≤ 4096 → (i j : ℕ)
@@ -132,10 +132,10 @@ near_in_order : (u : Composition) (frame : List Place) → AreOnRing frame → l
     → is_out_of_reach u frame (tile_number (i / 64) (j / 64)) ≡ false
 near_in_order u frame ring few i j hi hj before near =
     let met =
-    can_interact_from u.mix (species_at u.seconds i) (species_at u.seconds j)
+    can_interact_from u.mix (species_at u.species_bits i) (species_at u.species_bits j)
     (squared_gap (block_arcs frame (i / 64)) (block_arcs frame (j / 64)))
     (nearer (class_between u i j).scale (squared_gap (block_arcs frame (i / 64)) (block_arcs frame (j / 64)))
-    (distance (place_at frame i) (place_at frame j)) (gap_least frame ring i j hi hj) near) in
+    (squared_distance (place_at frame i) (place_at frame j)) (gap_least frame ring i j hi hj) near) in
     reach_of_two u frame (i / 64) (j / 64) (omega arith) (omega arith) ∙ ap not met
 
 -- a block of two atoms
@@ -161,7 +161,7 @@ near_in_reach u frame ring few i j hi hj other near =
                 let turned : are_near u frame j i ≡ true =
                 ap (is_in_cutoff (class_between u j i).scale)
                 (distance_symmetric (place_at frame i) (place_at frame j) (ring i hi) (ring j hj))
-                ∙ ap (λ (class : Class). is_in_cutoff class.scale (distance (place_at frame i) (place_at frame j)))
+                ∙ ap (λ (class : Class). is_in_cutoff class.scale (squared_distance (place_at frame i) (place_at frame j)))
                 (class_turned u j i)
                 ∙ near in
                 ap (is_out_of_reach u frame) number ∙ near_in_order u frame ring few j i hj hi after turned

@@ -6,7 +6,7 @@ use Rattle.std.specs.Result.{IsOk, OnOk}
 use Rattle.std.proofs.lemmas.Int.{ints}
 use Rattle.lj_tile.specs.Species.{Composition}
 use Rattle.lj_base.specs.declared.names.Label.{Label}
-use Rattle.lj_tile.specs.declared.names.Kind.{Kind}
+use Rattle.lj_tile.specs.declared.task_name.Kind.{Kind}
 use Rattle.lj_tile.specs.Task.{Task}
 use Rattle.lj_step.specs.Motion.{Simulation, steps, reversal}
 use Rattle.lj_step.specs.Sim.{Sim}

@@ -3,8 +3,8 @@ use Rattle.std.proofs.Common.{◌≡◌, ◌≤◌, ◌+◌, ◌*◌, ◌^◌, �
 use Rattle.std.proofs.Common.{slice_set, vec_capacity, Some, None, refl, sym, ap, ◌∙◌, subst}
 use Rattle.std.proofs.lemmas.List.{length-set}
 use Rattle.lj_base.specs.declared.names.Label.{Label}
-use Rattle.lj_tile.specs.declared.names.Kind.{Kind}
-use Rattle.lj_tile.specs.declared.names.Kind.TheVariants.{Energy}
+use Rattle.lj_tile.specs.declared.task_name.Kind.{Kind}
+use Rattle.lj_tile.specs.declared.task_name.Kind.TheVariants.{Energy}
 use Rattle.lj_tile.specs.Task.{Task, task_energy}
 use Rattle.lj_step.specs.declared.partial.Partial.{Partial}
 use Rattle.lj_step.specs.declared.frames.TheConstants.{MAX_ATOMS}

@@ -14,8 +14,8 @@ use Rattle.lj_ring.specs.declared.coordinates.Place.{Place}
 use Rattle.lj_tile.specs.Species.{Composition}
 use Rattle.lj_tile.specs.declared.pairs.Push.{Push}
 use Rattle.lj_base.specs.declared.names.Label.{Label}
-use Rattle.lj_tile.specs.declared.names.Kind.{Kind}
-use Rattle.lj_tile.specs.declared.names.Kind.TheVariants.{Force, Energy}
+use Rattle.lj_tile.specs.declared.task_name.Kind.{Kind}
+use Rattle.lj_tile.specs.declared.task_name.Kind.TheVariants.{Force, Energy}
 use Rattle.lj_tile.specs.Pushes.{no_push}
 use Rattle.lj_step.specs.declared.partial.Partial.{Partial}
 use Rattle.lj_step.specs.Motion.{Simulation, place_at, next_place, force, moved_place, next_frame, next_simulation, potential}

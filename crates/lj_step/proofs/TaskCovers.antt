@@ -10,8 +10,8 @@ use Rattle.std.proofs.lemmas.Bool.Decides.{nat_tests}
 use Rattle.std.proofs.lemmas.List.Sums.{sum_by-cons}
 use Rattle.lj_ring.specs.declared.coordinates.Place.{Place}
 use Rattle.lj_tile.specs.Species.{Composition}
-use Rattle.lj_tile.specs.declared.names.Kind.{Kind}
-use Rattle.lj_tile.specs.declared.names.Kind.TheVariants.{Force, Energy}
+use Rattle.lj_tile.specs.declared.task_name.Kind.{Kind}
+use Rattle.lj_tile.specs.declared.task_name.Kind.TheVariants.{Force, Energy}
 use Rattle.lj_tile.specs.Tiles.{Tile, times, force_tile, energy_tile, are_between, IsForceCover, IsEnergyCover}
 use Rattle.lj_step.specs.Laws.{AreOnRing}
 use Rattle.lj_step.specs.OpenSteps.{blocks, first_block, second_block, is_in_order, is_out_of_reach}

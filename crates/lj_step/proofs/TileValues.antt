@@ -11,8 +11,8 @@ use Rattle.lj_tile.specs.Species.{Composition, class_between}
 use Rattle.lj_ring.specs.Scale.{Scale}
 use Rattle.lj_tile.specs.declared.pairs.Push.{Push}
 use Rattle.lj_base.specs.declared.names.Label.{Label}
-use Rattle.lj_tile.specs.declared.names.Kind.{Kind}
-use Rattle.lj_tile.specs.declared.names.Kind.TheVariants.{Force, Energy}
+use Rattle.lj_tile.specs.declared.task_name.Kind.{Kind}
+use Rattle.lj_tile.specs.declared.task_name.Kind.TheVariants.{Force, Energy}
 use Rattle.lj_tile.specs.Pushes.{no_push, energy}
 use Rattle.lj_tile.specs.Tiles.{chosen_push, chosen_energy, push_sum, tile_force, tile_energy, are_between, force_tile}
 use Rattle.lj_tile.specs.Tiles.{energy_tile}

@@ -4,7 +4,7 @@ use Rattle.std.specs.List.{range_with_len, filter}
 use Rattle.lj_ring.specs.declared.coordinates.Place.{Place}
 use Rattle.lj_ring.specs.declared.arcs.Arcs.{Arcs}
 use Rattle.lj_ring.specs.Arcs.{arcs_of}
-use Rattle.lj_tile.specs.declared.names.Kind.{Kind}
+use Rattle.lj_tile.specs.declared.task_name.Kind.{Kind}
 use Rattle.lj_step.specs.declared.frames.TheConstants.{MAX_ATOMS}
 use Rattle.lj_step.specs.declared.simulations.TheConstants.{MAX_STEP}
 use Rattle.lj_step.specs.declared.simulations.Direction.{Direction}

@@ -3,7 +3,7 @@ use Rattle.std.specs.Prelude.{ℕ, zero, suc, ◌+◌, ◌-◌, ◌*◌, ◌%◌
 use Rattle.std.specs.Prelude.{slice_set, if◌then◌else◌}
 use Rattle.std.specs.List.{range_with_len}
 use Rattle.lj_ring.specs.declared.coordinates.Place.{Place}
-use Rattle.lj_ring.specs.Ring.{image, distance, ring_residue, sum_below, ring_sum, int_sum_below}
+use Rattle.lj_ring.specs.Ring.{image, squared_distance, ring_residue, sum_below, ring_sum, int_sum_below}
 use Rattle.lj_tile.specs.Species.{Composition, class_between}
 use Rattle.lj_tile.specs.declared.pairs.Push.{Push}
 use Rattle.lj_tile.specs.Pushes.{push, no_push, energy}
@@ -93,7 +93,7 @@ momentum sim =
 
 -- the kinetic number: the sum of the squares of the same images over all atoms and axes
 abbrev pub kinetic : Simulation → ℕ
-kinetic sim = sum_below (length sim.cur) (λ i. distance (place_at sim.cur i) (place_at sim.prev i))
+kinetic sim = sum_below (length sim.cur) (λ i. squared_distance (place_at sim.cur i) (place_at sim.prev i))
 
 -- the potential: the sum of the energies of all pairs of atoms i < j, in units of 2^-24 ε
 abbrev pub potential : Composition → List Place → ℤ

@@ -8,14 +8,14 @@ use Rattle.lj_tile.specs.Species.{Composition}
 use Rattle.lj_ring.specs.Mix.{can_interact}
 use Rattle.lj_ring.specs.Arcs.{arcs_of, squared_gap}
 use Rattle.lj_base.specs.declared.names.Label.{Label}
-use Rattle.lj_tile.specs.declared.names.Kind.{Kind}
-use Rattle.lj_tile.specs.declared.names.Kind.TheVariants.{Force, Energy}
+use Rattle.lj_tile.specs.declared.task_name.Kind.{Kind}
+use Rattle.lj_tile.specs.declared.task_name.Kind.TheVariants.{Force, Energy}
 use Rattle.lj_tile.specs.Tiles.{Tile, force_tile, energy_tile}
 use Rattle.lj_tile.specs.Block.{Block}
 use Rattle.lj_tile.specs.Task.{Task}
 use Rattle.lj_step.specs.Motion.{Simulation}
 use Rattle.lj_step.specs.Sim.{Sim, OpenStep}
-use Rattle.lj_step.specs.Sets.{seconds_in}
+use Rattle.lj_step.specs.Sets.{species_bits_in}
 
 -- how many blocks of 64 a count of atoms has, the last one perhaps not full
 abbrev pub blocks : ℕ → ℕ
@@ -37,7 +37,7 @@ block frame b = slice_range frame (64 * b) (min (64 * b + 64) (length frame))
 
 -- a block of a frame: its places, and which of them are of atoms of the second species
 abbrev pub sites_of : Composition → List Place → ℕ → Block
-sites_of u frame b = record { places = block frame b; seconds = seconds_in u.seconds b }
+sites_of u frame b = record { places = block frame b; species_bits = species_bits_in u.species_bits b }
 
 -- a tile number is that of two blocks in order, both among the blocks of `count` atoms
 abbrev pub is_in_order : ℕ → ℕ → Bool

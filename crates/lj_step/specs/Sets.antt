@@ -2,10 +2,10 @@
 use Rattle.std.specs.Prelude.{ℕ, ◌+◌, ◌*◌, ◌/◌, ◌%◌, ◌^◌, List, [], ◌∷◌}
 
 -- the part of a set in block b: its bits 64 b to 64 b + 63
-abbrev pub seconds_in : ℕ → ℕ → ℕ
-seconds_in seconds b = seconds / 2 ^ (64 * b) % 2 ^ 64
+abbrev pub species_bits_in : ℕ → ℕ → ℕ
+species_bits_in species_bits b = species_bits / 2 ^ (64 * b) % 2 ^ 64
 
 -- the set that has these parts in its blocks
 abbrev pub number_of_bits : List ℕ → ℕ
 number_of_bits [] = 0
-number_of_bits (seconds ∷ others) = number_of_bits others * 2 ^ 64 + seconds % 2 ^ 64
+number_of_bits (species_bits ∷ others) = number_of_bits others * 2 ^ 64 + species_bits % 2 ^ 64

@@ -15,7 +15,7 @@ on_x x = record { x = x; y = 0; z = 0 }
 
 -- atoms of one species: an edge of 256, sigma 1, and a step factor of 2^17 in units of 2^-32
 abbrev pub dimer_atoms : Composition
-dimer_atoms = record { mix = pure_mix (record { edge = 256000000000; sigma = 16777216; strength = 131072 }); seconds = 0 }
+dimer_atoms = record { mix = pure_mix (record { edge = 256000000000; sigma = 16777216; step_factor = 131072 }); species_bits = 0 }
 
 -- at rest, 1.5 sigma apart
 abbrev pub dimer_frame : List Place

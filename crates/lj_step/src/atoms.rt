@@ -1,6 +1,6 @@
 //! The composition of a simulation: its mixture, and the bits of the atoms of the second species.
 ghost use Rattle.std.specs.Prelude.{◌≡◌};
-ghost use Rattle.lj_step.specs.Sets.{number_of_bits, seconds_in};
+ghost use Rattle.lj_step.specs.Sets.{number_of_bits, species_bits_in};
 
 use lj_ring::Mix;
 use std::marker::Model;
@@ -9,7 +9,7 @@ use std::marker::Model;
 #[derive(Drop)]
 pub(crate) struct Atoms {
     mix: Mix,
-    seconds: Vec<u64>,
+    species_bits: Vec<u64>,
 }
 
 impl Model for Atoms {
@@ -18,14 +18,14 @@ impl Model for Atoms {
 
     ghost Value = { Composition };
 
-    ghost view = { λ a. record { mix = a.mix; seconds = number_of_bits a.seconds.items } };
+    ghost view = { λ a. record { mix = a.mix; species_bits = number_of_bits a.species_bits.items } };
 }
 
 impl Atoms {
-    pub fn new(mix: Mix, seconds: Vec<u64>) -> Atoms
-        ensures { result ≡ record { mix = mix; seconds = number_of_bits seconds.items } }
+    pub fn new(mix: Mix, species_bits: Vec<u64>) -> Atoms
+        ensures { result ≡ record { mix = mix; species_bits = number_of_bits species_bits.items } }
     {
-        Atoms { mix, seconds }
+        Atoms { mix, species_bits }
     }
 
     pub fn mix(&self) -> &Mix
@@ -35,9 +35,9 @@ impl Atoms {
     }
 
     /// Returns which atoms of a block are of the second species, bit by bit.
-    pub fn seconds(&self, block: usize) -> u64
-        ensures { result ≡ seconds_in self.now.seconds block }
+    pub fn species_bits(&self, block: usize) -> u64
+        ensures { result ≡ species_bits_in self.now.species_bits block }
     {
-        self.seconds.get(block).copied().unwrap_or(0)
+        self.species_bits.get(block).copied().unwrap_or(0)
     }
 }

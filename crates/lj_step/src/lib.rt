@@ -4,8 +4,8 @@
 mod atoms;
 mod cover;
 mod frames;
-pub mod laws;
 mod measures;
+pub mod motion_laws;
 mod partial;
 pub mod round_trip;
 mod simulations;

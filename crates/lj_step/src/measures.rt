@@ -1,6 +1,6 @@
 //! The momentum and the kinetic number of two frames.
 ghost use Rattle.std.specs.Prelude.{◌≡◌, ◌≤◌, ◌<◌, ◌+◌, ◌*◌, ◌^◌, ◌+ℤ◌, unsigned_abs, length};
-ghost use Rattle.lj_ring.specs.Ring.{image, distance, sum_below, int_sum_below};
+ghost use Rattle.lj_ring.specs.Ring.{image, squared_distance, sum_below, int_sum_below};
 ghost use Rattle.lj_step.specs.declared.frames.TheConstants.{MAX_ATOMS};
 ghost use Rattle.lj_step.specs.Motion.{place_at};
 
@@ -50,7 +50,7 @@ fn plus_image(sum: i64, to: u32, from: u32) -> i64
 pub(crate) fn kinetic_of(prev: &[Place], cur: &[Place]) -> u128
     requires same { length prev.now ≡ length cur.now }
     requires most { length cur.now ≤ MAX_ATOMS }
-    ensures { result ≡ sum_below (length cur.now) (λ i. distance (place_at cur.now i) (place_at prev.now i)) }
+    ensures { result ≡ sum_below (length cur.now) (λ i. squared_distance (place_at cur.now i) (place_at prev.now i)) }
 {
     let mut sum = 0;
     for i in 0..cur.len() {

@@ -3,7 +3,7 @@ ghost use Rattle.std.specs.Prelude.{◌≡◌, ◌≤◌, ◌<◌, ◌+◌, ◌-
 ghost use Rattle.std.specs.Prelude.{count_by, slice_index_or, slice_set, vec_capacity, IfOk, Some, None, false, true};
 ghost use Rattle.std.specs.List.{range_with_len};
 ghost use Rattle.std.proofs.Common.{replicate};
-ghost use Rattle.lj_tile.specs.declared.names.Kind.TheVariants.{Force, Energy};
+ghost use Rattle.lj_tile.specs.declared.task_name.Kind.TheVariants.{Force, Energy};
 ghost use Rattle.lj_tile.specs.Pushes.{no_push};
 ghost use Rattle.lj_tile.specs.Task.{task_energy};
 ghost use Rattle.lj_step.specs.declared.frames.TheConstants.{MAX_ATOMS};

@@ -2,7 +2,7 @@
 ghost use Rattle.std.specs.Prelude.{◌≡◌, ◌≤◌, ◌<◌, ◌+◌, ◌^◌, ◌↔◌, pos, ◌+ℤ◌, ◌-ℤ◌, length, unsigned_abs, IfOk, IfErr};
 ghost use Rattle.std.specs.Prelude.{IfSome, IsOk, IsTrue, OnOk, OnErr, Some, None, true, false, ℕ, ◌*◌, slice_index_or, []};
 ghost use Rattle.std.specs.Prelude.{◌∷◌};
-ghost use Rattle.lj_tile.specs.declared.names.Kind.TheVariants.{Force, Energy};
+ghost use Rattle.lj_tile.specs.declared.task_name.Kind.TheVariants.{Force, Energy};
 ghost use Rattle.lj_ring.specs.Ring.{ring_residue};
 ghost use Rattle.lj_ring.specs.Mix.{edge_of};
 ghost use Rattle.lj_tile.specs.Pushes.{no_push};
@@ -108,26 +108,26 @@ impl Sim {
     /// Makes a simulation at step 0 that goes forward. It reserves the memory for steps; of the other calls only
     /// `snapshot` takes memory.
     ///
-    /// Bit `t` of `seconds[b]` is 1 if atom `t` of block `b` of 64 atoms is of the second species of the mixture. Atoms
-    /// of blocks past the last of `seconds` are of the first.
+    /// Bit `t` of `species_bits[b]` is 1 if atom `t` of block `b` of 64 atoms is of the second species of the mixture. Atoms
+    /// of blocks past the last of `species_bits` are of the first.
     pub fn new(
         alloc: Global,
         frames: Frames,
-        seconds: Vec<u64>,
+        species_bits: Vec<u64>,
         mix: Mix,
     ) -> Result<Sim, AllocError>
         requires same { length frames.prev ≡ length frames.cur }
         requires some { 1 ≤ length frames.cur }
         requires most { length frames.cur ≤ MAX_ATOMS }
         ensures { IfOk result (λ s. s ≡ record {
-          composition = record { mix = mix; seconds = number_of_bits seconds.items };
+          composition = record { mix = mix; species_bits = number_of_bits species_bits.items };
           sim = motion.opening frames.prev frames.cur;
           part = None;
         }) }
     {
         let partial = Partial::new(alloc, frames.cur.count())?;
         Ok(Sim {
-            atoms: Atoms::new(mix, seconds),
+            atoms: Atoms::new(mix, species_bits),
             prev: frames.prev.into_places(),
             cur: frames.cur.into_places(),
             step: 0,
@@ -231,21 +231,21 @@ impl Sim {
         ensures value { result ≡ steps.task_at self.now label.now i }
         ensures tile { IfSome result (HasTileValue self.now i) }
     {
-        let mut room = Task::blank();
-        if self.task_in(i, label, &mut room) {
-            Some(room)
+        let mut out = Task::blank();
+        if self.task_in(i, label, &mut out) {
+            Some(out)
         } else {
             None
         }
     }
 
-    /// Writes the task of the i-th tile of the open step's cover to `room`. Returns false past the last one, and if no
-    /// step is open; `room` is unchanged then.
-    pub fn task_in(&self, i: usize, label: &Label, room: &mut Task) -> bool
-        ensures some { result ≡ true → steps.task_at self.now label.now i ≡ Some room.new }
+    /// Writes the task of the i-th tile of the open step's cover to `out`. Returns false past the last one, and if no
+    /// step is open; `out` is unchanged then.
+    pub fn task_in(&self, i: usize, label: &Label, out: &mut Task) -> bool
+        ensures some { result ≡ true → steps.task_at self.now label.now i ≡ Some out.new }
         ensures none { result ≡ false → steps.task_at self.now label.now i ≡ None }
-        ensures unchanged { result ≡ false → room.new ≡ room.old }
-        ensures tile { result ≡ true → HasTileValue self.now i room.new }
+        ensures unchanged { result ≡ false → out.new ≡ out.old }
+        ensures tile { result ≡ true → HasTileValue self.now i out.new }
     {
         let Some(kind) = self.partial.kind else {
             return false;
@@ -253,7 +253,7 @@ impl Sim {
         let Some(number) = self.partial.tiles.as_slice().get(i) else {
             return false;
         };
-        self.write_task(label, kind, usize::from(*number), room);
+        self.write_task(label, kind, usize::from(*number), out);
         true
     }
 
@@ -374,24 +374,24 @@ impl Sim {
     {
         let name = self.name_of(label, kind, number);
         let (first, second) = (number / BLOCK, number % BLOCK);
-        let a = (self.block(first), self.atoms.seconds(first));
-        let b = (self.block(second), self.atoms.seconds(second));
+        let a = (self.block(first), self.atoms.species_bits(first));
+        let b = (self.block(second), self.atoms.species_bits(second));
         task.is_of(&name, self.atoms.mix(), a, b)
     }
 
-    /// Writes the task of a tile of the present step to `room`.
-    fn write_task(&self, label: &Label, kind: Kind, number: usize, room: &mut Task)
+    /// Writes the task of a tile of the present step to `out`.
+    fn write_task(&self, label: &Label, kind: Kind, number: usize, out: &mut Task)
         requires tile { steps.is_tile self.now.composition self.now.sim.cur number ≡ true }
         requires within { number < 64 * steps.blocks (length self.now.sim.cur) }
-        ensures { room.new ≡ steps.task_of self.now label.now kind number }
+        ensures { out.new ≡ steps.task_of self.now label.now kind number }
     {
         let name = self.name_of(label, kind, number);
         let (first, second) = (number / BLOCK, number % BLOCK);
-        room.remake(
+        out.remake(
             name,
             self.atoms.mix(),
-            (self.block(first), self.atoms.seconds(first)),
-            (self.block(second), self.atoms.seconds(second)),
+            (self.block(first), self.atoms.species_bits(first)),
+            (self.block(second), self.atoms.species_bits(second)),
         );
     }
 

@@ -1,6 +1,6 @@
 //! A full book.
 
-use crate::tasks::task;
+use crate::sample_task::task;
 use lj_book::{Book, Counts, MAX_ENTRIES};
 use lj_table::Table;
 use lj_tile::compute;

@@ -11,11 +11,11 @@ mod queues;
 #[cfg(test)]
 mod replays;
 #[cfg(test)]
+mod sample_task;
+#[cfg(test)]
 mod servers;
 #[cfg(test)]
 mod strays;
-#[cfg(test)]
-mod tasks;
 #[cfg(test)]
 mod tickets;
 #[cfg(test)]

@@ -101,19 +101,19 @@ impl Pool for ClosingPool {
 
 /// What a stream was told, how it ended, and the state that was handed back.
 #[derive(Drop)]
-struct Told {
+struct StreamOutcome {
     output: ArrayVec<u8, 256>,
     served: Served,
     state: Option<UserState>,
 }
 
 /// Serves a stream over a pool that is closed after so many calls.
-fn serve_until(alloc: Global, state: UserState, input: &str, calls: u64) -> Told {
+fn serve_until(alloc: Global, state: UserState, input: &str, calls: u64) -> StreamOutcome {
     let mut pool = ClosingPool::new(calls);
     let mut writer = Writing::new(ArrayVec::new());
     let reader = Reading::new(input.as_bytes());
     let (state, served, _) = serve(alloc, state, 0, reader, &mut writer, &mut pool);
-    Told {
+    StreamOutcome {
         output: writer.into_inner(),
         served,
         state,
@@ -121,7 +121,7 @@ fn serve_until(alloc: Global, state: UserState, input: &str, calls: u64) -> Told
 }
 
 /// Serves a stream to a new user.
-fn serve_new(alloc: Global, input: &str, calls: u64) -> Told {
+fn serve_new(alloc: Global, input: &str, calls: u64) -> StreamOutcome {
     serve_until(alloc, UserState::new(alloc, Quota::USUAL), input, calls)
 }
 
@@ -167,7 +167,7 @@ const ALL: &str = "OK LOAD a 0 2\nOK LOAD b 0 2\nOK START a 2\nOK START b 1\n\
 const MOST_CALLS: u64 = 100;
 
 /// Where the pool is closed, the replies before an item that waits are told, and there is no state; else all is told.
-fn is_right(told: &Told) -> bool {
+fn is_right(told: &StreamOutcome) -> bool {
     let output = told.output.as_slice();
     match told.served {
         Served::Bye => output == ALL.as_bytes() && told.state.is_some(),

@@ -3,9 +3,8 @@
 //! command, sessions computed at once, and boxes that are used again.
 
 mod ahead;
-mod boxes;
 mod closing;
-mod ends;
+mod departed_ends;
 mod filled;
 mod handed_back;
 mod in_turn;
@@ -14,23 +13,24 @@ mod over_lock;
 mod over_queue;
 mod polling;
 mod refused;
+mod reused_boxes;
 mod room;
-mod scene;
+mod scenario;
 mod side_by_side;
-mod stage;
+mod test_pool;
 mod together;
 mod withdrawn;
 
-use crate::tasks::task;
+use crate::sample_task::task;
 use lj_pool::Pool;
 use lj_tile::Task;
-use stage::{Host, Stage};
 use std::io::Write;
 use std::process::Abort;
 use std::rt::Clock;
 use std::sync::atomic::{AtomicU64, Ordering};
 use std::time::Duration;
 use std::{io, thread};
+use test_pool::{Host, TestPool};
 
 /// The milliseconds that a thread sleeps before it does what another waits for.
 const LATE_MILLIS: u64 = 20;
@@ -69,8 +69,8 @@ fn post_some<P: Pool, R: Abort>(rt: &R, end: &mut P, user: u8, tasks: i64) {
 }
 
 /// Makes an end for a user, and posts this many of the user's tasks.
-fn posting_end<S: Stage<R>, R: Host>(rt: &R, stage: &S, user: u8, tasks: i64) -> S::End {
-    let mut end = stage.end(rt, user);
+fn posting_end<S: TestPool<R>, R: Host>(rt: &R, test_pool: &S, user: u8, tasks: i64) -> S::TestEnd {
+    let mut end = test_pool.end(rt, user);
     post_some(rt, &mut end, user, tasks);
     end
 }
@@ -81,9 +81,9 @@ fn sleep_a_while<R: Clock>(rt: &R) {
 }
 
 /// Closes a pool, after a while.
-fn close_late<S: Stage<R>, R: Host>(rt: &R, stage: &S) {
+fn close_late<S: TestPool<R>, R: Host>(rt: &R, test_pool: &S) {
     sleep_a_while(rt);
-    stage.close(rt);
+    test_pool.close(rt);
 }
 
 /// Checks again and again, up to `TURNS` times, and returns whether something was counted.

@@ -33,7 +33,7 @@ const PATIENCE_SECONDS: u64 = 20;
 const COUNTING: u64 = 8;
 
 /// What a server and its clients have: memory, threads that wait, a clock, notes, and sockets.
-trait Host: AllocGlobal
+trait ServerHost: AllocGlobal
     + Threads
     + Wait
     + Clock
@@ -42,11 +42,11 @@ trait Host: AllocGlobal
 
 impl<
     R: AllocGlobal + Threads + Wait + Clock + Log + Net<Listener = TcpListener, Stream = TcpStream>,
-> Host for R {}
+> ServerHost for R {}
 
 /// What clients do.
 #[derive(Clone, Copy)]
-enum Scene {
+enum ClientScenario {
     /// One user has one step computed.
     Step,
     /// One user comes a second time before its first connection ends, and two are denied.
@@ -55,33 +55,33 @@ enum Scene {
     Count,
 }
 
-impl Scene {
+impl ClientScenario {
     /// Returns the number of connections.
     fn connections(self) -> u64 {
         match self {
-            Scene::Step => 1,
-            Scene::ComeBack => 4,
-            Scene::Count => 1 + COUNTING,
+            ClientScenario::Step => 1,
+            ClientScenario::ComeBack => 4,
+            ClientScenario::Count => 1 + COUNTING,
         }
     }
 
     /// Plays the scene, and returns all replies to the clients.
-    fn play<R: Host>(self, rt: &R, address: SocketAddr) -> io::Result<String> {
+    fn run<R: ServerHost>(self, rt: &R, address: SocketAddr) -> io::Result<String> {
         let mut told = String::new(rt.alloc());
         match self {
-            Scene::Step => {
+            ClientScenario::Step => {
                 let said = [HELLO, LOAD, "ADVANCE a 1\nBYE\n"];
                 hear_out(connect(rt, address, &said)?, &mut told)?;
             }
-            Scene::ComeBack => come_back(rt, address, &mut told)?,
-            Scene::Count => count(rt, address, &mut told)?,
+            ClientScenario::ComeBack => come_back(rt, address, &mut told)?,
+            ClientScenario::Count => count(rt, address, &mut told)?,
         }
         Ok(told)
     }
 }
 
 /// Opens a connection, and sends this.
-fn connect<R: Host>(rt: &R, address: SocketAddr, said: &[&str]) -> io::Result<TcpStream> {
+fn connect<R: ServerHost>(rt: &R, address: SocketAddr, said: &[&str]) -> io::Result<TcpStream> {
     let mut stream = TcpStream::connect(rt, address)?;
     stream.set_read_timeout(Some(Duration::from_secs(PATIENCE_SECONDS)))?;
     for words in said {
@@ -97,7 +97,7 @@ fn hear_out<S: Read + Drop>(mut stream: S, told: &mut String) -> io::Result<()> 
 }
 
 /// Keeps the first connection in while the others come. It leaves last but one.
-fn come_back<R: Host>(rt: &R, address: SocketAddr, told: &mut String) -> io::Result<()> {
+fn come_back<R: ServerHost>(rt: &R, address: SocketAddr, told: &mut String) -> io::Result<()> {
     let first = connect(rt, address, &[HELLO, LOAD, "TUG a 0 5 0 0\n"])?;
     let mut replies = BufReader::new(rt.alloc(), &first)?;
     for _ in 0..3 {
@@ -115,7 +115,7 @@ fn come_back<R: Host>(rt: &R, address: SocketAddr, told: &mut String) -> io::Res
 }
 
 /// Lets eight connections count, and appends their replies in the order of their counts.
-fn count<R: Host>(rt: &R, address: SocketAddr, told: &mut String) -> io::Result<()> {
+fn count<R: ServerHost>(rt: &R, address: SocketAddr, told: &mut String) -> io::Result<()> {
     hear_out(connect(rt, address, &[HELLO, LOAD, "BYE\n"])?, told)?;
     let mut open = Vec::new(rt.alloc());
     for _ in 0..COUNTING {
@@ -128,7 +128,7 @@ fn count<R: Host>(rt: &R, address: SocketAddr, told: &mut String) -> io::Result<
 }
 
 /// Returns the replies to these connections, sorted.
-fn in_order<R: Host>(rt: &R, open: Vec<TcpStream>) -> io::Result<Vec<String>> {
+fn in_order<R: ServerHost>(rt: &R, open: Vec<TcpStream>) -> io::Result<Vec<String>> {
     let mut all = Vec::new(rt.alloc());
     for stream in open {
         let mut told = String::new(rt.alloc());
@@ -140,7 +140,7 @@ fn in_order<R: Host>(rt: &R, open: Vec<TcpStream>) -> io::Result<Vec<String>> {
 }
 
 /// Serves this many connections. Returns the number of tiles computed, if the users are read and there is memory.
-fn serve<R: Host + Sync>(
+fn serve<R: ServerHost + Sync>(
     rt: &R,
     listener: &TcpListener,
     connections: u64,
@@ -150,15 +150,19 @@ fn serve<R: Host + Sync>(
     serve_on(rt, rt.alloc(), listener, users, WORKERS, connections, kept).ok()
 }
 
-/// Serves the clients of a scene. Returns the number of tiles computed, and all replies to the clients.
-fn play<R: Host + Sync>(rt: &R, scene: Scene, kept: Kept) -> io::Result<(Option<u64>, String)> {
+/// Serves the clients of a scenario. Returns the number of tiles computed, and all replies to the clients.
+fn run<R: ServerHost + Sync>(
+    rt: &R,
+    scenario: ClientScenario,
+    kept: Kept,
+) -> io::Result<(Option<u64>, String)> {
     let listener = TcpListener::bind(rt, "127.0.0.1:0")?;
     let address = listener.local_addr()?;
     let listening = &listener;
     let (tiles, told) = thread::join(
         rt,
-        move || serve(rt, listening, scene.connections(), kept),
-        move || scene.play(rt, address),
+        move || serve(rt, listening, scenario.connections(), kept),
+        move || scenario.run(rt, address),
     );
     Ok((tiles, told?))
 }
@@ -167,7 +171,7 @@ fn play<R: Host + Sync>(rt: &R, scene: Scene, kept: Kept) -> io::Result<(Option<
 fn a_server_answers_how_many_tiles_were_computed(rt: HostRuntime) -> Result<(), Fail> {
     let quiet = Logged::new(rt, LevelFilter::Off, Discard);
     for kept in [Kept::Lock, Kept::Queue] {
-        let (tiles, told) = play(&quiet, Scene::Step, kept)?;
+        let (tiles, told) = run(&quiet, ClientScenario::Step, kept)?;
         assert_eq!(quiet; tiles, Some(1));
         assert_eq!(quiet;
             told.as_str(),
@@ -185,7 +189,7 @@ fn a_user_that_comes_back_finds_its_state(rt: HostRuntime) -> Result<(), Fail> {
         ERR 01 DENIED\nERR 01 DENIED\nOK BYE\n\
         OK HELLO A\nOK MEASURE a 0 2 5 0 0 25 -5349132\nOK BYE\n";
     for kept in [Kept::Lock, Kept::Queue] {
-        let (tiles, told) = play(&quiet, Scene::ComeBack, kept)?;
+        let (tiles, told) = run(&quiet, ClientScenario::ComeBack, kept)?;
         assert_eq!(quiet; tiles, Some(1));
         assert_eq!(quiet; told.as_str(), expected);
     }
@@ -197,7 +201,7 @@ fn a_user_that_comes_back_finds_its_state(rt: HostRuntime) -> Result<(), Fail> {
 fn connections_of_one_user_count_in_turn(rt: HostRuntime) -> Result<(), Fail> {
     let quiet = Logged::new(rt, LevelFilter::Off, Discard);
     for kept in [Kept::Lock, Kept::Queue] {
-        let (tiles, told) = play(&quiet, Scene::Count, kept)?;
+        let (tiles, told) = run(&quiet, ClientScenario::Count, kept)?;
         assert_eq!(quiet; tiles, Some(COUNTING));
         assert_eq!(quiet; told.as_str(), counted(&quiet)?.as_str());
     }

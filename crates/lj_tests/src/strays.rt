@@ -26,7 +26,7 @@ struct OddPool {
     left: u64,
     posts: u64,
     fetches: u64,
-    good: u64,
+    expected: u64,
     strays: u64,
     closed: bool,
 }
@@ -44,7 +44,7 @@ impl OddPool {
             left: copies,
             posts,
             fetches,
-            good: 0,
+            expected: 0,
             strays: 0,
             closed: false,
         }
@@ -78,7 +78,7 @@ impl Pool for OddPool {
 
     ghost seen = { λ pool. record {
       owed = held_task pool.held;
-      good = pool.good;
+      expected = pool.expected;
       strays = pool.strays;
       closed = pool.closed;
     } };
@@ -134,7 +134,7 @@ impl Pool for OddPool {
     fn count(&mut self) {
         if self.shows_held() {
             self.held = None;
-            self.good = self.good.saturating_add(1);
+            self.expected = self.expected.saturating_add(1);
         } else {
             self.strays = self.strays.saturating_add(1);
         }
@@ -158,7 +158,7 @@ impl Pool for OddPool {
 }
 
 /// What a user is told.
-type Output = ArrayVec<u8, 256>;
+type StrayOutput = ArrayVec<u8, 256>;
 
 /// Two steps of two atoms 1.5 sigma apart.
 const STEPS: &str = "LOAD a 256 1 131072 rest 28\n2\ndimer\nAr 0 0 0\nAr 1.5 0 0\n\
@@ -181,7 +181,7 @@ const CROWD: &str = "LOAD a 256 1 131072 rest 529\n65\ncrowd\n\
     ADVANCE a 2\nSHOW a 64\n";
 
 /// A connection over an odd pool.
-struct Case {
+struct StrayCase {
     /// Whether another user was served before, so that results of theirs come before the first one.
     is_second: bool,
     /// How many strays come before each result but the first of all.
@@ -203,7 +203,7 @@ const ONE_STEP: &str = "OK LOAD a 0 2\nOK ADVANCE a 1\n";
 const NO_STEP: &str = "OK LOAD a 0 2\n";
 
 /// A pool that hands out no strays and stays open.
-const PLAIN: Case = Case {
+const PLAIN: StrayCase = StrayCase {
     is_second: false,
     copies: 0,
     strays: 0,
@@ -215,7 +215,7 @@ const PLAIN: Case = Case {
 };
 
 /// A pool that is closed at some post or fetch.
-const CLOSING: Case = Case {
+const CLOSING: StrayCase = StrayCase {
     posts: 9,
     fetches: 9,
     served: Served::PoolClosed,
@@ -224,14 +224,14 @@ const CLOSING: Case = Case {
 };
 
 /// A pool that hands out as many strays in a row as a connection bears.
-const STRAYING: Case = Case {
+const STRAYING: StrayCase = StrayCase {
     copies: 4095,
     strays: 4095,
     ..PLAIN
 };
 
 /// A pool that hands out one more.
-const LOST: Case = Case {
+const LOST: StrayCase = StrayCase {
     copies: 4096,
     strays: 4096,
     served: Served::TooManyStrays,
@@ -239,52 +239,52 @@ const LOST: Case = Case {
     ..PLAIN
 };
 
-const CASES: [Case; 11] = [
-    Case {
+const CASES: [StrayCase; 11] = [
+    StrayCase {
         copies: 1,
         strays: 1,
         ..PLAIN
     },
     STRAYING,
     LOST,
-    Case {
+    StrayCase {
         is_second: true,
         input: STEP,
         told: ONE_STEP,
         ..STRAYING
     },
-    Case {
+    StrayCase {
         is_second: true,
         input: STEP,
         told: NO_STEP,
         ..LOST
     },
-    Case {
+    StrayCase {
         posts: 0,
         ..CLOSING
     },
-    Case {
+    StrayCase {
         fetches: 0,
         ..CLOSING
     },
-    Case {
+    StrayCase {
         posts: 1,
         told: ONE_STEP,
         ..CLOSING
     },
-    Case {
+    StrayCase {
         fetches: 1,
         told: ONE_STEP,
         ..CLOSING
     },
-    Case {
+    StrayCase {
         posts: 0,
         fetches: 9,
         input: ALONE,
         told: "OK LOAD b 0 1\nOK SHOW b 0 0 4294967295 0 0\nOK ADVANCE b 1\nOK SHOW b 1 0 4 0 0\n",
         ..PLAIN
     },
-    Case {
+    StrayCase {
         copies: 4000,
         strays: 12_000,
         input: CROWD,
@@ -295,20 +295,20 @@ const CASES: [Case; 11] = [
 
 /// What a connection was told, how it ended, and whether the state was handed back.
 #[derive(Drop)]
-struct Told {
-    output: Output,
+struct StrayOutcome {
+    output: StrayOutput,
     served: Served,
     is_handed_back: bool,
 }
 
 /// Serves a stream to a new user over a pool that owes nothing.
-fn serve_over(alloc: Global, user: u8, input: &str, pool: &mut OddPool) -> Told {
+fn serve_over(alloc: Global, user: u8, input: &str, pool: &mut OddPool) -> StrayOutcome {
     pool.held = None;
     let mut lines = LineReader::new(alloc, Reading::new(input.as_bytes()));
-    let mut writer = Writing::new(Output::new());
+    let mut writer = Writing::new(StrayOutput::new());
     let state = UserState::new(alloc, Quota::USUAL);
     let (state, served) = serve_lines(state, user, &mut lines, &mut writer, pool);
-    Told {
+    StrayOutcome {
         output: writer.into_inner(),
         served,
         is_handed_back: state.is_some(),

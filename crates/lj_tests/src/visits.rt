@@ -9,7 +9,7 @@ use lj_base::{Name, Token};
 use lj_pool::{Pool, Served};
 use lj_quota::Quota;
 use lj_session::UserState;
-use lj_visit::{Backend, Lent, Shut, UserEnd, Visited, visit};
+use lj_visit::{Backend, LentState, Shut, UserEnd, Visited, visit};
 use lj_wire::{LineReader, Reading, Sink, WriteFault, Writing};
 use std::alloc::AllocGlobal;
 use std::fmt;
@@ -27,7 +27,7 @@ enum Fact {
     ShutOut(Ticket, Shut),
     Opened(u8),
     Withdrawn(UserEnd<ClosingPool>),
-    Left(Lent),
+    Left(LentState),
     Closed,
 }
 
@@ -58,10 +58,10 @@ impl Model for Note {
 }
 
 /// Notes, a line each.
-type Text = ArrayString<256>;
+type NotesText = ArrayString<256>;
 
 /// Writes a note as a line.
-fn put_note(text: &mut Text, note: &Note) -> fmt::Result {
+fn put_note(text: &mut NotesText, note: &Note) -> fmt::Result {
     match &note.fact {
         Fact::Granted(name, _, user, number) => writeln!(text, "granted {name} {user} {number}"),
         Fact::Denied(name, _) => writeln!(text, "denied {name}"),
@@ -77,7 +77,7 @@ fn put_note(text: &mut Text, note: &Note) -> fmt::Result {
         Fact::Opened(user) => writeln!(text, "opened {user}"),
         Fact::Withdrawn(end) => writeln!(text, "withdrawn {}", end.user),
         Fact::Left(lent) => {
-            let Lent { ticket, state } = lent;
+            let LentState { ticket, state } = lent;
             writeln!(
                 text,
                 "left {} {} {}",
@@ -146,7 +146,7 @@ impl<R: Abort + AllocGlobal> Backend for FakeBackend<'_, R> {
         }
     }
 
-    fn enter(&mut self, ticket: Ticket, _held: bool) -> Result<Lent, Shut> {
+    fn enter(&mut self, ticket: Ticket, _held: bool) -> Result<LentState, Shut> {
         if let Some(why) = self.shut {
             self.note(Note {
                 fact: Fact::ShutOut(ticket, why),
@@ -159,7 +159,7 @@ impl<R: Abort + AllocGlobal> Backend for FakeBackend<'_, R> {
         self.note(Note {
             fact: Fact::Entered(ticket.user(), ticket.number(), quota),
         });
-        Ok(Lent { ticket, state })
+        Ok(LentState { ticket, state })
     }
 
     fn open(&mut self, user: u8) -> UserEnd<ClosingPool> {
@@ -181,7 +181,7 @@ impl<R: Abort + AllocGlobal> Backend for FakeBackend<'_, R> {
         });
     }
 
-    fn leave(&mut self, lent: Lent) {
+    fn leave(&mut self, lent: LentState) {
         self.note(Note {
             fact: Fact::Left(lent),
         });
@@ -208,8 +208,8 @@ fn backend<R: Abort + AllocGlobal>(
 }
 
 /// Returns its notes, a line each.
-fn text_of<R>(backend: &FakeBackend<'_, R>) -> Result<Text, fmt::Error> {
-    let mut text = Text::new();
+fn text_of<R>(backend: &FakeBackend<'_, R>) -> Result<NotesText, fmt::Error> {
+    let mut text = NotesText::new();
     for note in &backend.notes {
         put_note(&mut text, note)?;
     }
@@ -218,7 +218,7 @@ fn text_of<R>(backend: &FakeBackend<'_, R>) -> Result<Text, fmt::Error> {
 
 /// A connection: what it sends, whether its ticket is shut out, and after how many calls its end is closed; the replies, the
 /// notes, and how it has ended.
-struct Case {
+struct VisitCase {
     input: &'static str,
     shut: Option<Shut>,
     calls: u64,
@@ -228,7 +228,7 @@ struct Case {
 }
 
 /// A connection that sends nothing.
-const SILENT: Case = Case {
+const SILENT: VisitCase = VisitCase {
     input: "",
     shut: None,
     calls: u64::MAX,
@@ -237,14 +237,14 @@ const SILENT: Case = Case {
     visited: Visited::NoLine,
 };
 
-const OTHER: Case = Case {
+const OTHER: VisitCase = VisitCase {
     input: "LIST\n",
     told: "ERR 01 DENIED\n",
     visited: Visited::Denied,
     ..SILENT
 };
 
-const WRONG: Case = Case {
+const WRONG: VisitCase = VisitCase {
     input: "HELLO A 00000000000000000000000000000001\nLIST\n",
     notes: "denied A\n",
     ..OTHER
@@ -254,7 +254,7 @@ const WRONG: Case = Case {
 const STEP: &str = "HELLO B 00000000000000000000000000000000\n\
     LOAD a 256 1 131072 rest 28\n2\ndimer\nAr 0 0 0\nAr 1.5 0 0\nADVANCE a 1\nBYE\n";
 
-const CLOSED: Case = Case {
+const CLOSED: VisitCase = VisitCase {
     input: STEP,
     shut: Some(Shut::Closed),
     notes: "granted B 1 0\nshut out 1 0 Closed\n",
@@ -262,7 +262,7 @@ const CLOSED: Case = Case {
     ..SILENT
 };
 
-const GONE: Case = Case {
+const GONE: VisitCase = VisitCase {
     input: STEP,
     shut: Some(Shut::Gone),
     notes: "granted B 1 0\nshut out 1 0 Gone\n",
@@ -270,7 +270,7 @@ const GONE: Case = Case {
     ..SILENT
 };
 
-const STEPPING: Case = Case {
+const STEPPING: VisitCase = VisitCase {
     input: STEP,
     told: "OK HELLO B\nOK LOAD a 0 2\nOK ADVANCE a 1\nOK BYE\n",
     notes: "granted B 1 0\nentered 1 0\nopened 1\nwithdrawn 1\nleft 1 0 1\n",
@@ -279,7 +279,7 @@ const STEPPING: Case = Case {
 };
 
 /// The state does not come home from an end that was closed before its tasks were done.
-const CUT_OFF: Case = Case {
+const CUT_OFF: VisitCase = VisitCase {
     calls: 0,
     told: "OK HELLO B\nOK LOAD a 0 2\n",
     notes: "granted B 1 0\nentered 1 0\nopened 1\nwithdrawn 1\n",
@@ -287,7 +287,7 @@ const CUT_OFF: Case = Case {
     ..STEPPING
 };
 
-const CASES: [Case; 7] = [SILENT, OTHER, WRONG, CLOSED, GONE, STEPPING, CUT_OFF];
+const CASES: [VisitCase; 7] = [SILENT, OTHER, WRONG, CLOSED, GONE, STEPPING, CUT_OFF];
 
 #[test]
 fn a_visit_asks_for_no_more_than_it_may(rt: HostRuntime) -> Result<(), Fail> {

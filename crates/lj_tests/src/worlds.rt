@@ -13,7 +13,7 @@ use std::process::Abort;
 use std::test::Fail;
 
 /// The replies.
-type Text = ArrayString<4096>;
+type TranscriptText = ArrayString<4096>;
 
 const LOAD_A: &str = "LOAD a 256 1 131072 rest 28";
 
@@ -166,7 +166,7 @@ fn events(rt: &(impl Abort + AllocGlobal)) -> Result<Vec<Event>, AllocError> {
 }
 
 /// Writes the name of the user of an entry, the number of the connection, and the text.
-fn tell(rt: &impl Abort, entry: &Entry, told: &mut Text) {
+fn tell(rt: &impl Abort, entry: &Entry, told: &mut TranscriptText) {
     let name = USERS.get(usize::from(entry.user)).expect(rt, "a user");
     let text = str::from_utf8(entry.text.as_bytes())
         .ok()
@@ -176,9 +176,9 @@ fn tell(rt: &impl Abort, entry: &Entry, told: &mut Text) {
 }
 
 /// Runs the world, and returns its replies.
-fn run_once(rt: &(impl Abort + AllocGlobal)) -> Result<Text, OutOfMemory> {
+fn run_once(rt: &(impl Abort + AllocGlobal)) -> Result<TranscriptText, OutOfMemory> {
     let transcript = World::run(rt.alloc(), users(rt)?, events(rt)?)?;
-    let mut told = Text::new();
+    let mut told = TranscriptText::new();
     for entry in transcript.entries() {
         tell(rt, entry, &mut told);
     }
@@ -186,7 +186,7 @@ fn run_once(rt: &(impl Abort + AllocGlobal)) -> Result<Text, OutOfMemory> {
 }
 
 /// Runs the world. Any one growth may be refused (`rt try --test --fail-alloc`): the run is asked for once more.
-fn run(rt: &(impl Abort + AllocGlobal)) -> Result<Text, OutOfMemory> {
+fn run(rt: &(impl Abort + AllocGlobal)) -> Result<TranscriptText, OutOfMemory> {
     match run_once(rt) {
         Ok(told) if !told.as_str().contains("ERR 90 MEMORY") => Ok(told),
         _ => run_once(rt),

@@ -111,9 +111,9 @@ int_sum_both (suc n) f g h same =
 
 -- the class of place t of the first block and of an atom of a species
 abbrev pub class_with : Task → ℕ → Species → Class
-class_with w t species = class_of w.mix (species_at w.a.seconds t) species
+class_with w t species = class_of w.mix (species_at w.a.species_bits t) species
 
-by_species : (w : Task) (t s : ℕ) (species : Species) → species_at w.b.seconds s ≡ species → class_in w t s ≡ class_with w t species
+by_species : (w : Task) (t s : ℕ) (species : Species) → species_at w.b.species_bits s ≡ species → class_in w t s ≡ class_with w t species
 by_species w t s species e = ap (class_with w t) e
 
 first_energy : (k l : Class) (p q : Place) (x y ordered : Bool) (all : Class)

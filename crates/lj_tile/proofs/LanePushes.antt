@@ -10,11 +10,11 @@ use Rattle.std.specs.Int.{cast_signed}
 use Rattle.lj_ring.specs.declared.coordinates.Place.{Place}
 use Rattle.lj_ring.specs.declared.scales.TheConstants.{BINS}
 use Rattle.lj_ring.specs.Bins.{near_bin}
-use Rattle.lj_ring.specs.Ring.{image, distance, ring_residue, ring_difference}
+use Rattle.lj_ring.specs.Ring.{image, squared_distance, ring_residue, ring_difference}
 use Rattle.lj_ring.specs.Scale.{Scale, bin, entry}
 use Rattle.lj_table.specs.Entries.{push_at, cell, table_value, weighted_energy}
 use Rattle.lj_table.proofs.Quotients.{mul_neg, div_neg}
-use Rattle.lj_tile.specs.declared.lanes.Eight.{Eight}
+use Rattle.lj_tile.specs.declared.pair_lanes.Eight.{Eight}
 use Rattle.lj_tile.specs.Lanes.{IsPush, signed_push}
 use Rattle.lj_tile.specs.Energies.{signed_number}
 use Rattle.lj_tile.specs.Pushes.{push, push_along}
@@ -95,20 +95,20 @@ image_signed : (d : ℕ) → d < 2 ^ 32
 image_signed d h = grind (arith, nat_tests)
 
 axis : (u : Scale) (together : Bool) (size d : ℕ) (e : ℤ) → d < 2 ^ 32 → e ≡ signed_number together size
-    → signed_push together d (size * u.strength * unsigned_abs (cast_signed w32 d) / 2 ^ 56 % 2 ^ 32)
+    → signed_push together d (size * u.step_factor * unsigned_abs (cast_signed w32 d) / 2 ^ 56 % 2 ^ 32)
     ≡ push_along u e (cast_signed w32 d)
 axis u together size d e h same =
-    sym (ap (λ z. ring_residue (int_div (z *ℤ pos u.strength *ℤ cast_signed w32 d) (pos (2 ^ 56)))) same
-    ∙ ap (λ z. ring_residue (int_div (signed_number together size *ℤ pos u.strength *ℤ z) (pos (2 ^ 56)))) (image_signed d h)
-    ∙ push_signed together (leb (2 ^ 31) d) size u.strength (unsigned_abs (cast_signed w32 d)))
+    sym (ap (λ z. ring_residue (int_div (z *ℤ pos u.step_factor *ℤ cast_signed w32 d) (pos (2 ^ 56)))) same
+    ∙ ap (λ z. ring_residue (int_div (signed_number together size *ℤ pos u.step_factor *ℤ z) (pos (2 ^ 56)))) (image_signed d h)
+    ∙ push_signed together (leb (2 ^ 31) d) size u.step_factor (unsigned_abs (cast_signed w32 d)))
 
 -- what a lane has along an axis
-pub axis_is : (u : Scale) (together : Bool) (size a b d length strength factor along result : ℕ) (e : ℤ)
+pub axis_is : (u : Scale) (together : Bool) (size a b d length step_factor factor along result : ℕ) (e : ℤ)
     → e ≡ signed_number together size → d ≡ ring_difference a b → length ≡ unsigned_abs (cast_signed w32 d)
-    → strength ≡ u.strength → factor ≡ size * strength → along ≡ factor * length / 2 ^ 56 % 2 ^ 32
+    → step_factor ≡ u.step_factor → factor ≡ size * step_factor → along ≡ factor * length / 2 ^ 56 % 2 ^ 32
     → result ≡ signed_push together d along → result ≡ push_along u e (image a b)
-axis_is u together size a b d length strength factor along result e entry_is apart length_is strength_is factor_is along_is is =
-    rw (is, along_is, factor_is, length_is, strength_is, apart)
+axis_is u together size a b d length step_factor factor along result e entry_is apart length_is step_factor_is factor_is along_is is =
+    rw (is, along_is, factor_is, length_is, step_factor_is, apart)
     (axis u together size (ring_difference a b) e (omega arith) entry_is)
 
 -- the sign of an entry by its bin
@@ -138,8 +138,8 @@ weighted_signed false n weight = sym (ap (λ z. int_div z (pos 256)) (pos-*ℤ-p
 
 -- a push by its three parts
 pub lane_push : (u : Scale) (p q : Place) (v : Eight) (k : ℕ)
-    → slice_index v.x k ≡ push_along u (push_at u (distance p q)) (image p.x q.x)
-    → slice_index v.y k ≡ push_along u (push_at u (distance p q)) (image p.y q.y)
-    → slice_index v.z k ≡ push_along u (push_at u (distance p q)) (image p.z q.z) → IsPush v k (push u p q)
+    → slice_index v.x k ≡ push_along u (push_at u (squared_distance p q)) (image p.x q.x)
+    → slice_index v.y k ≡ push_along u (push_at u (squared_distance p q)) (image p.y q.y)
+    → slice_index v.z k ≡ push_along u (push_at u (squared_distance p q)) (image p.z q.z) → IsPush v k (push u p q)
 unfolding push
 lane_push u p q v k x y z = record { x = x; y = y; z = z }

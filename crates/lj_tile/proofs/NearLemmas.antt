@@ -178,11 +178,11 @@ outside_least a b m h p q inside =
     way_least 16 o (unsigned_abs (image a b)) (omega arith) (omega (arith, few, size_least 16 a b (omega arith) p q))
 
 -- a coordinate between the least and the greatest lies in the span that is made of them
-pub in_span : (g start least greatest wide : ℕ) → start < 2 ^ 16 → wide ≡ greatest - least
+pub in_interval : (g start least greatest wide : ℕ) → start < 2 ^ 16 → wide ≡ greatest - least
     → least ≤ grains_between g start → grains_between g start ≤ greatest
     → let half = wide / 2 + 1 in
     grains_apart g (((start + least) % 2 ^ 16 + half) % 2 ^ 16) ≤ half
-in_span g start least greatest wide in_start is over under = omega (arith, in_start, is, over, under)
+in_interval g start least greatest wide in_start is over under = omega (arith, in_start, is, over, under)
 
 -- a sum of coarse squares is at most the squared distance and three units
 pub distance_least : (reach cx cy cz x y z unit : ℕ) → reach ≤ cx + cy + cz

@@ -7,7 +7,7 @@ use Rattle.std.proofs.lemmas.Bool.{cases_lt, cases_eq, cases_Bool}
 use Rattle.std.proofs.lemmas.Bool.Decides.{nat_tests}
 use Rattle.std.specs.Int.{cast_signed, w32}
 use Rattle.lj_ring.specs.declared.coordinates.Place.{Place}
-use Rattle.lj_ring.specs.Ring.{image, ring_residue, ring_difference, square, distance}
+use Rattle.lj_ring.specs.Ring.{image, ring_residue, ring_difference, square, squared_distance}
 use Rattle.lj_ring.specs.Scale.{Scale, bin, is_in_cutoff, entry}
 use Rattle.lj_table.specs.Entries.{push_entry, push_at}
 use Rattle.lj_tile.specs.declared.pairs.Push.{Push}
@@ -89,7 +89,7 @@ same_square y z h =
       | inr e ↦ ap square (e.0 ∙ sym e.1)
     ]
 
-pub distance_symmetric : (p q : Place) → IsOnRing p → IsOnRing q → distance q p ≡ distance p q
+pub distance_symmetric : (p q : Place) → IsOnRing p → IsOnRing q → squared_distance q p ≡ squared_distance p q
 distance_symmetric p q hp hq =
     let x = same_square (image q.x p.x) (image p.x q.x) (images_opposite p.x q.x hp.x hq.x) in
     let y = same_square (image q.y p.y) (image p.y q.y) (images_opposite p.y q.y hp.y hq.y) in
@@ -125,13 +125,13 @@ sum_zero (negsuc n) = omega arith
 along_odd : (u : Scale) (e y z : ℤ) → y ≡ neg_ℤ z → (push_along u e y + push_along u e z) % 2 ^ 32 ≡ 0
 along_odd u e y z opposite_push =
     ap (λ i. (push_along u e i + push_along u e z) % 2 ^ 32) opposite_push
-    ∙ ap (λ w. (ring_residue (int_div w (pos (2 ^ 56))) + push_along u e z) % 2 ^ 32) (mul_neg (e *ℤ pos u.strength) z)
-    ∙ ap (λ w. (ring_residue w + push_along u e z) % 2 ^ 32) (quotient_odd (e *ℤ pos u.strength *ℤ z))
-    ∙ sum_zero (int_div (e *ℤ pos u.strength *ℤ z) (pos (2 ^ 56)))
+    ∙ ap (λ w. (ring_residue (int_div w (pos (2 ^ 56))) + push_along u e z) % 2 ^ 32) (mul_neg (e *ℤ pos u.step_factor) z)
+    ∙ ap (λ w. (ring_residue w + push_along u e z) % 2 ^ 32) (quotient_odd (e *ℤ pos u.step_factor *ℤ z))
+    ∙ sum_zero (int_div (e *ℤ pos u.step_factor *ℤ z) (pos (2 ^ 56)))
 
 pub along_none : (u : Scale) (y : ℤ) → push_along u (pos 0) y ≡ 0
 along_none u y =
-    ap (λ w. ring_residue (int_div (w *ℤ y) (pos (2 ^ 56)))) (zero-*ℤ (pos u.strength))
+    ap (λ w. ring_residue (int_div (w *ℤ y) (pos (2 ^ 56)))) (zero-*ℤ (pos u.step_factor))
     ∙ ap (λ w. ring_residue (int_div w (pos (2 ^ 56)))) (zero-*ℤ y)
 
 -- a push whose three parts lie on the ring
@@ -161,23 +161,23 @@ near_along : (u : Scale) (d e y z : ℤ) → d ≡ e → y ≡ neg_ℤ z → (pu
 near_along u d e y z same opposite_push =
     ap (λ w. (push_along u w y + push_along u e z) % 2 ^ 32) same ∙ along_odd u e y z opposite_push
 
-far_pair : (u : Scale) (p q : Place) → is_in_cutoff u (distance p q) ≡ false → distance q p ≡ distance p q
+far_pair : (u : Scale) (p q : Place) → is_in_cutoff u (squared_distance p q) ≡ false → squared_distance q p ≡ squared_distance p q
     → AddToNone (push u q p) (push u p q)
 unfolding push
 far_pair u p q far same =
-    let here : push_at u (distance p q) ≡ pos 0 = entry_far u (distance p q) far in
-    let there : push_at u (distance q p) ≡ pos 0 = ap (push_at u) same ∙ here in
+    let here : push_at u (squared_distance p q) ≡ pos 0 = entry_far u (squared_distance p q) far in
+    let there : push_at u (squared_distance q p) ≡ pos 0 = ap (push_at u) same ∙ here in
     record {
-      x = none_along u (push_at u (distance q p)) (push_at u (distance p q)) (image q.x p.x) (image p.x q.x) there here;
-      y = none_along u (push_at u (distance q p)) (push_at u (distance p q)) (image q.y p.y) (image p.y q.y) there here;
-      z = none_along u (push_at u (distance q p)) (push_at u (distance p q)) (image q.z p.z) (image p.z q.z) there here;
+      x = none_along u (push_at u (squared_distance q p)) (push_at u (squared_distance p q)) (image q.x p.x) (image p.x q.x) there here;
+      y = none_along u (push_at u (squared_distance q p)) (push_at u (squared_distance p q)) (image q.y p.y) (image p.y q.y) there here;
+      z = none_along u (push_at u (squared_distance q p)) (push_at u (squared_distance p q)) (image q.z p.z) (image p.z q.z) there here;
     }
 
-near_pair : (u : Scale) (p q : Place) → IsOnRing p → IsOnRing q → distance p q < 2 ^ 62 → distance q p ≡ distance p q
+near_pair : (u : Scale) (p q : Place) → IsOnRing p → IsOnRing q → squared_distance p q < 2 ^ 62 → squared_distance q p ≡ squared_distance p q
     → AddToNone (push u q p) (push u p q)
 unfolding push
 near_pair u p q hp hq small same =
-    let e : push_at u (distance q p) ≡ push_at u (distance p q) = ap (push_at u) same in
+    let e : push_at u (squared_distance q p) ≡ push_at u (squared_distance p q) = ap (push_at u) same in
     let x : image q.x p.x ≡ neg_ℤ (image p.x q.x) =
     near_opposite (image q.x p.x) (image p.x q.x) (omega arith) (images_opposite p.x q.x hp.x hq.x) in
     let y : image q.y p.y ≡ neg_ℤ (image p.y q.y) =
@@ -185,9 +185,9 @@ near_pair u p q hp hq small same =
     let z : image q.z p.z ≡ neg_ℤ (image p.z q.z) =
     near_opposite (image q.z p.z) (image p.z q.z) (omega arith) (images_opposite p.z q.z hp.z hq.z) in
     record {
-      x = near_along u (push_at u (distance q p)) (push_at u (distance p q)) (image q.x p.x) (image p.x q.x) e x;
-      y = near_along u (push_at u (distance q p)) (push_at u (distance p q)) (image q.y p.y) (image p.y q.y) e y;
-      z = near_along u (push_at u (distance q p)) (push_at u (distance p q)) (image q.z p.z) (image p.z q.z) e z;
+      x = near_along u (push_at u (squared_distance q p)) (push_at u (squared_distance p q)) (image q.x p.x) (image p.x q.x) e x;
+      y = near_along u (push_at u (squared_distance q p)) (push_at u (squared_distance p q)) (image q.y p.y) (image p.y q.y) e y;
+      z = near_along u (push_at u (squared_distance q p)) (push_at u (squared_distance p q)) (image q.z p.z) (image p.z q.z) e z;
     }
 
 -- the two pushes of a pair add up to none
@@ -195,8 +195,8 @@ pub pushes_opposite : (u : Scale) (p q : Place) → IsScale u → IsOnRing p →
     → AddToNone (push u q p) (push u p q)
 pushes_opposite u p q scale hp hq =
     let same = distance_symmetric p q hp hq in
-    elim (cases_Bool (is_in_cutoff u (distance p q))) [
-      | inl near ↦ near_pair u p q hp hq (scale.near (distance p q) near) same
+    elim (cases_Bool (is_in_cutoff u (squared_distance p q))) [
+      | inl near ↦ near_pair u p q hp hq (scale.near (squared_distance p q) near) same
       | inr far ↦ far_pair u p q far same
     ]
 
@@ -238,7 +238,7 @@ push_back_is u p q scale hp hq =
     opposite_is (push u p q) (push u q p) (push_small u p q) (push_small u q p) (pushes_opposite u p q scale hp hq)
 
 -- a pair whose entry is 0 does not push the other way
-pub nothing_back : (u : Scale) (p q : Place) → IsOnRing p → IsOnRing q → push_at u (distance p q) ≡ pos 0
+pub nothing_back : (u : Scale) (p q : Place) → IsOnRing p → IsOnRing q → push_at u (squared_distance p q) ≡ pos 0
     → push u q p ≡ no_push
 nothing_back u p q hp hq none =
     sym (nothing_is u q p (ap (push_at u) (distance_symmetric p q hp hq) ∙ none))

@@ -11,7 +11,7 @@ use Rattle.lj_tile.specs.declared.sums.ForceSums.{ForceSums}
 use Rattle.lj_tile.specs.Pushes.{push, no_push, sum_of_pushes, opposite_push}
 use Rattle.lj_tile.specs.Tiles.{place_at}
 use Rattle.lj_tile.specs.Pairs.{first_of, second_of, push_on_first, push_on_second, sum_of_pairs, IsMore, HavePushes, HaveTotals, total}
-use Rattle.lj_tile.specs.declared.lanes.Eight.{Eight}
+use Rattle.lj_tile.specs.declared.pair_lanes.Eight.{Eight}
 use Rattle.lj_tile.specs.Lanes.{IsPush}
 use Rattle.std.proofs.lemmas.List.{take-append-drop}
 use Rattle.std.proofs.Math.Seq.{take-suc, take-add}

@@ -5,7 +5,7 @@ use Rattle.std.proofs.lemmas.Int.{ints, fits_signed_from_abs, to_z-of_z}
 use Rattle.std.proofs.Math.IntN.{zero-*ℤ, *ℤ-zero}
 use Rattle.std.specs.Int.{w128}
 use Rattle.lj_ring.specs.declared.coordinates.Place.{Place}
-use Rattle.lj_ring.specs.Ring.{ring_residue, image, distance, IsLeastImage}
+use Rattle.lj_ring.specs.Ring.{ring_residue, image, squared_distance, IsLeastImage}
 use Rattle.lj_ring.specs.Scale.{Scale}
 use Rattle.lj_table.specs.Entries.{push_at}
 use Rattle.lj_table.proofs.Quotients.{quotient_size, small_product}
@@ -33,14 +33,14 @@ push_fits factor image small fits =
     fits_signed_from_abs w64 _ (rw quotient_size (omega (arith, size)))
 
 -- a table entry times the step factor
-pub factor_size : (entry : ℤ) (strength : ℕ) → unsigned_abs entry < 2 ^ 37 → strength ≤ 2 ^ 24
-    → unsigned_abs (entry *ℤ pos strength) < 2 ^ 61
-factor_size entry strength small few =
-    omega (arith, small_product entry (pos strength) (2 ^ 37 - 1) (2 ^ 24) (omega arith) few)
+pub factor_size : (entry : ℤ) (step_factor : ℕ) → unsigned_abs entry < 2 ^ 37 → step_factor ≤ 2 ^ 24
+    → unsigned_abs (entry *ℤ pos step_factor) < 2 ^ 61
+factor_size entry step_factor small few =
+    omega (arith, small_product entry (pos step_factor) (2 ^ 37 - 1) (2 ^ 24) (omega arith) few)
 
-pub factor_fits : (entry : ℤ) (strength : ℕ) → unsigned_abs entry < 2 ^ 37 → strength ≤ 2 ^ 24
-    → FitsSigned w64 (entry *ℤ pos strength)
-factor_fits entry strength small few = fits_signed_from_abs w64 _ (omega (arith, factor_size entry strength small few))
+pub factor_fits : (entry : ℤ) (step_factor : ℕ) → unsigned_abs entry < 2 ^ 37 → step_factor ≤ 2 ^ 24
+    → FitsSigned w64 (entry *ℤ pos step_factor)
+factor_fits entry step_factor small few = fits_signed_from_abs w64 _ (omega (arith, factor_size entry step_factor small few))
 
 -- the product in 128 bits
 wide_product : (factor image : ℤ) → unsigned_abs factor < 2 ^ 61 → FitsSigned w32 image
@@ -107,7 +107,7 @@ along factor image small fits =
 
 -- a push by its three parts
 pub push_is : (u : Scale) (p q : Place) (factor ix iy iz : ℤ) (x y z : ℕ)
-    → factor ≡ push_at u (distance p q) *ℤ pos u.strength → ix ≡ image p.x q.x → iy ≡ image p.y q.y → iz ≡ image p.z q.z
+    → factor ≡ push_at u (squared_distance p q) *ℤ pos u.step_factor → ix ≡ image p.x q.x → iy ≡ image p.y q.y → iz ≡ image p.z q.z
     → x ≡ ring_residue (int_div (factor *ℤ ix) (pos (2 ^ 56))) → y ≡ ring_residue (int_div (factor *ℤ iy) (pos (2 ^ 56)))
     → z ≡ ring_residue (int_div (factor *ℤ iz) (pos (2 ^ 56)))
     → (let made : Push = record { x = x; y = y; z = z } in made ≡ push u p q)
@@ -115,10 +115,10 @@ unfolding push
 push_is u p q factor ix iy iz x y z f i j k e g h = rw (e, g, h, f, i, j, k) refl
 
 -- a pair whose entry is 0 does not push
-pub nothing_is : (u : Scale) (p q : Place) → push_at u (distance p q) ≡ pos 0 → no_push ≡ push u p q
+pub nothing_is : (u : Scale) (p q : Place) → push_at u (squared_distance p q) ≡ pos 0 → no_push ≡ push u p q
 unfolding push
 nothing_is u p q none =
-    rw (none, zero-*ℤ (pos u.strength), zero-*ℤ (image p.x q.x), zero-*ℤ (image p.y q.y), zero-*ℤ (image p.z q.z)) refl
+    rw (none, zero-*ℤ (pos u.step_factor), zero-*ℤ (image p.x q.x), zero-*ℤ (image p.y q.y), zero-*ℤ (image p.z q.z)) refl
 
 -- a signed number whose bits are 0 is 0
 pub zero_bits : (z : ℤ) → FitsSigned w64 z → of_z w64 z ≡ 0 → z ≡ pos 0

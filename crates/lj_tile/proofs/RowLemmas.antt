@@ -5,7 +5,7 @@ use Rattle.std.proofs.Common.{get_or-set_same, get_or-set_other, ◌≢◌, rule
 use Rattle.std.proofs.lemmas.List.{get_or-replicate}
 use Rattle.std.proofs.lemmas.Bool.{cases_eq, cases_lt, cases_Bool}
 use Rattle.std.proofs.lemmas.Bool.Decides.{nat_tests}
-use Rattle.lj_ring.specs.Ring.{sum_below, ring_sum, distance, IsOnRing}
+use Rattle.lj_ring.specs.Ring.{sum_below, ring_sum, squared_distance, IsOnRing}
 use Rattle.lj_ring.specs.Scale.{Scale, is_in_cutoff, bin, entry}
 use Rattle.lj_ring.specs.declared.mixes.Class.{Class}
 use Rattle.std.specs.Prelude.{if◌then◌else◌}
@@ -152,11 +152,11 @@ pub rows_start : (w : Task) → length w.b.places ≤ 64 → AreRows w 0 (replic
 rows_start w few s within = get_or-replicate 64 s no_push no_push (omega (arith, within, few))
 
 -- a pair out of reach has no energy
-far_energy : (class : Class) (p q : Place) → is_in_cutoff class.scale (distance p q) ≡ false → energy class p q ≡ pos 0
+far_energy : (class : Class) (p q : Place) → is_in_cutoff class.scale (squared_distance p q) ≡ false → energy class p q ≡ pos 0
 far_energy class p q far =
     let u : Scale = class.scale in
-    let none : energy_at u (distance p q) ≡ pos 0 =
-    ap (λ (b : Bool). if b then energy_entry (entry (bin u (distance p q))) else pos 0) far in
+    let none : energy_at u (squared_distance p q) ≡ pos 0 =
+    ap (λ (b : Bool). if b then energy_entry (entry (bin u (squared_distance p q))) else pos 0) far in
     rw none (weighted_none class.weight)
 
 -- a pair that is not in order is looked at from its other side, or not at all
@@ -165,13 +165,13 @@ not_in_order w t s e = record { there = rw e refl; back = rw e refl; energy = rw
 
 -- a pair out of reach is silent
 pub far_silent : (w : Task) (t s : ℕ) → IsOnRing (place_at w.a.places t) → IsOnRing (place_at w.b.places s)
-    → is_in_cutoff (class_in w t s).scale (distance (place_at w.a.places t) (place_at w.b.places s)) ≡ false
+    → is_in_cutoff (class_in w t s).scale (squared_distance (place_at w.a.places t) (place_at w.b.places s)) ≡ false
     → IsSilent w t s
 far_silent w t s here there far =
     let u : Scale = (class_in w t s).scale in
     let p : Place = place_at w.a.places t in
     let q : Place = place_at w.b.places s in
-    let none : push_at u (distance p q) ≡ pos 0 = entry_far u (distance p q) far in
+    let none : push_at u (squared_distance p q) ≡ pos 0 = entry_far u (squared_distance p q) far in
     let one : push u p q ≡ no_push = sym (nothing_is u p q none) in
     let other : push u q p ≡ no_push = nothing_back u p q here there none in
     elim (cases_Bool (are_in_order w t s)) [
@@ -236,13 +236,13 @@ second_is w s sound less =
 -- of one block twice it is that of the places exchanged
 class_turned : (w : Task) (t s : ℕ) → w.a ≡ w.b → class_in w s t ≡ class_in w t s
 class_turned w t s blocks =
-    let here : species_at w.b.seconds t ≡ species_at w.a.seconds t =
-    ap (λ (block : Block). species_at block.seconds t) (sym blocks) in
-    let there : species_at w.a.seconds s ≡ species_at w.b.seconds s =
-    ap (λ (block : Block). species_at block.seconds s) blocks in
-    ap (λ sp. class_of w.mix sp (species_at w.b.seconds t)) there
-    ∙ ap (class_of w.mix (species_at w.b.seconds s)) here
-    ∙ class_symmetric w.mix (species_at w.b.seconds s) (species_at w.a.seconds t)
+    let here : species_at w.b.species_bits t ≡ species_at w.a.species_bits t =
+    ap (λ (block : Block). species_at block.species_bits t) (sym blocks) in
+    let there : species_at w.a.species_bits s ≡ species_at w.b.species_bits s =
+    ap (λ (block : Block). species_at block.species_bits s) blocks in
+    ap (λ sp. class_of w.mix sp (species_at w.b.species_bits t)) there
+    ∙ ap (class_of w.mix (species_at w.b.species_bits s)) here
+    ∙ class_symmetric w.mix (species_at w.b.species_bits s) (species_at w.a.species_bits t)
 
 -- a part of a push where one of two tests chooses it, or neither
 module _ (axis : Push → ℕ) (none : axis no_push ≡ 0) (u : Scale) (p q : Place) where

@@ -22,7 +22,7 @@ of_second : (set t : ℕ) → bit_at set t ≡ 1 → species_at set t ≡ Second
 of_second set t e = let f : is_in set t ≡ true = rw e (grind (arith, nat_tests)) in rw f refl
 
 -- the rows of atoms of the first species
-pub first_rows : (w : Task) (rows set : ℕ) → set < 2 ^ 64 → length w.a.places ≤ 64 → set ≡ w.a.seconds
+pub first_rows : (w : Task) (rows set : ℕ) → set < 2 ^ 64 → length w.a.places ≤ 64 → set ≡ w.a.species_bits
     → ((t : ℕ) → bit_at rows t ≡ 1 → t < length w.a.places) → AreRowsOf w First (bit_and rows (18446744073709551615 - set))
 first_rows w rows set small few e within = record {
   within = λ t one. within t (in_rows t one);
@@ -37,7 +37,7 @@ first_rows w rows set small few e within = record {
         let both = bit_at_and rows (bit_not w64 set) t in
         omega (arith, both, one, bit_at-lt rows t, bit_at-lt (bit_not w64 set) t)
 
-pub second_rows : (w : Task) (rows set : ℕ) → set ≡ w.a.seconds
+pub second_rows : (w : Task) (rows set : ℕ) → set ≡ w.a.species_bits
     → ((t : ℕ) → bit_at rows t ≡ 1 → t < length w.a.places) → AreRowsOf w Second (bit_and rows set)
 second_rows w rows set e within = record {
   within = λ t one.

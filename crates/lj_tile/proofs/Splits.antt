@@ -102,13 +102,13 @@ part_within near ordered_set other s n ordered chosen set =
 
 -- the scale of place t of the first block and of an atom of a species
 abbrev pub scale_with : Task → ℕ → Species → Scale
-scale_with w t species = (class_of w.mix (species_at w.a.seconds t) species).scale
+scale_with w t species = (class_of w.mix (species_at w.a.species_bits t) species).scale
 
 -- which of the two sets a place of the second block is in
 abbrev pub RowSplit : Task → ℕ → ℕ → ℕ → ℕ → Type 0
-RowSplit w t firsts seconds s = IsSplit firsts seconds w.b.seconds s (are_in_order w t s) (IsSilent w t s)
+RowSplit w t firsts seconds s = IsSplit firsts seconds w.b.species_bits s (are_in_order w t s) (IsSilent w t s)
 
-by_class : (w : Task) (t s : ℕ) (species : Species) → species_at w.b.seconds s ≡ species
+by_class : (w : Task) (t s : ℕ) (species : Species) → species_at w.b.species_bits s ≡ species
     → (class_in w t s).scale ≡ scale_with w t species
 by_class w t s species e = ap (scale_with w t) e
 
@@ -180,7 +180,7 @@ row_added w t firsts seconds old mid new split rows one other s within =
           ∙ second_more w s t (push (scale_with w t Second) q p) (by_order w t s Second ordered species)
     ]
   where
-    by_order : (w : Task) (t s : ℕ) (species : Species) → are_in_order w t s ≡ true → species_at w.b.seconds s ≡ species
+    by_order : (w : Task) (t s : ℕ) (species : Species) → are_in_order w t s ≡ true → species_at w.b.species_bits s ≡ species
         → push (scale_with w t species) (place_at w.b.places s) (place_at w.a.places t) ≡ push_back w t s
     by_order w t s species ordered e =
         rw ordered (ap (λ u. push u (place_at w.b.places s) (place_at w.a.places t)) (sym (by_class w t s species e)))

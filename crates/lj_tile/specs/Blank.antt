@@ -2,14 +2,14 @@
 use Rattle.std.specs.Prelude.{[], ◌∷◌, pos}
 use Rattle.lj_ring.specs.Mix.{pure_mix}
 use Rattle.lj_ring.specs.Scale.{least_scale}
-use Rattle.lj_tile.specs.declared.names.Kind.TheVariants.{Energy}
+use Rattle.lj_tile.specs.declared.task_name.Kind.TheVariants.{Energy}
 use Rattle.lj_tile.specs.Block.{Block}
 use Rattle.lj_base.specs.Names.{blank_name}
 use Rattle.lj_tile.specs.Task.{Task}
 
 -- one atom of the first species, in the corner of the box
 abbrev pub one_atom : Block
-one_atom = record { places = (record { x = 0; y = 0; z = 0 }) ∷ []; seconds = 0 }
+one_atom = record { places = (record { x = 0; y = 0; z = 0 }) ∷ []; species_bits = 0 }
 
 -- the energy task of one atom in the greatest box
 abbrev pub blank_task : Task

@@ -15,7 +15,7 @@ are_same_places = pointwise is_same_place
 -- the value of a block: its places, and as bits which of them are of atoms of the second species
 pub record Block : Type 0 where
   pub places : List Place
-  pub seconds : ℕ
+  pub species_bits : ℕ
 
 -- no bit is set in four lanes
 abbrev pub has_none : List ℕ → Bool

@@ -3,7 +3,7 @@ use Rattle.std.specs.Prelude.{ℕ, Bool, ◌^◌, ◌≡◌, slice_index, nat_le
 use Rattle.lj_ring.specs.declared.coordinates.Place.{Place}
 use Rattle.lj_ring.specs.Ring.{ring_difference}
 use Rattle.lj_tile.specs.declared.pairs.Push.{Push}
-use Rattle.lj_tile.specs.declared.lanes.Eight.{Eight}
+use Rattle.lj_tile.specs.declared.pair_lanes.Eight.{Eight}
 
 -- lane k has the differences of the coordinates of two places on the ring
 pub record AreApartBy (v : Eight) (k : ℕ) (p q : Place) : Type 0 where

@@ -140,7 +140,7 @@ pub record HaveRows (w : Task) (u v : Scale) (rows n : ℕ) (ps qs ps_after qs_a
 -- the rows of a set are places of the first block whose atoms are of one species
 pub record AreRowsOf (w : Task) (own : Species) (rows : ℕ) : Type 0 where
   pub within : (t : ℕ) → bit_at rows t ≡ 1 → t < length w.a.places
-  pub species : (t : ℕ) → bit_at rows t ≡ 1 → species_at w.a.seconds t ≡ own
+  pub species : (t : ℕ) → bit_at rows t ≡ 1 → species_at w.a.species_bits t ≡ own
 
 -- the scale of a pair of two species
 abbrev pub scale_between : Task → Species → Species → Scale

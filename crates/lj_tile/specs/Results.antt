@@ -1,6 +1,6 @@
 -- The sums that a result stores.
 use Rattle.std.specs.Prelude.{ℕ, ◌≡◌, ◌<◌, length, slice_index_or}
-use Rattle.lj_tile.specs.declared.names.Kind.TheVariants.{Force, Energy}
+use Rattle.lj_tile.specs.declared.task_name.Kind.TheVariants.{Force, Energy}
 use Rattle.lj_tile.specs.declared.results.Sums.{Sums}
 use Rattle.lj_tile.specs.Pushes.{no_push}
 use Rattle.lj_tile.specs.Task.{Task, IsTask, task_force, task_second, task_energy}

@@ -16,13 +16,13 @@ species_if second = if second then Second else First
 
 -- the species of atom i, by the bits of the atoms of the second species
 abbrev pub species_at : ℕ → ℕ → Species
-species_at seconds i = species_if (is_in seconds i)
+species_at species_bits i = species_if (is_in species_bits i)
 
 -- the composition of a simulation: its mixture, and the bits of the atoms of the second species
 pub record Composition : Type 0 where
   pub mix : Mix
-  pub seconds : ℕ
+  pub species_bits : ℕ
 
 -- the class of two atoms, by their numbers
 abbrev pub class_between : Composition → ℕ → ℕ → Class
-class_between c i j = class_of c.mix (species_at c.seconds i) (species_at c.seconds j)
+class_between c i j = class_of c.mix (species_at c.species_bits i) (species_at c.species_bits j)

@@ -4,7 +4,7 @@ use Rattle.lj_ring.specs.Ring.{int_sum_below}
 use Rattle.lj_ring.specs.declared.mixes.Class.{Class}
 use Rattle.lj_ring.specs.Mix.{Mix, class_of}
 use Rattle.lj_tile.specs.declared.pairs.Push.{Push}
-use Rattle.lj_tile.specs.declared.names.TaskName.{TaskName}
+use Rattle.lj_tile.specs.declared.task_name.TaskName.{TaskName}
 use Rattle.lj_tile.specs.declared.blocks.TheConstants.{BLOCK}
 use Rattle.lj_tile.specs.Block.{Block}
 use Rattle.lj_tile.specs.Species.{species_at}
@@ -31,7 +31,7 @@ are_in_order w t s = nat_lt (atom w.name.bi t) (atom w.name.bj s)
 
 -- the class of place t of the first block and place s of the second
 abbrev pub class_in : Task → ℕ → ℕ → Class
-class_in w t s = class_of w.mix (species_at w.a.seconds t) (species_at w.b.seconds s)
+class_in w t s = class_of w.mix (species_at w.a.species_bits t) (species_at w.b.species_bits s)
 
 -- the value of a force task for place t of its first block: the ring sum of the pushes by the second's other atoms
 abbrev pub task_force : Task → ℕ → Push

@@ -3,7 +3,7 @@
 use Rattle.std.specs.Prelude.{ℕ, ◌/◌, ◌==◌, ◌&&◌, ◌||◌, ◌≡◌, ◌≢◌, ◌<◌, ◌≤◌, Bool, true, false, not, nat_lt, ℤ, pos, List}
 use Rattle.std.specs.Prelude.{length, count_by, if◌then◌else◌}
 use Rattle.lj_ring.specs.declared.coordinates.Place.{Place}
-use Rattle.lj_ring.specs.Ring.{distance, ring_sum, int_sum_below}
+use Rattle.lj_ring.specs.Ring.{squared_distance, ring_sum, int_sum_below}
 pub use Rattle.lj_ring.specs.Ring.{place_at}
 use Rattle.lj_ring.specs.declared.mixes.Class.{Class}
 use Rattle.lj_ring.specs.Scale.{Scale, is_in_cutoff}
@@ -48,7 +48,7 @@ times i j tiles = count_by (λ tile. tile i j) tiles
 
 -- atoms i and j of a frame interact
 abbrev pub are_near : Composition → List Place → ℕ → ℕ → Bool
-are_near c frame i j = is_in_cutoff (class_between c i j).scale (distance (place_at frame i) (place_at frame j))
+are_near c frame i j = is_in_cutoff (class_between c i j).scale (squared_distance (place_at frame i) (place_at frame j))
 
 -- a cover for forces: each ordered pair of different atoms lies in one tile if it interacts, and else in one at most
 pub record IsForceCover (c : Composition) (frame : List Place) (tiles : List Tile) : Type 0 where

@@ -4,8 +4,8 @@ use Rattle.lj_ring.specs.declared.coordinates.Place.{Place}
 use Rattle.lj_ring.specs.Mix.{pure_mix}
 use Rattle.lj_ring.specs.Scale.{Scale}
 use Rattle.lj_table.specs.Entries.{push_entry, energy_entry}
-use Rattle.lj_tile.specs.declared.names.Kind.{Kind}
-use Rattle.lj_tile.specs.declared.names.Kind.TheVariants.{Force, Energy}
+use Rattle.lj_tile.specs.declared.task_name.Kind.{Kind}
+use Rattle.lj_tile.specs.declared.task_name.Kind.TheVariants.{Force, Energy}
 use Rattle.lj_tile.specs.Pushes.{push}
 use Rattle.lj_tile.specs.Species.{Composition}
 use Rattle.lj_tile.specs.Tiles.{push_sum, tile_force, tile_energy, force_tile, energy_tile}
@@ -14,11 +14,11 @@ use Rattle.lj_tile.specs.Rows.{sum_on_first, sum_on_second}
 
 -- an edge of 256, sigma 1, and a step factor of 2^17 in units of 2^-32
 abbrev pub dimer_units : Scale
-dimer_units = record { edge = 256000000000; sigma = 16777216; strength = 131072 }
+dimer_units = record { edge = 256000000000; sigma = 16777216; step_factor = 131072 }
 
 -- two atoms of one species
 abbrev pub dimer : Composition
-dimer = record { mix = pure_mix dimer_units; seconds = 0 }
+dimer = record { mix = pure_mix dimer_units; species_bits = 0 }
 
 -- a place on the x axis
 abbrev pub on_x : ℕ → Place
@@ -41,8 +41,8 @@ abbrev pub task_of : Kind → ℕ → ℕ → List Place → List Place → Task
 task_of kind bi bj first second = record {
   name = record { label = record { user = 0; session = 97 ∷ [] }; step = pos 0; kind = kind; bi = bi; bj = bj };
   mix = pure_mix dimer_units;
-  a = record { places = first; seconds = 0 };
-  b = record { places = second; seconds = 0 };
+  a = record { places = first; species_bits = 0 };
+  b = record { places = second; species_bits = 0 };
 }
 
 -- in one block each atom is pushed by the other and not by itself

@@ -10,12 +10,12 @@ use std::simd::prelude::*;
 /// The most atoms of a block.
 pub const BLOCK: usize = 64;
 
-/// A block of places of atoms that stand next to each other in the file, at most `BLOCK`. Bit `t` of `seconds` is 1 if
+/// A block of places of atoms that stand next to each other in the file, at most `BLOCK`. Bit `t` of `species_bits` is 1 if
 /// the atom at place `t` is of the second species.
 #[derive(PartialEq, Eq, Debug, Drop)]
 pub struct Block {
     places: ArrayVec<Place, BLOCK>,
-    seconds: u64,
+    species_bits: u64,
 }
 
 impl Model for Block {
@@ -23,20 +23,20 @@ impl Model for Block {
 
     ghost Value = { Block };
 
-    ghost view = { λ b. record { places = b.places.items; seconds = b.seconds } };
+    ghost view = { λ b. record { places = b.places.items; species_bits = b.species_bits } };
 
-    ghost inverse = { λ sites. record { places = record { items = sites.places }; seconds = sites.seconds } };
+    ghost inverse = { λ sites. record { places = record { items = sites.places }; species_bits = sites.species_bits } };
 }
 
 impl Block {
-    /// Makes a block of these places; the bits of `seconds` mark those of the second species.
-    pub fn new(places: &[Place], seconds: u64) -> Block
+    /// Makes a block of these places; the bits of `species_bits` mark those of the second species.
+    pub fn new(places: &[Place], species_bits: u64) -> Block
         requires { length places.now ≤ BLOCK }
-        ensures { result ≡ record { places = places.now; seconds = seconds } }
+        ensures { result ≡ record { places = places.now; species_bits = species_bits } }
     {
         let mut block = Block {
             places: ArrayVec::new(),
-            seconds,
+            species_bits,
         };
         let _fits = block.places.try_extend_from_slice(places);
         block
@@ -53,30 +53,30 @@ impl Block {
 
     /// Returns which places are of atoms of the second species, bit by bit.
     #[inline]
-    pub fn seconds(&self) -> u64
-        ensures { result ≡ self.now.seconds }
+    pub fn species_bits(&self) -> u64
+        ensures { result ≡ self.now.species_bits }
     {
-        self.seconds
+        self.species_bits
     }
 
     /// Returns an equal block.
     pub fn copy(&self) -> Block
         ensures { result ≡ self.now }
     {
-        Block::new(self.places(), self.seconds())
+        Block::new(self.places(), self.species_bits())
     }
 
     /// Makes this block equal to the other.
     pub fn copy_from(&mut self, other: &Block)
         ensures { self.new ≡ other.now }
     {
-        self.remake(other.places(), other.seconds());
+        self.remake(other.places(), other.species_bits());
     }
 
-    /// Makes this the block of these places; the bits of `seconds` mark those of the second species.
-    pub fn remake(&mut self, places: &[Place], seconds: u64)
+    /// Makes this the block of these places; the bits of `species_bits` mark those of the second species.
+    pub fn remake(&mut self, places: &[Place], species_bits: u64)
         requires { length places.now ≤ BLOCK }
-        ensures { self.new ≡ record { places = places.now; seconds = seconds } }
+        ensures { self.new ≡ record { places = places.now; species_bits = species_bits } }
     {
         if self.places.len() == places.len() {
             self.places.as_mut_slice().copy_from_slice(places);
@@ -84,22 +84,22 @@ impl Block {
             self.places.clear();
             let _fits = self.places.try_extend_from_slice(places);
         }
-        self.seconds = seconds;
+        self.species_bits = species_bits;
     }
 
     /// Returns whether this is the block of these places and species.
     #[inline]
-    pub fn has(&self, places: &[Place], seconds: u64) -> bool
-        ensures { IsTrue result ↔ (self.now ≡ record { places = places.now; seconds = seconds }) }
+    pub fn has(&self, places: &[Place], species_bits: u64) -> bool
+        ensures { IsTrue result ↔ (self.now ≡ record { places = places.now; species_bits = species_bits }) }
     {
-        self.seconds() == seconds && are_same(self.places(), places)
+        self.species_bits() == species_bits && are_same(self.places(), places)
     }
 
     /// Returns whether the other block is equal.
     pub fn is(&self, other: &Block) -> bool
         ensures { IsTrue result ↔ (self.now ≡ other.now) }
     {
-        self.has(other.places(), other.seconds())
+        self.has(other.places(), other.species_bits())
     }
 }
 

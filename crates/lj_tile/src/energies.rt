@@ -5,8 +5,8 @@ ghost use Rattle.lj_tile.specs.Pairs.{ArePairs};
 ghost use Rattle.lj_tile.specs.Energies.{list_energy};
 
 use crate::blocks::BLOCK;
-use crate::lanes::energies;
 use crate::near_pairs::NearPairs;
+use crate::pair_lanes::energies;
 use crate::pair_sums::{apart, first_of, second_of};
 use lj_ring::{Class, Place, dist2};
 use lj_table::Table;

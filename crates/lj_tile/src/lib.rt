@@ -3,19 +3,19 @@
 
 mod blocks;
 mod energies;
-mod lanes;
-mod names;
 mod near;
 mod near_pairs;
+mod pair_lanes;
 mod pair_sums;
 mod pairs;
 mod results;
 mod sums;
+mod task_name;
 mod tasks;
 
 pub use blocks::{BLOCK, Block};
 pub use lj_base::{Label, Name};
-pub use names::{Kind, TaskName};
 pub use pairs::{Push, pair_push};
 pub use results::{Done, DoneRef, Sums, compute, compute_in, compute_sums};
+pub use task_name::{Kind, TaskName};
 pub use tasks::Task;

@@ -3,7 +3,7 @@ ghost use Rattle.std.specs.Prelude.{◌≡◌, ◌≤◌, ◌<◌, ◌+◌, ◌-
 ghost use Rattle.std.specs.Prelude.{unsigned_abs, slice_index_or, min, max, pos, false};
 ghost use Rattle.std.specs.Int.{bit_at};
 ghost use Rattle.lj_ring.specs.declared.coordinates.Place.{Place};
-ghost use Rattle.lj_ring.specs.Ring.{distance, image, place_at};
+ghost use Rattle.lj_ring.specs.Ring.{squared_distance, image, place_at};
 ghost use Rattle.lj_ring.specs.Mix.{can_interact};
 ghost use Rattle.lj_tile.specs.Grains.{grains, grains_apart, square_unit};
 
@@ -43,7 +43,7 @@ struct Lanes {
 
 /// A span of coordinates in coarsest grains: those at most `half` from `middle`, round the ring.
 #[derive(Clone, Copy)]
-struct Span {
+struct Interval {
     middle: u16,
     half: u16,
 }
@@ -51,9 +51,9 @@ struct Span {
 /// The spans that contain some places, one on each axis.
 #[derive(Clone, Copy)]
 struct Bounds {
-    x: Span,
-    y: Span,
-    z: Span,
+    x: Interval,
+    y: Interval,
+    z: Interval,
 }
 
 impl Columns {
@@ -87,7 +87,7 @@ impl Columns {
         requires { self.now.grain ≤ 16 }
         ensures { (interact : ℕ → Bool) (places : List Place) → HasColumns interact self.now places → (k : ℕ)
             → k < length places → bit_at result k ≡ 0
-            → interact (distance here.now (place_at places k)) ≡ false }
+            → interact (squared_distance here.now (place_at places k)) ≡ false }
     {
         let near = self.fine.near(here, self.grain, self.reach);
         if self.grain == COARSEST || near == 0 {
@@ -103,7 +103,7 @@ impl Columns {
         requires { length rows.now ≤ BLOCK }
         ensures { (interact : ℕ → Bool) (places : List Place) → HasColumns interact self.now places → (t : ℕ)
             → t < length rows.now → bit_at result t ≡ 0 → (k : ℕ) → k < length places
-            → interact (distance (place_at rows.now t) (place_at places k)) ≡ false }
+            → interact (squared_distance (place_at rows.now t) (place_at places k)) ≡ false }
     {
         if self.grain != COARSEST {
             return u64::MAX;
@@ -143,7 +143,7 @@ impl Lanes {
         requires grain { grain ≤ 16 }
         requires reach { reach < 2 ^ 15 }
         ensures { (k : ℕ) (there : Place) → k < BLOCK → bit_at result k ≡ 0 → IsLane grain self.now k there
-            → reach * square_unit grain ≤ distance here.now there + 3 * square_unit grain }
+            → reach * square_unit grain ≤ squared_distance here.now there + 3 * square_unit grain }
     {
         joined(
             self.near_part(0, here, grain, reach),
@@ -160,7 +160,7 @@ impl Lanes {
         requires grain { grain ≤ 16 }
         requires reach { reach < 2 ^ 15 }
         ensures { (k : ℕ) (there : Place) → k < 16 → bit_at result k ≡ 0 → IsLane grain self.now (at + k) there
-            → reach * square_unit grain ≤ distance here.now there + 3 * square_unit grain }
+            → reach * square_unit grain ≤ squared_distance here.now there + 3 * square_unit grain }
     {
         let x = coarse_squares(sixteen(&self.x, at), here.x, grain);
         let y = coarse_squares(sixteen(&self.y, at), here.y, grain);
@@ -174,7 +174,7 @@ impl Lanes {
     fn within(&self, here: &Place, span: u16) -> u64
         requires { span < 2 ^ 15 }
         ensures { (k : ℕ) (there : Place) → k < BLOCK → bit_at result k ≡ 0 → IsLane 16 self.now k there
-            → span * 2 ^ 16 * (span * 2 ^ 16) ≤ distance here.now there }
+            → span * 2 ^ 16 * (span * 2 ^ 16) ≤ squared_distance here.now there }
     {
         joined(
             self.within_part(0, here, span),
@@ -190,7 +190,7 @@ impl Lanes {
         requires within { at + 16 ≤ BLOCK }
         requires span { span < 2 ^ 15 }
         ensures { (k : ℕ) (there : Place) → k < 16 → bit_at result k ≡ 0 → IsLane 16 self.now (at + k) there
-            → span * 2 ^ 16 * (span * 2 ^ 16) ≤ distance here.now there }
+            → span * 2 ^ 16 * (span * 2 ^ 16) ≤ squared_distance here.now there }
     {
         let x = shifted(sixteen(&self.x, at), here.x, span);
         let y = shifted(sixteen(&self.y, at), here.y, span);
@@ -204,9 +204,9 @@ impl Lanes {
         ensures { (k : ℕ) (there : Place) → k < BLOCK → IsLane 16 self.now k there → IsInside result there }
     {
         Bounds {
-            x: span_over(&self.x),
-            y: span_over(&self.y),
-            z: span_over(&self.z),
+            x: interval_over(&self.x),
+            y: interval_over(&self.y),
+            z: interval_over(&self.z),
         }
     }
 
@@ -216,7 +216,7 @@ impl Lanes {
     fn near_bounds(&self, bounds: &Bounds, reach: u16) -> u64
         requires { reach < 2 ^ 15 }
         ensures { (k : ℕ) (here there : Place) → k < BLOCK → bit_at result k ≡ 0 → IsLane 16 self.now k here
-            → IsInside bounds.now there → reach * square_unit 16 ≤ distance here there + 3 * square_unit 16 }
+            → IsInside bounds.now there → reach * square_unit 16 ≤ squared_distance here there + 3 * square_unit 16 }
     {
         joined(
             self.near_bounds_part(0, bounds, reach),
@@ -232,7 +232,7 @@ impl Lanes {
         requires within { at + 16 ≤ BLOCK }
         requires reach { reach < 2 ^ 15 }
         ensures { (k : ℕ) (here there : Place) → k < 16 → bit_at result k ≡ 0 → IsLane 16 self.now (at + k) here
-            → IsInside bounds.now there → reach * square_unit 16 ≤ distance here there + 3 * square_unit 16 }
+            → IsInside bounds.now there → reach * square_unit 16 ≤ squared_distance here there + 3 * square_unit 16 }
     {
         let x = outside_squares(sixteen(&self.x, at), bounds.x);
         let y = outside_squares(sixteen(&self.y, at), bounds.y);
@@ -322,21 +322,21 @@ fn coarse_squares(there: u16x16, here: u32, grain: u32) -> u16x16
 /// Returns the squares of the distances of coordinates `here`, given in coarsest grains, from the span, in whole units
 /// of 2^16 square grains. Rounding makes them too great by less than one unit.
 #[inline(always)]
-fn outside_squares(here: u16x16, span: Span) -> u16x16
+fn outside_squares(here: u16x16, interval: Interval) -> u16x16
     ensures least { (k a b : ℕ) → k < 16 → a < 2 ^ 32 → b < 2 ^ 32 → slice_index here k ≡ grains 16 a
-        → grains_apart (grains 16 b) span.middle ≤ span.half
+        → grains_apart (grains 16 b) interval.middle ≤ interval.half
         → let size = unsigned_abs (image a b) in
         slice_index result k * square_unit 16 < size * size + square_unit 16 }
     ensures small { (k : ℕ) → k < 16 → slice_index result k ≤ 2 ^ 14 }
 {
-    let apart = differences(here, splat(span.middle));
+    let apart = differences(here, splat(interval.middle));
     let length = lesser(apart, differences(splat(0), apart));
-    square_units(less(length, splat(span.half)))
+    square_units(less(length, splat(interval.half)))
 }
 
 /// Returns the span of coordinates in grains, round the ring: from the least to the greatest image from the first one.
 #[inline(always)]
-fn span_over(grains: &[u16; BLOCK]) -> Span
+fn interval_over(grains: &[u16; BLOCK]) -> Interval
     ensures { (k : ℕ) → k < BLOCK → grains_apart (slice_index grains.now k) result.middle ≤ result.half }
 {
     let start = grains[0].wrapping_sub(1 << 15);
@@ -347,7 +347,7 @@ fn span_over(grains: &[u16; BLOCK]) -> Span
     let least = least(lesser(lesser(a, b), lesser(c, d)));
     let greatest = greatest(greater(greater(a, b), greater(c, d)));
     let half = greatest.saturating_sub(least) / 2 + 1;
-    Span {
+    Interval {
         middle: start.wrapping_add(least).wrapping_add(half),
         half,
     }

@@ -11,8 +11,8 @@ ghost use Rattle.lj_tile.specs.Pairs.{ArePairs, AreOnRing, HavePushes, HaveTotal
 ghost use Rattle.lj_tile.specs.Tiles.{place_at};
 
 use crate::blocks::BLOCK;
-use crate::lanes::{Eight, pushes};
 use crate::near_pairs::NearPairs;
+use crate::pair_lanes::{Eight, pushes};
 use crate::pairs::{Push, pair_push};
 use crate::sums::ForceSums;
 use lj_ring::{Place, Scale};
@@ -118,7 +118,7 @@ fn add_eight(
     let eight = pushes(&apart(pairs, at, first, second), scale, table);
     let (x, y, z) = (eight.x.to_array(), eight.y.to_array(), eight.z.to_array());
     // Reading the step factor shows that no pair that interacts lies half the box apart: opposite pushes are exact.
-    let _strength = scale.strength();
+    let _step_factor = scale.step_factor();
     for k in 0..8 {
         let push = Push {
             x: x[k],

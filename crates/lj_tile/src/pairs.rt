@@ -62,7 +62,7 @@ pub fn pair_push(table: &Table, scale: &Scale, here: &Place, there: &Place) -> P
     if entry == 0 {
         return Push::NONE;
     }
-    let factor = strengthened(entry, scale.strength());
+    let factor = multiplied(entry, scale.step_factor());
     Push {
         x: push_along(factor, image(here.x, there.x)),
         y: push_along(factor, image(here.y, there.y)),
@@ -72,13 +72,13 @@ pub fn pair_push(table: &Table, scale: &Scale, here: &Place, there: &Place) -> P
 
 /// Multiplies a table entry by the step factor.
 #[inline]
-fn strengthened(entry: i64, strength: u32) -> i64
+fn multiplied(entry: i64, step_factor: u32) -> i64
     requires small_entry { unsigned_abs entry < 2 ^ 37 }
-    requires small_strength { strength ≤ 2 ^ 24 }
-    ensures value { result ≡ entry *ℤ pos strength }
+    requires small_step_factor { step_factor ≤ 2 ^ 24 }
+    ensures value { result ≡ entry *ℤ pos step_factor }
     ensures size { unsigned_abs result < 2 ^ 61 }
 {
-    entry * i64::from(strength)
+    entry * i64::from(step_factor)
 }
 
 /// Returns `factor * image / 2^56`, toward zero, on the ring.

@@ -1,14 +1,14 @@
 //! Results of tasks.
 ghost use Rattle.std.specs.Prelude.{◌≡◌, ◌<◌, length, map, pos, ◌∷◌, []};
 ghost use Rattle.std.specs.List.{range_with_len};
-ghost use Rattle.lj_tile.specs.declared.names.Kind.TheVariants.{Force, Energy};
+ghost use Rattle.lj_tile.specs.declared.task_name.Kind.TheVariants.{Force, Energy};
 ghost use Rattle.lj_tile.specs.Blank.{blank_task};
 ghost use Rattle.lj_tile.specs.Task.{task_force, task_second, task_energy};
 ghost use Rattle.lj_tile.specs.Results.{AreSums};
 
-use crate::names::Kind;
 use crate::pairs::Push;
 use crate::sums::{ForceSums, energy_sum, sum_forces};
+use crate::task_name::Kind;
 use crate::tasks::Task;
 use lj_table::Table;
 use std::marker::Model;
@@ -178,7 +178,9 @@ impl<'a> DoneRef<'a> {
         requires { self.now.name.kind ≡ Force }
         ensures { result.now ≡ map (task_force self.now) (range_with_len 0 (length self.now.a.places)) }
     {
-        self.sums.pushes.firsts(self.task.first().places().len())
+        self.sums
+            .pushes
+            .first_sums(self.task.first().places().len())
     }
 
     /// Returns the sums of the pushes on the places of the second block, in order. In a task of one block twice `sums`
@@ -189,7 +191,9 @@ impl<'a> DoneRef<'a> {
         requires apart { self.now.name.bi < self.now.name.bj }
         ensures { result.now ≡ map (task_second self.now) (range_with_len 0 (length self.now.b.places)) }
     {
-        self.sums.pushes.seconds(self.task.second().places().len())
+        self.sums
+            .pushes
+            .second_sums(self.task.second().places().len())
     }
 
     /// Returns the sum of the energies of the task's pairs, in units of 2^-24 ε.
@@ -234,11 +238,11 @@ pub fn compute(task: Task, table: &Table) -> Done
 /// Computes a task, and overwrites an older result.
 ///
 /// Promise: the result is of that very task.
-pub fn compute_in(task: &Task, table: &Table, room: &mut Done)
-    ensures { room.new ≡ task.now }
+pub fn compute_in(task: &Task, table: &Table, out: &mut Done)
+    ensures { out.new ≡ task.now }
 {
-    compute_sums(task, table, &mut room.sums);
-    room.task.copy_from(task);
+    compute_sums(task, table, &mut out.sums);
+    out.task.copy_from(task);
 }
 
 /// Computes the sums of a task, and overwrites older ones.

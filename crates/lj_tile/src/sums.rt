@@ -63,7 +63,7 @@ impl ForceSums {
 
     /// Returns the sums for the first `count` places of the first block.
     #[inline]
-    pub(crate) fn firsts(&self, count: usize) -> &[Push]
+    pub(crate) fn first_sums(&self, count: usize) -> &[Push]
         requires { count ≤ BLOCK }
         ensures count { length result.now ≡ count }
         ensures value { result.now ≡ take count self.now.first }
@@ -73,7 +73,7 @@ impl ForceSums {
 
     /// Returns the sums for the first `count` places of the second block.
     #[inline]
-    pub(crate) fn seconds(&self, count: usize) -> &[Push]
+    pub(crate) fn second_sums(&self, count: usize) -> &[Push]
         requires { count ≤ BLOCK }
         ensures count { length result.now ≡ count }
         ensures value { result.now ≡ take count self.now.second }
@@ -122,12 +122,12 @@ fn sum_pairs(task: &Task, table: &Table, sums: &mut ForceSums)
     let columns = Columns::new(second, task.mix());
     *sums = ForceSums::none();
     let rows = near_rows(task, &columns);
-    let seconds = task.first().seconds();
+    let species_bits = task.first().species_bits();
     let mut like = NearPairs::new();
     let mut unlike = NearPairs::new();
     let mut others = NearPairs::new();
     add_rows(
-        rows & !seconds,
+        rows & !species_bits,
         Species::First,
         task,
         &columns,
@@ -137,7 +137,7 @@ fn sum_pairs(task: &Task, table: &Table, sums: &mut ForceSums)
         sums,
     );
     add_rows(
-        rows & seconds,
+        rows & species_bits,
         Species::Second,
         task,
         &columns,
@@ -259,7 +259,7 @@ fn add_row(
     requires first { AreOnRing task.now.a.places }
     requires second { AreOnRing task.now.b.places }
     requires row { t < length task.now.a.places }
-    requires own { own ≡ species.species_at task.now.a.seconds t }
+    requires own { own ≡ species.species_at task.now.a.species_bits t }
     requires few_firsts { length of_firsts.old < FULL }
     requires few_seconds { length of_seconds.old < FULL }
     requires firsts { ArePairs task.now.a.places task.now.b.places of_firsts.old }
@@ -272,11 +272,11 @@ fn add_row(
         of_firsts.old of_seconds.old of_firsts.new of_seconds.new sums.old sums.new }
 {
     let near = columns.near(&task.first().places()[t]) & later(t, task);
-    let seconds = task.second().seconds();
+    let species_bits = task.second().species_bits();
     let with_first = task.mix().class(own, Species::First);
     add_pairs(
         t,
-        near & !seconds,
+        near & !species_bits,
         task,
         &with_first.scale,
         table,
@@ -286,7 +286,7 @@ fn add_row(
     let with_second = task.mix().class(own, Species::Second);
     add_some_pairs(
         t,
-        near & seconds,
+        near & species_bits,
         task,
         &with_second.scale,
         table,
@@ -387,12 +387,12 @@ pub(crate) fn energy_sum(task: &Task, table: &Table) -> i64
     read_each(second);
     let columns = Columns::new(second, task.mix());
     let rows = near_rows(task, &columns);
-    let seconds = task.first().seconds();
+    let species_bits = task.first().species_bits();
     let mut like = NearPairs::new();
     let mut unlike = NearPairs::new();
     let mut others = NearPairs::new();
     let mut sum = energy_of_rows(
-        rows & !seconds,
+        rows & !species_bits,
         Species::First,
         task,
         &columns,
@@ -401,7 +401,7 @@ pub(crate) fn energy_sum(task: &Task, table: &Table) -> i64
         &mut unlike,
     );
     sum += energy_of_rows(
-        rows & seconds,
+        rows & species_bits,
         Species::Second,
         task,
         &columns,
@@ -476,7 +476,7 @@ fn energy_of_row(
     requires first { AreOnRing task.now.a.places }
     requires second { AreOnRing task.now.b.places }
     requires row { t < length task.now.a.places }
-    requires own { own ≡ species.species_at task.now.a.seconds t }
+    requires own { own ≡ species.species_at task.now.a.species_bits t }
     requires few_firsts { length of_firsts.old < FULL }
     requires few_seconds { length of_seconds.old < FULL }
     requires firsts { ArePairs task.now.a.places task.now.b.places of_firsts.old }
@@ -493,11 +493,11 @@ fn energy_of_row(
 {
     let here = &task.first().places()[t];
     let near = columns.near(here) & later(t, task);
-    let seconds = task.second().seconds();
+    let species_bits = task.second().species_bits();
     let with_first = task.mix().class(own, Species::First);
-    let of_first = energy_of_pairs(t, near & !seconds, task, with_first, table, of_firsts);
+    let of_first = energy_of_pairs(t, near & !species_bits, task, with_first, table, of_firsts);
     let with_second = task.mix().class(own, Species::Second);
-    of_first + energy_of_pairs(t, near & seconds, task, with_second, table, of_seconds)
+    of_first + energy_of_pairs(t, near & species_bits, task, with_second, table, of_seconds)
 }
 
 /// Appends the pairs of place `t` of the first block with a set of places of the second to a list. If this becomes

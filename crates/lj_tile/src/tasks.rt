@@ -1,11 +1,11 @@
 //! Tasks.
 ghost use Rattle.std.specs.Prelude.{◌≡◌, ◌≤◌, ◌<◌, ◌↔◌, length, IsTrue};
-ghost use Rattle.lj_tile.specs.declared.names.Kind.TheVariants.{Energy};
+ghost use Rattle.lj_tile.specs.declared.task_name.Kind.TheVariants.{Energy};
 ghost use Rattle.lj_tile.specs.Task.{IsTask};
 ghost use Rattle.lj_tile.specs.Blank.{blank_task};
 
 use crate::blocks::{BLOCK, Block};
-use crate::names::TaskName;
+use crate::task_name::TaskName;
 use lj_ring::{Mix, Place, Scale};
 use std::marker::Model;
 
@@ -128,8 +128,8 @@ impl Task {
         ensures { self.new ≡ record {
           name = name;
           mix = mix.now;
-          a = record { places = a.entry.0.now; seconds = a.entry.1 };
-          b = record { places = b.entry.0.now; seconds = b.entry.1 };
+          a = record { places = a.entry.0.now; species_bits = a.entry.1 };
+          b = record { places = b.entry.0.now; species_bits = b.entry.1 };
         } }
     {
         self.name = name;
@@ -155,8 +155,8 @@ impl Task {
         ensures { IsTrue result ↔ (self.now ≡ record {
           name = name.now;
           mix = mix.now;
-          a = record { places = a.entry.0.now; seconds = a.entry.1 };
-          b = record { places = b.entry.0.now; seconds = b.entry.1 };
+          a = record { places = a.entry.0.now; species_bits = a.entry.1 };
+          b = record { places = b.entry.0.now; species_bits = b.entry.1 };
         }) }
     {
         self.name.is(name)

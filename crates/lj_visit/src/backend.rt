@@ -12,7 +12,7 @@ use lj_session::UserState;
 
 /// A user's state, lent to a ticket.
 #[derive(Drop)]
-pub struct Lent {
+pub struct LentState {
     pub ticket: Ticket,
     pub state: UserState,
 }
@@ -56,7 +56,7 @@ pub trait Backend {
     ///
     /// # Errors
     /// No ticket enters any more, or the client has gone while the ticket waited. The ticket is given up then.
-    fn enter(&mut self, ticket: Ticket, held: bool) -> Result<Lent, Shut>
+    fn enter(&mut self, ticket: Ticket, held: bool) -> Result<LentState, Shut>
         ensures ticket { IfOk result (λ lent. lent.ticket ≡ ticket) }
         ensures reached { IfOk result (λ lent. Reached lent.state) }
         ensures entered { IfOk result (λ lent. Happens (events self.old) (events self.new)
@@ -78,7 +78,7 @@ pub trait Backend {
             (⟦<<Self as Backend>::End as Pool>⟧.for_others end.pool end.user) ∷ []) };
 
     /// Takes a state home from the ticket that it was lent to. The user's next ticket may then enter.
-    fn leave(&mut self, lent: Lent)
+    fn leave(&mut self, lent: LentState)
         ensures { Happens (events self.old) (events self.new) (left lent.ticket lent.state ∷ []) };
 
     /// Closes the backend: from now on no ticket enters, and no task is computed.

@@ -6,6 +6,6 @@ mod backend;
 mod visit_laws;
 mod visiting;
 
-pub use backend::{Backend, Lent, Shut, UserEnd};
+pub use backend::{Backend, LentState, Shut, UserEnd};
 pub use visit_laws::{attended_is_answered, visits_are_one_fold};
 pub use visiting::{Visited, visit};

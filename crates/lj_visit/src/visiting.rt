@@ -7,7 +7,7 @@ ghost use Rattle.lj_visit.specs.declared.visiting.Visited.TheVariants.{Denied};
 ghost use Rattle.lj_visit.specs.Events.{Happens};
 ghost use Rattle.lj_visit.specs.Visits.{IsAdmission, IsServing, IsVisit, Tells, denied_line, events_closing, events_leaving, welcome_line};
 
-use crate::backend::{Backend, Lent, Shut};
+use crate::backend::{Backend, LentState, Shut};
 use lj_access::Ticket;
 use lj_base::Name;
 use lj_pool::{Served, serve_lines};
@@ -81,13 +81,13 @@ fn admit<B: Backend, S: Source, W: Sink>(
         backend.leave(lent);
         return Visited::NotWelcomed;
     }
-    Visited::Attended(attend(backend, lent, lines, writer))
+    Visited::Attended(serve_user(backend, lent, lines, writer))
 }
 
 /// Answers the lines of a user whose state was lent, over an end of the user's own, and takes the state home.
-fn attend<B: Backend, S: Source, W: Sink>(
+fn serve_user<B: Backend, S: Source, W: Sink>(
     backend: &mut B,
-    lent: Lent,
+    lent: LentState,
     lines: &mut LineReader<S>,
     writer: &mut W,
 ) -> Served
@@ -98,7 +98,7 @@ fn attend<B: Backend, S: Source, W: Sink>(
         (record { contents = W.contents writer.new; faults = W.faults writer.new })
         (B.events backend.old) (B.events backend.new) }
 {
-    let Lent { ticket, state } = lent;
+    let LentState { ticket, state } = lent;
     let mut end = backend.open(ticket.user());
     let (state, served) = serve_lines(state, end.user, lines, writer, &mut end.pool);
     backend.finish(end);
@@ -112,7 +112,7 @@ fn bring_home<B: Backend>(backend: &mut B, ticket: Ticket, state: Option<UserSta
     ensures { Happens (B.events backend.old) (B.events backend.new) (events_leaving ticket state) }
 {
     if let Some(state) = state {
-        backend.leave(Lent { ticket, state });
+        backend.leave(LentState { ticket, state });
     }
 }
 

@@ -12,9 +12,9 @@ as_items user [] marks = refl
 as_items user (command ∷ commands) [] = as_items (answer user command false).1 commands []
 as_items user (command ∷ commands) (mark ∷ marks) = as_items (answer user command mark).1 commands marks
 
-pub reached_alone : CommandsAreItems → (owned : UserState) → Reached owned → IsReachedAlone (user_of owned)
-reached_alone are_items owned reached = record {
+pub reached_alone : CommandsAreItems → (state : UserState) → Reached state → IsReachedAlone (user_of state)
+reached_alone are_items state reached = record {
   items = map (λ command. Command command) reached.commands;
   marks = reached.marks;
-  leads = reached.leads ∙ sym (are_items (fresh_user owned.quota) reached.commands reached.marks);
+  leads = reached.leads ∙ sym (are_items (fresh_user state.quota) reached.commands reached.marks);
 }

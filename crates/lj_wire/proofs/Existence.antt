@@ -11,7 +11,7 @@ use Rattle.lj_wire.specs.declared.item.Item.{Item}
 use Rattle.lj_wire.specs.declared.item.Item.TheVariants.{Last}
 use Rattle.lj_wire.specs.Items.{is_ending}
 use Rattle.lj_wire.specs.Commands.{body_len_announced, item_of}
-use Rattle.lj_wire.specs.declared.limits.TheConstants.{MAX_ITEMS}
+use Rattle.lj_wire.specs.declared.line_limits.TheConstants.{MAX_ITEMS}
 use Rattle.lj_wire.specs.Streams.{LacksLineFeed, IsLineItem, IsLongItem, IsItem, Splits}
 
 abbrev Split : ℕ → List ℕ → Type 0

@@ -10,7 +10,7 @@ use Rattle.lj_session.specs.declared.command.Command.{Command}
 use Rattle.lj_session.specs.declared.command.Command.TheVariants as command
 use Rattle.lj_wire.specs.declared.item.Fault.TheVariants.{Line, Long}
 use Rattle.lj_wire.specs.declared.item.Item.TheVariants.{Bad, Last}
-use Rattle.lj_wire.specs.declared.limits.TheConstants.{LONG_LINE_BYTES}
+use Rattle.lj_wire.specs.declared.line_limits.TheConstants.{LONG_LINE_BYTES}
 use Rattle.lj_wire.specs.declared.verb.Verb.{Verb}
 use Rattle.lj_wire.specs.declared.verb.Verb.TheVariants as verb
 use Rattle.lj_wire.specs.Items.{with_body}

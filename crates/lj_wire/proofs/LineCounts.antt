@@ -17,7 +17,7 @@ use Rattle.lj_step.specs.Sim.{Sim}
 use Rattle.lj_step.specs.Motion.{Simulation}
 use Rattle.lj_session.specs.declared.reply.Reply.{Reply}
 use Rattle.lj_session.specs.declared.reply.Reply.TheVariants.{Dumped, Listed, ListedBranches}
-use Rattle.lj_session.specs.UserState.{HeldSession, session_meant}
+use Rattle.lj_session.specs.UserState.{LiveSession, settled_session}
 use Rattle.lj_session.specs.Users.{User}
 use Rattle.lj_session.proofs.Owed.{count-meant}
 use Rattle.lj_wire.specs.Texts.{atom_lines, dump_lines, branch_lines, branch_line, reply_lines}
@@ -29,22 +29,22 @@ atom_lines-few edge (symbol ∷ symbols) [] = omega arith
 atom_lines-few edge (symbol ∷ symbols) (place ∷ places) = let rest = atom_lines-few edge symbols places in omega arith
 
 -- the lines of the frame of a session that is meant
-pub dump-few : (entry : Option HeldSession) (live : Sim) (name : List ℕ) (count : ℕ)
+pub dump-few : (entry : Option LiveSession) (live : Sim) (name : List ℕ) (count : ℕ)
     → option_map (λ held. held.live) entry ≡ Some live → count ≡ length live.sim.cur
-    → IfSome entry (λ held. length (dump_lines name (Some (session_meant held))) ≤ count + 2 + 1)
+    → IfSome entry (λ held. length (dump_lines name (Some (settled_session held))) ≤ count + 2 + 1)
 dump-few None live name count is counted = tt
 dump-few (Some held) live name count is counted =
     let same : held.live ≡ live = cc in
-    let meant = (session_meant held).sim.cur in
+    let meant = (settled_session held).sim.cur in
     let few = atom_lines-few (edge_of held.live.composition.mix) held.symbols meant in
     let atoms : count ≡ length meant =
     counted ∙ ap (λ l. length l.sim.cur) (sym same) ∙ sym (count-meant held) in
     omega (arith, few, atoms)
 
 -- the lines of what is saved in a session that is meant
-pub branches-few : (entry : Option HeldSession) (saved : List (List ℕ × Simulation)) (name : List ℕ) (count : ℕ)
+pub branches-few : (entry : Option LiveSession) (saved : List (List ℕ × Simulation)) (name : List ℕ) (count : ℕ)
     → option_map (λ held. held.saved) entry ≡ Some saved → count ≡ length saved
-    → IfSome entry (λ held. length (branch_lines name (Some (session_meant held))) ≤ count + 1)
+    → IfSome entry (λ held. length (branch_lines name (Some (settled_session held))) ≤ count + 1)
 branches-few None saved name count is counted = tt
 branches-few (Some held) saved name count is counted =
     let same : held.saved ≡ saved = cc in

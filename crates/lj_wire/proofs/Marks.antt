@@ -7,7 +7,7 @@ use Rattle.lj_ring.specs.Mix.{Mix}
 use Rattle.lj_xyz.specs.declared.xyz_fault.XyzFault.{XyzFault}
 use Rattle.lj_xyz.specs.declared.xyz_fault.XyzKind.{XyzKind}
 use Rattle.lj_xyz.specs.declared.xyz_fault.XyzKind.TheVariants as kind
-use Rattle.lj_xyz.specs.declared.atom_row.Row.{Row}
+use Rattle.lj_xyz.specs.declared.atom_row.AtomRow.{AtomRow}
 use Rattle.lj_xyz.specs.Atoms.{◌>>=◌}
 use Rattle.lj_xyz.specs.Lines.{lines_of}
 use Rattle.lj_xyz.specs.Reading.{reading}
@@ -23,9 +23,9 @@ use Rattle.lj_session.specs.declared.refusal.Refusal.{Refusal}
 use Rattle.lj_session.specs.declared.refusal.Refusal.TheVariants.{BranchExists, QuotaAtoms, QuotaBranches, Xyz, Memory}
 use Rattle.lj_session.specs.declared.reply.Reply.{Reply}
 use Rattle.lj_session.specs.declared.reply.Reply.TheVariants as reply
-use Rattle.lj_session.specs.declared.substance.Substance.{Substance}
-use Rattle.lj_session.specs.declared.substance.Substance.TheVariants.{Pure, Mixed}
-use Rattle.lj_session.specs.Substances.{load_reply, symbols_of}
+use Rattle.lj_session.specs.declared.interactions.Interactions.{Interactions}
+use Rattle.lj_session.specs.declared.interactions.Interactions.TheVariants.{Pure, Mixed}
+use Rattle.lj_session.specs.Interactions.{load_reply, symbols_of}
 use Rattle.lj_session.specs.Users.{Session, User, with_session, atoms_of, atoms_used, branches_used}
 use Rattle.lj_branch.specs.Named.{value_named, with_value}
 use Rattle.lj_session.specs.Loads.{refusal_unless, admission, body_or_refusal, session_of_frames, frames_or_refusal, reading_mode}
@@ -75,37 +75,37 @@ kind_told user kind.Pair line = refl
 kind_told user kind.Species line = refl
 
 -- what a load does with its session
-abbrev loads : User → List ℕ → Substance → Session → Outcome
-loads user name substance session = Ok (load_reply substance name (atoms_of session), with_session name session user)
+abbrev loads : User → List ℕ → Interactions → Session → Outcome
+loads user name interactions session = Ok (load_reply interactions name (atoms_of session), with_session name session user)
 
-within_told : (user : User) (name : List ℕ) (substance : Substance) (session : Session) (fits : Bool)
-    → is_memory (outcome_told user ((refusal_unless fits QuotaAtoms >>= λ room. Ok session) >>= loads user name substance)).0
+within_told : (user : User) (name : List ℕ) (interactions : Interactions) (session : Session) (fits : Bool)
+    → is_memory (outcome_told user ((refusal_unless fits QuotaAtoms >>= λ room. Ok session) >>= loads user name interactions)).0
     ≡ false
 unfolding text digits
 within_told user name (Pure sigma step_factor) session true = refl
 within_told user name (Mixed symbols first unlike second) session true = refl
-within_told user name substance session false = refl
+within_told user name interactions session false = refl
 
-read_told : (user : User) (name : List ℕ) (substance : Substance) (mix : Mix)
-    (read : Result (List (List Row)) XyzFault)
+read_told : (user : User) (name : List ℕ) (interactions : Interactions) (mix : Mix)
+    (read : Result (List (List AtomRow)) XyzFault)
     → is_memory (outcome_told user ((frames_or_refusal read
-    >>= λ frames. session_within_quota user (session_of_frames mix (symbols_of substance) frames))
-    >>= loads user name substance)).0 ≡ false
-read_told user name substance mix (Ok frames) =
-    let session = session_of_frames mix (symbols_of substance) frames in
-    within_told user name substance session (nat_le (atoms_used user + atoms_of session) user.quota.atoms)
-read_told user name substance mix (Err fault) = kind_told user fault.kind fault.line
+    >>= λ frames. session_within_quota user (session_of_frames mix (symbols_of interactions) frames))
+    >>= loads user name interactions)).0 ≡ false
+read_told user name interactions mix (Ok frames) =
+    let session = session_of_frames mix (symbols_of interactions) frames in
+    within_told user name interactions session (nat_le (atoms_used user + atoms_of session) user.quota.atoms)
+read_told user name interactions mix (Err fault) = kind_told user fault.kind fault.line
 
 load_tells : (user : User) (load : Load) (body : LoadBody) (mixture : Result Mix Refusal)
     → Tells user (λ mark. mixture >>= λ mix. body_or_refusal body mark
-    >>= λ bytes. session_read user mix load bytes >>= loads user load.name load.substance)
+    >>= λ bytes. session_read user mix load bytes >>= loads user load.name load.interactions)
 load_tells user load body (Err refusal) = inl (λ mark. refl)
 load_tells user load Unread (Ok mix) = inl (λ mark. refl)
 load_tells user load Lost (Ok mix) = inl (λ mark. refl)
 load_tells user load (Read bytes) (Ok mix) = inr (
   refl,
-  read_told user load.name load.substance mix
-      (reading (symbols_of load.substance) (reading_mode load.mode) (lines_of bytes)),
+  read_told user load.name load.interactions mix
+      (reading (symbols_of load.interactions) (reading_mode load.mode) (lines_of bytes)),
 )
 
 -- what a BRANCH does with its session

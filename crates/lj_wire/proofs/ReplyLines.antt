@@ -19,7 +19,7 @@ use Rattle.lj_ring.specs.declared.coordinates.Place.{Place}
 use Rattle.lj_step.specs.Motion.{Simulation}
 use Rattle.lj_step.specs.Sim.{Sim}
 use Rattle.lj_branch.specs.Named.{value_named}
-use Rattle.lj_session.specs.UserState.{HeldSession, UserState, held_session, held_session_at, names, user_of, as_session, session_meant, as_entry}
+use Rattle.lj_session.specs.UserState.{LiveSession, UserState, live_session, live_session_at, names, user_of, as_session, settled_session, as_entry}
 use Rattle.lj_session.specs.UserState.{owed_in}
 use Rattle.lj_session.specs.Users.{Session}
 use Rattle.lj_session.proofs.Owed.{count-meant, meant-settled}
@@ -28,10 +28,10 @@ use Rattle.lj_wire.specs.Lines.{blank_and}
 use Rattle.lj_wire.specs.Texts.{line_of, session_line, branch_line, atom_line, atom_lines}
 
 -- the line of a session, by what its readers answer
-session_entry_line : (entry : Option (List ℕ × HeldSession)) (name : List ℕ) (step : ℤ) (live : Sim)
+session_entry_line : (entry : Option (List ℕ × LiveSession)) (name : List ℕ) (step : ℤ) (live : Sim)
     (saved : List (List ℕ × Simulation))
     → option_map (λ e. e.0) entry ≡ Some name
-    → option_map (λ held. (session_meant held).sim.step) (option_map (λ e. e.1) entry) ≡ Some step
+    → option_map (λ held. (settled_session held).sim.step) (option_map (λ e. e.1) entry) ≡ Some step
     → option_map (λ held. held.live) (option_map (λ e. e.1) entry) ≡ Some live
     → option_map (λ held. held.saved) (option_map (λ e. e.1) entry) ≡ Some saved
     → Some (line_of (name ∷ signed_decimal step ∷ decimal (length live.sim.cur) ∷ decimal (length saved) ∷ []))
@@ -39,22 +39,22 @@ session_entry_line : (entry : Option (List ℕ × HeldSession)) (name : List ℕ
 session_entry_line None name step live saved value_named is_step is_live is_saved = cc
 session_entry_line (Some entry) name step live saved value_named is_step is_live is_saved =
     let n : entry.0 ≡ name = cc in
-    let t : (session_meant entry.1).sim.step ≡ step = cc in
+    let t : (settled_session entry.1).sim.step ≡ step = cc in
     let l : entry.1.live ≡ live = cc in
     let s : entry.1.saved ≡ saved = cc in
     rw (← n, ← t, ← l, ← s, count-meant entry.1) refl
 
-pub session_line_at : (owned : UserState) (i : ℕ) (name : List ℕ) (step : ℤ) (live : Sim) (saved : List (List ℕ × Simulation))
-    → slice_get (names owned) i ≡ Some name
-    → option_map (λ held. (session_meant held).sim.step) (held_session_at owned i) ≡ Some step
-    → option_map (λ held. held.live) (held_session_at owned i) ≡ Some live
-    → option_map (λ held. held.saved) (held_session_at owned i) ≡ Some saved
+pub session_line_at : (state : UserState) (i : ℕ) (name : List ℕ) (step : ℤ) (live : Sim) (saved : List (List ℕ × Simulation))
+    → slice_get (names state) i ≡ Some name
+    → option_map (λ held. (settled_session held).sim.step) (live_session_at state i) ≡ Some step
+    → option_map (λ held. held.live) (live_session_at state i) ≡ Some live
+    → option_map (λ held. held.saved) (live_session_at state i) ≡ Some saved
     → Some (line_of (name ∷ signed_decimal step ∷ decimal (length live.sim.cur) ∷ decimal (length saved) ∷ []))
-    ≡ option_map session_line (slice_get (user_of owned).sessions i)
-session_line_at owned i name step live saved value_named is_step is_live is_saved =
-    rw (slice_get-map as_entry owned.sessions i)
-    (session_entry_line (slice_get owned.sessions i) name step live saved
-    (sym (slice_get-map (λ e. e.0) owned.sessions i) ∙ value_named) is_step is_live is_saved)
+    ≡ option_map session_line (slice_get (user_of state).sessions i)
+session_line_at state i name step live saved value_named is_step is_live is_saved =
+    rw (slice_get-map as_entry state.sessions i)
+    (session_entry_line (slice_get state.sessions i) name step live saved
+    (sym (slice_get-map (λ e. e.0) state.sessions i) ∙ value_named) is_step is_live is_saved)
 
 -- atom t's line in a frame
 pub atom_lines-get : (edge : ℕ) (symbols : List (List ℕ)) (places : List Place) (t : ℕ) (symbol : List ℕ)
@@ -82,7 +82,7 @@ join-after word [] = search rules
 join-after word (next ∷ words) = ap (λ t. word ++ (32 ∷ t)) (join-after next words)
 
 -- atom t's line in the frame of a session, by what its readers answer
-pub held_atom_line : (entry : Option HeldSession) (edge t : ℕ) (live : Sim) (symbol line : List ℕ)
+pub held_atom_line : (entry : Option LiveSession) (edge t : ℕ) (live : Sim) (symbol line : List ℕ)
     → option_map (λ held. edge_of held.live.composition.mix) entry ≡ Some edge
     → option_map (λ held. held.live) entry ≡ Some live
     → IfSome entry (λ held. slice_get held.symbols t ≡ Some symbol)
@@ -131,85 +131,85 @@ lookup-position {K} {X} test (e ∷ entries) =
     [ true ↦ refl | false ↦ rw one-add (lookup-position test entries) ]
 
 -- the session of a name is the one at the place of the name
-held_under : (owned : UserState) (name : List ℕ) → value_named name owned.sessions
-    ≡ option_and_then (held_session_at owned) (position (bytes_eq name) (names owned))
-held_under owned name =
-    let n = position_or_len (bytes_eq name) (names owned) in
-    let found = lookup-position (bytes_eq name) owned.sessions in
-    at (nat_lt n (length (names owned))) refl found
+held_under : (state : UserState) (name : List ℕ) → value_named name state.sessions
+    ≡ option_and_then (live_session_at state) (position (bytes_eq name) (names state))
+held_under state name =
+    let n = position_or_len (bytes_eq name) (names state) in
+    let found = lookup-position (bytes_eq name) state.sessions in
+    at (nat_lt n (length (names state))) refl found
   where
-    at : (b : Bool) → nat_lt (position_or_len (bytes_eq name) (names owned)) (length (names owned)) ≡ b
-        → value_named name owned.sessions ≡ held_session_at owned (position_or_len (bytes_eq name) (names owned))
-        → value_named name owned.sessions ≡ option_and_then (held_session_at owned)
-        (cond b (Some (position_or_len (bytes_eq name) (names owned))) None)
+    at : (b : Bool) → nat_lt (position_or_len (bytes_eq name) (names state)) (length (names state)) ≡ b
+        → value_named name state.sessions ≡ live_session_at state (position_or_len (bytes_eq name) (names state))
+        → value_named name state.sessions ≡ option_and_then (live_session_at state)
+        (cond b (Some (position_or_len (bytes_eq name) (names state))) None)
     at true within found = found
     at false past found =
-        let beyond : length owned.sessions ≤ position_or_len (bytes_eq name) (names owned) =
-        omega (arith, ltb-false _ _ past, length-map owned.sessions (λ e. e.0)) in
-        found ∙ ap (option_map (λ e. e.1)) (slice_get_past owned.sessions _ beyond)
+        let beyond : length state.sessions ≤ position_or_len (bytes_eq name) (names state) =
+        omega (arith, ltb-false _ _ past, length-map state.sessions (λ e. e.0)) in
+        found ∙ ap (option_map (λ e. e.1)) (slice_get_past state.sessions _ beyond)
 
 -- the session of a name in the user that is meant, by the place of the name
-pub named-index : (owned : UserState) (name : List ℕ) (index : Option ℕ) → index ≡ position (bytes_eq name) (names owned)
-    → value_named name (user_of owned).sessions ≡ option_map session_meant (option_and_then (held_session_at owned) index)
-named-index owned name index is_index =
-    lookup-map_values session_meant (bytes_eq name) owned.sessions
-    ∙ ap (option_map session_meant) (rw is_index (held_under owned name))
+pub named-index : (state : UserState) (name : List ℕ) (index : Option ℕ) → index ≡ position (bytes_eq name) (names state)
+    → value_named name (user_of state).sessions ≡ option_map settled_session (option_and_then (live_session_at state) index)
+named-index state name index is_index =
+    lookup-map_values settled_session (bytes_eq name) state.sessions
+    ∙ ap (option_map settled_session) (rw is_index (held_under state name))
 
 -- the place of a name is one of a session
-pub index_within : (owned : UserState) (name : List ℕ) (i : ℕ) → Some i ≡ position (bytes_eq name) (names owned)
-    → i < length owned.sessions
-index_within owned name i found =
+pub index_within : (state : UserState) (name : List ℕ) (i : ℕ) → Some i ≡ position (bytes_eq name) (names state)
+    → i < length state.sessions
+index_within state name i found =
     omega (
       arith,
-      (position-Some (bytes_eq name) (names owned) i [] (sym found)).0,
-      length-map owned.sessions (λ e. e.0),
+      (position-Some (bytes_eq name) (names state) i [] (sym found)).0,
+      length-map state.sessions (λ e. e.0),
     )
 
 -- what is true of the session at the place of a name is true of the session of that name
-pub under_name : (owned : UserState) (name : List ℕ) (i : ℕ) (P : Option Session → Type 0)
-    → Some i ≡ position (bytes_eq name) (names owned)
-    → IfSome (held_session_at owned i) (λ held. P (Some (session_meant held))) → P (value_named name (user_of owned).sessions)
-under_name owned name i P found holds =
-    let within : i < length owned.sessions = index_within owned name i found in
-    let is_named = named-index owned name (Some i) found in
-    there (held_session_at owned i) refl is_named holds within
+pub under_name : (state : UserState) (name : List ℕ) (i : ℕ) (P : Option Session → Type 0)
+    → Some i ≡ position (bytes_eq name) (names state)
+    → IfSome (live_session_at state i) (λ held. P (Some (settled_session held))) → P (value_named name (user_of state).sessions)
+under_name state name i P found holds =
+    let within : i < length state.sessions = index_within state name i found in
+    let is_named = named-index state name (Some i) found in
+    there (live_session_at state i) refl is_named holds within
   where
-    there : (entry : Option HeldSession) → held_session_at owned i ≡ entry
-        → value_named name (user_of owned).sessions ≡ option_map session_meant entry
-        → IfSome entry (λ held. P (Some (session_meant held))) → i < length owned.sessions
-        → P (value_named name (user_of owned).sessions)
+    there : (entry : Option LiveSession) → live_session_at state i ≡ entry
+        → value_named name (user_of state).sessions ≡ option_map settled_session entry
+        → IfSome entry (λ held. P (Some (settled_session held))) → i < length state.sessions
+        → P (value_named name (user_of state).sessions)
     there None gone is_named holds within =
-        let past : slice_get (names owned) i ≡ None =
-        slice_get-map (λ e. e.0) owned.sessions i ∙ lost (slice_get owned.sessions i) gone in
-        let here = slice_get-get_or (names owned) i [] (omega (arith, length-map owned.sessions (λ e. e.0))) in
+        let past : slice_get (names state) i ≡ None =
+        slice_get-map (λ e. e.0) state.sessions i ∙ lost (slice_get state.sessions i) gone in
+        let here = slice_get-get_or (names state) i [] (omega (arith, length-map state.sessions (λ e. e.0))) in
         cc
       where
-        lost : (entry : Option (List ℕ × HeldSession)) → option_map (λ e. e.1) entry ≡ None
+        lost : (entry : Option (List ℕ × LiveSession)) → option_map (λ e. e.1) entry ≡ None
             → option_map (λ e. e.0) entry ≡ None
         lost None h = refl
         lost (Some e) h = cc
     there (Some held) is_held is_named holds within = subst P (sym is_named) holds
 
 -- where nothing is owed to the session of a name, nothing is owed to the one at the place of the name
-pub settled_at : (owned : UserState) (name : List ℕ) (i : ℕ) → Some i ≡ position (bytes_eq name) (names owned)
-    → owed_in owned name ≡ 0 → ForSome (held_session_at owned i) (λ held. held.owed ≡ 0)
-settled_at owned name i found none held there =
-    let at_place : held_session owned name ≡ held_session_at owned i =
-    subst (λ (index : Option ℕ). held_session owned name ≡ option_and_then (held_session_at owned) index) (sym found)
-    (held_under owned name) in
-    owed-of owned name held (at_place ∙ there) none
+pub settled_at : (state : UserState) (name : List ℕ) (i : ℕ) → Some i ≡ position (bytes_eq name) (names state)
+    → owed_in state name ≡ 0 → ForSome (live_session_at state i) (λ held. held.owed ≡ 0)
+settled_at state name i found none held there =
+    let at_place : live_session state name ≡ live_session_at state i =
+    subst (λ (index : Option ℕ). live_session state name ≡ option_and_then (live_session_at state) index) (sym found)
+    (held_under state name) in
+    owed-of state name held (at_place ∙ there) none
 
 -- what is true of a session as its present step began is true of the one that is meant, where nothing is owed to it
-pub settled : (entry : Option HeldSession) (P : Option Session → Type 0) → ForSome entry (λ held. held.owed ≡ 0)
-    → IfSome entry (λ held. P (Some (as_session held))) → IfSome entry (λ held. P (Some (session_meant held)))
+pub settled : (entry : Option LiveSession) (P : Option Session → Type 0) → ForSome entry (λ held. held.owed ≡ 0)
+    → IfSome entry (λ held. P (Some (as_session held))) → IfSome entry (λ held. P (Some (settled_session held)))
 settled None P none holds = tt
 settled (Some held) P none holds =
     subst (λ (session : Session). P (Some session)) (sym (meant-settled held (none held refl))) holds
 
 -- where a name has no place, no session has it
-pub no_name : (owned : UserState) (name : List ℕ) → None ≡ position (bytes_eq name) (names owned)
-    → value_named name (user_of owned).sessions ≡ None
-no_name owned name lost = named-index owned name None lost
+pub no_name : (state : UserState) (name : List ℕ) → None ≡ position (bytes_eq name) (names state)
+    → value_named name (user_of state).sessions ≡ None
+no_name state name lost = named-index state name None lost
 
 -- a line after the first
 after_first_line : (line : List ℕ) (lines : List (List ℕ)) (k : ℕ) → 1 ≤ k
@@ -225,16 +225,16 @@ after_third_line a b c lines (suc (suc zero)) some = absurd (omega arith)
 after_third_line a b c lines (suc (suc (suc k))) some = ap (slice_get lines) (omega arith)
 
 -- a line in the list of all sessions
-pub listed_line : (owned : UserState) (k : ℕ) (head line : List ℕ) → 1 ≤ k
-    → Some line ≡ option_map session_line (slice_get (user_of owned).sessions (k - 1))
-    → Some line ≡ slice_get (head ∷ map session_line (user_of owned).sessions) k
-listed_line owned k head line some is_line =
-    is_line ∙ sym (slice_get-map session_line (user_of owned).sessions (k - 1))
-    ∙ sym (after_first_line head (map session_line (user_of owned).sessions) k some)
+pub listed_line : (state : UserState) (k : ℕ) (head line : List ℕ) → 1 ≤ k
+    → Some line ≡ option_map session_line (slice_get (user_of state).sessions (k - 1))
+    → Some line ≡ slice_get (head ∷ map session_line (user_of state).sessions) k
+listed_line state k head line some is_line =
+    is_line ∙ sym (slice_get-map session_line (user_of state).sessions (k - 1))
+    ∙ sym (after_first_line head (map session_line (user_of state).sessions) k some)
 
 -- a line in the list of what is saved in a session
-pub saved_line : (entry : Option HeldSession) (saved : List (List ℕ × Simulation)) (k : ℕ)
-    (head : HeldSession → List ℕ) (line : List ℕ) → 1 ≤ k
+pub saved_line : (entry : Option LiveSession) (saved : List (List ℕ × Simulation)) (k : ℕ)
+    (head : LiveSession → List ℕ) (line : List ℕ) → 1 ≤ k
     → option_map (λ held. held.saved) entry ≡ Some saved
     → Some line ≡ option_map branch_line (slice_get saved (k - 1))
     → IfSome entry (λ held. Some line ≡ slice_get (head held ∷ map branch_line held.saved) k)
@@ -246,7 +246,7 @@ saved_line (Some held) saved k head line some is_saved is_line =
     ∙ sym (after_first_line (head held) (map branch_line saved) k some))
 
 -- a line of an atom in a frame
-pub dumped_atom : (entry : Option HeldSession) (k : ℕ) (a b c : HeldSession → List ℕ) (line : Option (List ℕ)) → 3 ≤ k
+pub dumped_atom : (entry : Option LiveSession) (k : ℕ) (a b c : LiveSession → List ℕ) (line : Option (List ℕ)) → 3 ≤ k
     → IfSome entry (λ held. line ≡ slice_get (atom_lines (edge_of held.live.composition.mix) held.symbols held.live.sim.cur) (k - 3))
     → IfSome entry (λ held. line ≡ slice_get (a held ∷ b held ∷ c held
     ∷ atom_lines (edge_of held.live.composition.mix) held.symbols held.live.sim.cur) k)
@@ -256,7 +256,7 @@ dumped_atom (Some held) k a b c line some is_line =
     (atom_lines (edge_of held.live.composition.mix) held.symbols held.live.sim.cur) k some)
 
 -- past the last atom of a session there is none
-pub past_last_atom : (entry : Option HeldSession) (live : Sim) (t : ℕ) → option_map (λ held. held.live) entry ≡ Some live
+pub past_last_atom : (entry : Option LiveSession) (live : Sim) (t : ℕ) → option_map (λ held. held.live) entry ≡ Some live
     → length live.sim.cur ≤ t
     → IfSome entry (λ held. None ≡ slice_get (atom_lines (edge_of held.live.composition.mix) held.symbols held.live.sim.cur) t)
 past_last_atom None live t is_live past = tt

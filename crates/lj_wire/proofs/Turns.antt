@@ -22,38 +22,38 @@ pub told_alike : (new : User) (left : Command) (old : User) (command : Command) 
 told_alike new left old command mark alike = ap (λ a. (text a.1 a.0, a.1)) (alike mark)
 
 -- before BYE no turn comes
-bye_at_once : (owned : UserState) → turns_before owned Bye ≡ 0
+bye_at_once : (state : UserState) → turns_before state Bye ≡ 0
 unfolding turns waits_for
-bye_at_once owned = refl
+bye_at_once state = refl
 
-command_goes_on : (owned : UserState) (command : Command) → 0 < turns_before owned command
+command_goes_on : (state : UserState) (command : Command) → 0 < turns_before state command
     → (is_ending (items.Command command) ≡ false) × (is_ending (items.Command (rest_of command)) ≡ false)
 unfolding rest_of
-command_goes_on owned Bye h = absurd (omega (arith, h, bye_at_once owned))
-command_goes_on owned (Advance name n) h = (refl, refl)
-command_goes_on owned (Start name n) h = (refl, refl)
-command_goes_on owned (Measure name) h = (refl, refl)
-command_goes_on owned (Load load) h = (refl, refl)
-command_goes_on owned (Reverse name) h = (refl, refl)
-command_goes_on owned (Branch name branch) h = (refl, refl)
-command_goes_on owned (Restore name branch) h = (refl, refl)
-command_goes_on owned (Forget name branch) h = (refl, refl)
-command_goes_on owned (Tug name atom x y z) h = (refl, refl)
-command_goes_on owned (Show name atom) h = (refl, refl)
-command_goes_on owned (Dump name) h = (refl, refl)
-command_goes_on owned ListSessions h = (refl, refl)
-command_goes_on owned (ListBranches name) h = (refl, refl)
-command_goes_on owned (Unload name) h = (refl, refl)
+command_goes_on state Bye h = absurd (omega (arith, h, bye_at_once state))
+command_goes_on state (Advance name n) h = (refl, refl)
+command_goes_on state (Start name n) h = (refl, refl)
+command_goes_on state (Measure name) h = (refl, refl)
+command_goes_on state (Load load) h = (refl, refl)
+command_goes_on state (Reverse name) h = (refl, refl)
+command_goes_on state (Branch name branch) h = (refl, refl)
+command_goes_on state (Restore name branch) h = (refl, refl)
+command_goes_on state (Forget name branch) h = (refl, refl)
+command_goes_on state (Tug name atom x y z) h = (refl, refl)
+command_goes_on state (Show name atom) h = (refl, refl)
+command_goes_on state (Dump name) h = (refl, refl)
+command_goes_on state ListSessions h = (refl, refl)
+command_goes_on state (ListBranches name) h = (refl, refl)
+command_goes_on state (Unload name) h = (refl, refl)
 
-pub waits_on : (owned : UserState) (item : Item) → 0 < item_before owned item → is_ending item ≡ false
-waits_on owned (items.Command command) h = (command_goes_on owned command h).0
-waits_on owned (items.Bad fault) h = refl
-waits_on owned (items.Last fault) h = absurd (omega (arith, h))
+pub waits_on : (state : UserState) (item : Item) → 0 < item_before state item → is_ending item ≡ false
+waits_on state (items.Command command) h = (command_goes_on state command h).0
+waits_on state (items.Bad fault) h = refl
+waits_on state (items.Last fault) h = absurd (omega (arith, h))
 
-pub left_goes_on : (owned : UserState) (command : Command) → 0 < turns_before owned command
-    → is_ending (items.Command (command_left command owned)) ≡ false
-left_goes_on owned command h = by_test (nat_lt 0 (steps_before owned command))
+pub left_goes_on : (state : UserState) (command : Command) → 0 < turns_before state command
+    → is_ending (items.Command (command_left command state)) ≡ false
+left_goes_on state command h = by_test (nat_lt 0 (steps_before state command))
   where
     by_test : (owes : Bool) → is_ending (items.Command (cond owes command (rest_of command))) ≡ false
-    by_test true = (command_goes_on owned command h).0
-    by_test false = (command_goes_on owned command h).1
+    by_test true = (command_goes_on state command h).0
+    by_test false = (command_goes_on state command h).1

@@ -18,15 +18,15 @@ use Rattle.lj_session.specs.declared.command.Mode.{Mode}
 use Rattle.lj_session.specs.declared.command.Mode.TheVariants.{Rest, Pair}
 use Rattle.lj_session.specs.declared.command.Command.{Command}
 use Rattle.lj_session.specs.declared.command.Command.TheVariants as command
-use Rattle.lj_session.specs.declared.substance.ClassNumbers.{ClassNumbers}
-use Rattle.lj_session.specs.declared.substance.Substance.{Substance}
-use Rattle.lj_session.specs.declared.substance.Substance.TheVariants.{Pure, Mixed}
+use Rattle.lj_session.specs.declared.interactions.ClassNumbers.{ClassNumbers}
+use Rattle.lj_session.specs.declared.interactions.Interactions.{Interactions}
+use Rattle.lj_session.specs.declared.interactions.Interactions.TheVariants.{Pure, Mixed}
 use Rattle.lj_base.specs.Names.{name_of}
 use Rattle.lj_wire.specs.declared.command_line.TheConstants.{MAX_COUNT_DIGITS}
 use Rattle.lj_wire.specs.declared.item.Fault.TheVariants as fault
 use Rattle.lj_wire.specs.declared.item.Item.{Item}
 use Rattle.lj_wire.specs.declared.item.Item.TheVariants as item
-use Rattle.lj_wire.specs.declared.limits.TheConstants.{MAX_LINE_BYTES, LONG_LINE_BYTES, MAX_BODY_BYTES}
+use Rattle.lj_wire.specs.declared.line_limits.TheConstants.{MAX_LINE_BYTES, LONG_LINE_BYTES, MAX_BODY_BYTES}
 use Rattle.lj_wire.specs.declared.verb.Verb.{Verb}
 use Rattle.lj_wire.specs.declared.verb.Verb.TheVariants as verb
 use Rattle.lj_wire.specs.Displacements.{displacement_of}
@@ -103,11 +103,11 @@ mode_of word =
     else (if bytes_eq word (codes "pair") then Some Pair else None)
 
 -- a load without its body
-abbrev pub load_from : List ℕ → List ℕ → Substance → List ℕ → Option Load
-load_from s edge substance mode = do
+abbrev pub load_from : List ℕ → List ℕ → Interactions → List ℕ → Option Load
+load_from s edge interactions mode = do
   name ← name_of s
   mode ← mode_of mode
-  Some (record { name = name; edge = result_ok (nano_of edge); substance = substance; mode = mode; body = Unread })
+  Some (record { name = name; edge = result_ok (nano_of edge); interactions = interactions; mode = mode; body = Unread })
 
 -- `mode count`: the mode of a load
 abbrev pub mode_and_count : Words → Option (List ℕ)

@@ -8,7 +8,7 @@ use Rattle.lj_base.specs.Names.{name_of}
 use Rattle.lj_base.specs.Tokens.{token_of}
 use Rattle.lj_wire.specs.declared.hello.Hello.{Hello}
 use Rattle.lj_wire.specs.declared.hello.Hello.TheVariants.{Asked, Other}
-use Rattle.lj_wire.specs.declared.limits.TheConstants.{LONG_LINE_BYTES}
+use Rattle.lj_wire.specs.declared.line_limits.TheConstants.{LONG_LINE_BYTES}
 use Rattle.lj_wire.specs.declared.reader.phase.Phase.TheVariants.{Open, Over, Failed}
 use Rattle.lj_wire.specs.Input.{Input, bytes_untaken, Takes, TakesPart, ReadsFor}
 use Rattle.lj_wire.specs.Commands.{◌>>=◌, Words, is_over, words_in}

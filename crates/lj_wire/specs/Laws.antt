@@ -8,7 +8,7 @@ use Rattle.lj_session.specs.UserState.{UserState, turns_before, user_after}
 use Rattle.lj_session.specs.Owner.{command_left}
 use Rattle.lj_wire.specs.declared.item.Item.{Item}
 use Rattle.lj_wire.specs.declared.item.Item.TheVariants.{Command}
-use Rattle.lj_wire.specs.declared.limits.TheConstants.{MAX_BODY_BYTES}
+use Rattle.lj_wire.specs.declared.line_limits.TheConstants.{MAX_BODY_BYTES}
 use Rattle.lj_wire.specs.Items.{is_ending}
 use Rattle.lj_wire.specs.Commands.{body_len_announced, item_with, item_of}
 use Rattle.std.specs.List.{concat}
@@ -39,9 +39,9 @@ AlikeIsTold = (new : User) (left : Order) (old : User) (command : Order) (mark :
 
 -- An item that waits for steps does not end the connection, and neither does what remains of a command that waits for them.
 pub record WaitingGoesOn : Type 0 where
-  pub whole : (owned : UserState) (item : Item) → 0 < item_before owned item → is_ending item ≡ false
-  pub left : (owned : UserState) (command : Order) → 0 < turns_before owned command
-      → is_ending (Command (command_left command owned)) ≡ false
+  pub whole : (state : UserState) (item : Item) → 0 < item_before state item → is_ending item ≡ false
+  pub left : (state : UserState) (command : Order) → 0 < turns_before state command
+      → is_ending (Command (command_left command state)) ≡ false
 
 -- A line whose body found no memory gets the reply of a line that is refused memory.
 abbrev pub BodyMissingIsMarked : Type 0

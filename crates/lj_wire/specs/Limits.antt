@@ -1,7 +1,7 @@
 -- The limits of lines and bodies, and of the items of a connection.
 use Rattle.std.specs.Prelude.{◌≡◌, ◌^◌, refl}
 use Rattle.lj_wire.specs.declared.command_line.TheConstants.{MAX_COUNT_DIGITS}
-use Rattle.lj_wire.specs.declared.limits.TheConstants.{MAX_LINE_BYTES, LONG_LINE_BYTES, MAX_BODY_BYTES, MAX_ITEMS}
+use Rattle.lj_wire.specs.declared.line_limits.TheConstants.{MAX_LINE_BYTES, LONG_LINE_BYTES, MAX_BODY_BYTES, MAX_ITEMS}
 
 -- the line of a command has at most 256 bytes before its LF
 most_line_bytes : MAX_LINE_BYTES ≡ 256

@@ -19,6 +19,6 @@ is_one_line _ = true
 
 -- the index of the session that a reply lists: its atoms for DUMP, its branches for LIST of a session
 abbrev pub listed_session : UserState → Reply → Option ℕ
-listed_session owned (Dumped name) = position (bytes_eq name) (names owned)
-listed_session owned (ListedBranches name) = position (bytes_eq name) (names owned)
-listed_session owned _ = None
+listed_session state (Dumped name) = position (bytes_eq name) (names state)
+listed_session state (ListedBranches name) = position (bytes_eq name) (names state)
+listed_session state _ = None

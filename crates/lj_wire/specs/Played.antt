@@ -21,7 +21,7 @@ use Rattle.lj_session.specs.Users.{User, fresh_user}
 use Rattle.lj_session.specs.Answers.{command_result}
 use Rattle.lj_wire.specs.declared.item.Item.{Item}
 use Rattle.lj_wire.specs.Items.{is_ending}
-use Rattle.lj_wire.specs.declared.limits.TheConstants.{LONG_LINE_BYTES, MAX_ITEMS}
+use Rattle.lj_wire.specs.declared.line_limits.TheConstants.{LONG_LINE_BYTES, MAX_ITEMS}
 use Rattle.lj_wire.specs.Displacements.{displacement_of}
 use Rattle.lj_wire.specs.Commands.{body_len_announced, item_of, count_of, item_of_words, body_len}
 use Rattle.lj_wire.specs.Texts.{text}

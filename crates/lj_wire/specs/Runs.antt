@@ -6,6 +6,6 @@ use Rattle.lj_wire.specs.declared.item.Item.TheVariants.{Command, Bad, Last}
 
 -- the number of steps before an item is answered: those owed to the session it waits for, and its own
 abbrev pub item_before : UserState → Item → ℕ
-item_before owned (Command command) = turns_before owned command
-item_before owned (Bad fault) = 0
-item_before owned (Last fault) = 0
+item_before state (Command command) = turns_before state command
+item_before state (Bad fault) = 0
+item_before state (Last fault) = 0

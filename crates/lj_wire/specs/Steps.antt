@@ -6,11 +6,11 @@ use Rattle.lj_session.specs.declared.body.LoadBody.TheVariants.{Unread, Lost, Re
 use Rattle.lj_session.specs.declared.command.Command.TheVariants.{Load}
 use Rattle.lj_wire.specs.declared.item.Item.{Item}
 use Rattle.lj_wire.specs.declared.item.Item.TheVariants.{Command, Bad, Last}
-use Rattle.lj_wire.specs.declared.limits.TheConstants.{MAX_LINE_BYTES, LONG_LINE_BYTES}
+use Rattle.lj_wire.specs.declared.line_limits.TheConstants.{MAX_LINE_BYTES, LONG_LINE_BYTES}
 use Rattle.lj_wire.specs.declared.reader.source_input.Front.{Front}
 use Rattle.lj_wire.specs.declared.reader.source_input.Front.TheVariants as front
-use Rattle.lj_wire.specs.declared.reader.source_input.Passed.{Passed}
-use Rattle.lj_wire.specs.declared.reader.source_input.Passed.TheVariants as passed
+use Rattle.lj_wire.specs.declared.reader.source_input.SkippedLine.{SkippedLine}
+use Rattle.lj_wire.specs.declared.reader.source_input.SkippedLine.TheVariants as skipped
 use Rattle.lj_wire.specs.Input.{Input, bytes_untaken, Takes, HoldsLine, HoldsNoFeed, TakesPart, ReadsFor}
 use Rattle.lj_wire.specs.Items.{with_body}
 use Rattle.lj_wire.specs.Streams.{LacksLineFeed, IsLine, IsLineItem, IsLongItem, IsOpenBody}
@@ -44,10 +44,10 @@ pub record TakesLong (old new : Input) : Type 0 where
   pub long : length bytes ≡ LONG_LINE_BYTES
 
 -- skipped: a line of more than 256 bytes, 65,536 bytes without a line feed, or the unfinished line at the end
-abbrev pub Passes : Input → Passed → Input → Type 0
-Passes old passed.Line new = TakesLongLine old new
-Passes old passed.Long new = TakesLong old new
-Passes old passed.End new = TakesPart old new × IsAtEnd (bytes_untaken new)
+abbrev pub Skips : Input → SkippedLine → Input → Type 0
+Skips old skipped.Line new = TakesLongLine old new
+Skips old skipped.Long new = TakesLong old new
+Skips old skipped.End new = TakesPart old new × IsAtEnd (bytes_untaken new)
 
 -- fewer than `count` bytes were taken
 pub record TakesFewer (old new : Input) (count : ℕ) : Type 0 where
@@ -61,10 +61,10 @@ pub record TakesCount (old new : Input) (count : ℕ) : Type 0 where
   pub taken : Takes old new bytes
   pub counted : length bytes ≡ count
 
--- `room` was filled, or the input ended before
+-- `buf` was filled, or the input ended before
 abbrev pub Fills : Input → Bool → List ℕ → Input → Type 0
-Fills old true room new = Takes old new room
-Fills old false room new = TakesFewer old new (length room) × IsAtEnd (bytes_untaken new)
+Fills old true buf new = Takes old new buf
+Fills old false buf new = TakesFewer old new (length buf) × IsAtEnd (bytes_untaken new)
 
 -- `count` bytes were skipped, or the input ended before
 abbrev pub PassesCount : Input → Bool → ℕ → Input → Type 0

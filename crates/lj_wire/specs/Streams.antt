@@ -6,7 +6,7 @@ use Rattle.lj_session.specs.Users.{User}
 use Rattle.lj_wire.specs.declared.item.Fault.TheVariants.{Long, Enough}
 use Rattle.lj_wire.specs.declared.item.Item.{Item}
 use Rattle.lj_wire.specs.declared.item.Item.TheVariants.{Last}
-use Rattle.lj_wire.specs.declared.limits.TheConstants.{LONG_LINE_BYTES, MAX_ITEMS}
+use Rattle.lj_wire.specs.declared.line_limits.TheConstants.{LONG_LINE_BYTES, MAX_ITEMS}
 use Rattle.lj_wire.specs.Items.{is_ending}
 use Rattle.lj_wire.specs.Commands.{body_len_announced, item_of}
 use Rattle.lj_wire.specs.Texts.{is_memory}

@@ -10,11 +10,11 @@ ghost use Rattle.lj_wire.specs.Commands.{class_in, load_from, load_mix_of, load_
 
 use crate::displacement::parse_displacement;
 use crate::item::Item;
-use crate::limits::MAX_BODY_BYTES;
+use crate::line_limits::MAX_BODY_BYTES;
 use crate::verb::Verb;
 use lj_base::{Name, Words};
 use lj_fixed::{parse_nano, parse_number};
-use lj_session::{ClassNumbers, Command, Load, LoadBody, Mode, Substance};
+use lj_session::{ClassNumbers, Command, Interactions, Load, LoadBody, Mode};
 use lj_xyz::{Symbol, SymbolPair};
 
 /// The most digits of the count of a load.
@@ -104,11 +104,11 @@ fn parse_load(mut words: Words) -> Option<Command>
     let sigma = words.next()?;
     let step_factor = words.next()?;
     let mode = parse_end(words)?;
-    let substance = Substance::Pure {
+    let interactions = Interactions::Pure {
         sigma: parse_nano(sigma).ok(),
         step_factor: parse_number(step_factor),
     };
-    parse_load_from(name, edge, substance, mode)
+    parse_load_from(name, edge, interactions, mode)
 }
 
 // Parses the words after LOADMIX: a name, the edge, two symbols, three classes, the mode and the count.
@@ -120,14 +120,14 @@ fn parse_load_mix(mut words: Words) -> Option<Command>
     let first = words.next()?;
     let second = words.next()?;
     let symbols = parse_symbols(first, second)?;
-    let substance = Substance::Mixed {
+    let interactions = Interactions::Mixed {
         symbols,
         first: next_class(&mut words)?,
         unlike: next_class(&mut words)?,
         second: next_class(&mut words)?,
     };
     let mode = parse_end(words)?;
-    parse_load_from(name, edge, substance, mode)
+    parse_load_from(name, edge, interactions, mode)
 }
 
 // Takes the last two words of a load, its mode and its count, and returns the mode.
@@ -140,13 +140,18 @@ fn parse_end<'a>(mut words: Words<'a>) -> Option<&'a [u8]>
     Some(mode)
 }
 
-fn parse_load_from(name: &[u8], edge: &[u8], substance: Substance, mode: &[u8]) -> Option<Command>
-    ensures { result ≡ load_command Unread (load_from name.now edge.now substance mode.now) }
+fn parse_load_from(
+    name: &[u8],
+    edge: &[u8],
+    interactions: Interactions,
+    mode: &[u8],
+) -> Option<Command>
+    ensures { result ≡ load_command Unread (load_from name.now edge.now interactions mode.now) }
 {
     Some(Command::Load(Load {
         name: Name::parse(name)?,
         edge: parse_nano(edge).ok(),
-        substance,
+        interactions,
         mode: parse_mode(mode)?,
         body: LoadBody::Unread,
     }))

@@ -5,7 +5,7 @@ ghost use Rattle.lj_wire.specs.Ends.{Rises};
 ghost use Rattle.lj_wire.specs.declared.held_writing.TheConstants.{MAX_HELD_BYTES};
 
 use crate::asked::Writes;
-use crate::ends::{CountedWriting, Sink, WriteFault};
+use crate::source_and_sink::{CountedWriting, Sink, WriteFault};
 use std::alloc::{AllocError, Global};
 
 /// The most bytes of replies that are held back.
@@ -15,7 +15,7 @@ const MAX_HELD_BYTES: usize = 65_536;
 /// so that it is known what was handed over.
 #[derive(Drop)]
 pub struct HeldWriting<W> {
-    outlet: CountedWriting<W>,
+    counted_writer: CountedWriting<W>,
     bytes: Vec<u8>,
     sent: usize,
     ghost within: { sent ≤ vec_len bytes },
@@ -37,7 +37,7 @@ impl<W: Writes> HeldWriting<W> {
     {
         let bytes = Vec::with_capacity(alloc, MAX_HELD_BYTES)?;
         Ok(HeldWriting {
-            outlet: CountedWriting::new(writer),
+            counted_writer: CountedWriting::new(writer),
             bytes,
             sent: 0,
         })
@@ -55,7 +55,7 @@ impl<W: Writes> HeldWriting<W> {
     {
         while self.sent < self.bytes.len() {
             let (_, rest) = self.bytes.as_slice().split_at(self.sent);
-            self.sent += self.outlet.write(rest)?;
+            self.sent += self.counted_writer.write(rest)?;
         }
         self.sent = 0;
         self.bytes.clear();
@@ -102,10 +102,10 @@ impl<W: Writes> Sink for HeldWriting<W> {
     ghost use Rattle.std.specs.Io.KnownBytes.{append_known};
 
     // The bytes handed over: those written, and those held back.
-    ghost contents = { λ held. append_known (⟦<CountedWriting<W> as Sink>⟧.contents held.outlet)
+    ghost contents = { λ held. append_known (⟦<CountedWriting<W> as Sink>⟧.contents held.counted_writer)
         (drop held.sent held.bytes.items) };
 
-    ghost faults = { λ held. ⟦<CountedWriting<W> as Sink>⟧.faults held.outlet };
+    ghost faults = { λ held. ⟦<CountedWriting<W> as Sink>⟧.faults held.counted_writer };
 
     fn write(&mut self, bytes: &[u8]) -> Result<usize, WriteFault> {
         self.make_room()?;
@@ -122,6 +122,6 @@ impl<W: Writes> Sink for HeldWriting<W> {
             OnErr result (Rises (faults self.old) (faults self.new)) }
     {
         self.send()?;
-        self.outlet.flush()
+        self.counted_writer.flush()
     }
 }

@@ -3,7 +3,7 @@ ghost use Rattle.std.specs.Prelude.{◌≡◌, ◌++◌, ◌∷◌, MatchOption}
 ghost use Rattle.lj_wire.specs.Commands.{is_over, words_in};
 ghost use Rattle.lj_wire.specs.Streams.{LacksLineFeed};
 
-use crate::limits::MAX_LINE_BYTES;
+use crate::line_limits::MAX_LINE_BYTES;
 use bstr::ByteSlice;
 use lj_base::{Words, without_return};
 

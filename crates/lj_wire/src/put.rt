@@ -3,7 +3,7 @@ ghost use Rattle.std.specs.Prelude.{◌≡◌, ℕ, ◌≤◌, length, take, OnO
 ghost use Rattle.std.specs.Io.KnownBytes.{Appends};
 ghost use Rattle.lj_wire.specs.Ends.{Rises};
 
-use crate::ends::{Sink, WriteFault};
+use crate::source_and_sink::{Sink, WriteFault};
 
 #[tactic(auto, using(crate::proofs::Known::appends_front))]
 /// Writes all of `bytes`. After a fault the first of them may have been written.

@@ -6,21 +6,21 @@ ghost use Rattle.lj_wire.specs.declared.reader.phase.Phase.TheVariants.{Open};
 mod buffer;
 mod greeting;
 mod items;
-mod laws;
 mod load_body;
 mod phase;
+mod reader_laws;
 mod source_input;
 
-use crate::ends::{ReadFault, Source};
 use crate::hello::Hello;
 use crate::item::{Fault, Item};
-use crate::limits::MAX_ITEMS;
 use crate::line::{split_line, words_in};
+use crate::line_limits::MAX_ITEMS;
+use crate::source_and_sink::{ReadFault, Source};
 use crate::verb::is_load;
 use greeting::read_hello;
 use items::read_item;
-pub use laws::{handed_are_all, handed_come_first, lost_is_marked};
 pub use phase::Phase;
+pub use reader_laws::{handed_are_all, handed_come_first, lost_is_marked};
 use source_input::Input;
 use std::alloc::Global;
 use std::marker::Model;
@@ -37,7 +37,7 @@ pub struct LineReader<S: Source> {
 
 impl<S: Source> Model for LineReader<S> {
     ghost use Rattle.std.specs.Prelude.{◌≡◌, ◌+◌, ◌≤◌};
-    ghost use Rattle.lj_wire.specs.declared.limits.TheConstants.{MAX_ITEMS};
+    ghost use Rattle.lj_wire.specs.declared.line_limits.TheConstants.{MAX_ITEMS};
     ghost use Rattle.lj_wire.specs.declared.reader.phase.Phase.TheVariants.{Open};
     ghost use Rattle.lj_wire.specs.Input.{bytes_untaken};
     ghost use Rattle.lj_wire.specs.LineReader.{LineReader};

@@ -7,8 +7,8 @@ ghost use Rattle.lj_wire.specs.Commands.{counted_item, item_or_syntax, over_item
 
 use crate::command_line::{parse_count, parse_words, put_show};
 use crate::item::{Fault, Item};
-use crate::limits::LONG_LINE_BYTES;
 use crate::line::{is_over, words_in};
+use crate::line_limits::LONG_LINE_BYTES;
 use crate::verb::Verb;
 use lj_base::Words;
 

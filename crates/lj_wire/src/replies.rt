@@ -9,7 +9,7 @@ ghost use Rattle.lj_ring.specs.Mix.{edge_of};
 ghost use Rattle.lj_session.specs.Refusals.{refusal_text};
 ghost use Rattle.lj_branch.specs.Named.{value_named};
 ghost use Rattle.lj_session.specs.Users.{User};
-ghost use Rattle.lj_session.specs.UserState.{held_session_at, names, user_of, session_meant};
+ghost use Rattle.lj_session.specs.UserState.{live_session_at, names, user_of, settled_session};
 ghost use Rattle.lj_session.specs.Owner.{IsSettled};
 ghost use Rattle.lj_wire.specs.Texts.{ok_line, ended_line, text, reply_lines, line_of, session_line, session_lines, branch_line};
 ghost use Rattle.lj_wire.specs.Texts.{branch_lines, dump_lines, atom_lines};
@@ -305,8 +305,8 @@ fn branch_line(line: &mut Line, branches: &Branches, i: usize)
 /// Writes the line of an atom in a frame of the i-th session.
 fn atom_line(line: &mut Line, state: &UserState, i: usize, atom: usize)
     requires session { i < length state.now.sessions }
-    requires atom { ForSome (held_session_at state.now i) (λ held. atom < length held.live.sim.cur) }
-    ensures { IfSome (held_session_at state.now i) (λ held.
+    requires atom { ForSome (live_session_at state.now i) (λ held. atom < length held.live.sim.cur) }
+    ensures { IfSome (live_session_at state.now i) (λ held.
         Some line.new.items
         ≡ slice_get (atom_lines (edge_of held.live.composition.mix) held.symbols held.live.sim.cur) atom) }
 {
@@ -385,9 +385,9 @@ fn list_line(line: &mut Line, state: &UserState, k: usize) -> Option<()>
 /// Writes line k of the reply to LIST of the i-th session, which has this name. None past the last line.
 fn branches_line(line: &mut Line, state: &UserState, i: usize, name: &Name, k: usize) -> Option<()>
     requires { i < length state.now.sessions }
-    ensures text { IfSome (held_session_at state.now i) (λ held.
+    ensures text { IfSome (live_session_at state.now i) (λ held.
         option_map (λ _. line.new.items) result
-        ≡ slice_get (branch_lines name.now (Some (session_meant held))) k) }
+        ≡ slice_get (branch_lines name.now (Some (settled_session held))) k) }
     ensures unchanged { IfNone result (line.new ≡ line.old) }
 {
     let branches = state.branches_at(i);
@@ -406,10 +406,10 @@ fn branches_line(line: &mut Line, state: &UserState, i: usize, name: &Name, k: u
 /// Writes line k of the reply to DUMP of the i-th session, which has this name and is owed no step. None past the last line.
 fn dump_line(line: &mut Line, state: &UserState, i: usize, name: &Name, k: usize) -> Option<()>
     requires session { i < length state.now.sessions }
-    requires settled { ForSome (held_session_at state.now i) (λ held. held.owed ≡ 0) }
-    ensures text { IfSome (held_session_at state.now i) (λ held.
+    requires settled { ForSome (live_session_at state.now i) (λ held. held.owed ≡ 0) }
+    ensures text { IfSome (live_session_at state.now i) (λ held.
         option_map (λ _. line.new.items) result
-        ≡ slice_get (dump_lines name.now (Some (session_meant held))) k) }
+        ≡ slice_get (dump_lines name.now (Some (settled_session held))) k) }
     ensures unchanged { IfNone result (line.new ≡ line.old) }
 {
     let sim = state.sim_at(i);

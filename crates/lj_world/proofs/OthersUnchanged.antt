@@ -1,8 +1,8 @@
 -- An event that is not a user's own changes nothing of that user.
 use Rattle.std.proofs.Common.{◌≡◌, ◌≢◌, ℕ, zero, suc, true, false, cond, nat_eq, List, [], ◌∷◌, slice_get, slice_set, slice_index_or, Option, Some, None, option_map, option_and_then, ◌⊎◌, inl, inr, refl, sym, ◌∙◌, ap, ne_eqb, get_or-set_other}
 use Rattle.std.proofs.lemmas.Bool.Decides.{eqb_tells}
-use Rattle.lj_session.specs.UserState.{state_at_rest}
-use Rattle.lj_access.specs.Rows.{Row, with_ticket, without_home, with_home}
+use Rattle.lj_session.specs.UserState.{with_steps_restarted}
+use Rattle.lj_access.specs.Rows.{UserRow, with_ticket, without_home, with_home}
 use Rattle.lj_world.specs.declared.event.Event.{Event}
 use Rattle.lj_world.specs.declared.event.Event.TheVariants.{Hello, At, By}
 use Rattle.lj_world.specs.declared.transcript.Entry.{Entry}
@@ -60,11 +60,11 @@ other_replied user reply c connection None differs r e = not_replied user reply 
 other_replied user reply c connection (Some text) differs r e = differs (same_some connection.user user (ap (option_map (λ x. x.user)) (sym r) ∙ e))
 
 -- a connection stays its user's, and leaves the rows of all others
-own : (user : ℕ) (connection : Connection) (rows : List Row) (new : Connection) (after : List Row) → TicketChange connection rows new after
+own : (user : ℕ) (connection : Connection) (rows : List UserRow) (new : Connection) (after : List UserRow) → TicketChange connection rows new after
     → (new.user ≡ connection.user) × (connection.user ≢ user → slice_get after user ≡ slice_get rows user)
 own user connection rows new after (stays _ kept) = (kept.user, λ differs. refl)
 own user connection rows new after (enters owner row there may) = (refl, row_other rows connection.user without_home user)
-own user connection rows new after (leaves owner owns) = (refl, row_other rows connection.user (with_home (state_at_rest owner.state)) user)
+own user connection rows new after (leaves owner owns) = (refl, row_other rows connection.user (with_home (with_steps_restarted owner.state)) user)
 
 -- no row and no connection changes
 front_stays : (user : ℕ) (old new : Machine) (reply : Option Entry) → reply ≡ None → new.rows ≡ old.rows → new.connections ≡ old.connections → Untouched user old reply new

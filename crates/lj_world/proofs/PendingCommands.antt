@@ -7,8 +7,8 @@ use Rattle.std.proofs.lemmas.Slice.Eq.{bytes_eq-Decides}
 use Rattle.lj_session.specs.declared.command.Command.{Command as Order}
 use Rattle.lj_session.specs.declared.command.Command.TheVariants.{Measure}
 use Rattle.lj_session.specs.Turns.{turns, waits_for}
-use Rattle.lj_session.specs.UserState.{HeldSession, with_session_changed, held_session, owed_in, steps_before, turns_before, is_whole_in, is_measured}
-use Rattle.lj_session.specs.UserState.{is_whole_session, with_step_passed}
+use Rattle.lj_session.specs.UserState.{LiveSession, with_session_changed, live_session, owed_in, steps_before, turns_before, is_whole_in, is_measured}
+use Rattle.lj_session.specs.UserState.{is_whole_session, with_step_finished}
 use Rattle.lj_session.specs.Owner.{Owner, user_in, with_state, owner_begun, owner_begun_again, command_left, is_waited_for, owner_turned}
 use Rattle.lj_session.specs.Owner.{IsLastTurn}
 use Rattle.lj_session.specs.Laws.{BegunWaitsAlike}
@@ -38,10 +38,10 @@ waited_name command name h = by (waits_for command) refl
         ap (λ n. Some n) ((bytes_eq-Decides session name).0 same)
 
 there : (owner : Owner) (name : List ℕ) → is_whole_in owner.state name ≡ true
-    → (held : HeldSession) × (held_session owner.state name ≡ Some held)
-there owner name whole = by (held_session owner.state name) refl
+    → (held : LiveSession) × (live_session owner.state name ≡ Some held)
+there owner name whole = by (live_session owner.state name) refl
   where
-    by : (o : Option HeldSession) → held_session owner.state name ≡ o → (held : HeldSession) × (o ≡ Some held)
+    by : (o : Option LiveSession) → live_session owner.state name ≡ o → (held : LiveSession) × (o ≡ Some held)
     by None e = absurd (true≢false (sym (ap is_whole_session (sym e) ∙ whole)))
     by (Some held) e = (held, refl)
 
@@ -96,7 +96,7 @@ module _ (alike : AlikeIsTold) (begins : BegunWaitsAlike) where
   turn_goes_on session owner name can more = by_test (is_waited_for owner.waiting name) waited other
     where
       passed : Owner
-      passed = with_state (with_session_changed name with_step_passed owner.state) owner
+      passed = with_state (with_session_changed name with_step_finished owner.state) owner
 
       some : 0 < owed_in owner.state name
       some = turn_owed session owner name can more

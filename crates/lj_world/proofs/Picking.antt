@@ -3,7 +3,7 @@ use Rattle.std.proofs.Common.{ℕ, Option, refl, sym, subst, inl, inr}
 use Rattle.std.proofs.lemmas.Bool.{cases_eq}
 use Rattle.lj_tile.specs.Task.{Task}
 use Rattle.lj_book.specs.Picks.{IsPick}
-use Rattle.lj_book.specs.declared.entries.Entry.{Entry}
+use Rattle.lj_book.specs.declared.book_entry.Entry.{Entry}
 use Rattle.lj_book.specs.Book.{Book, Puts}
 use Rattle.lj_world.specs.declared.event.WorkerEvent.{WorkerEvent}
 use Rattle.lj_world.specs.declared.event.WorkerEvent.TheVariants.{Take, Compute, Give, HandBack}

@@ -6,7 +6,7 @@ use Rattle.std.proofs.lemmas.List.{map-append}
 use Rattle.std.proofs.lemmas.List.Elements.{filter-append}
 use Rattle.lj_session.specs.Users.{User}
 use Rattle.lj_session.specs.UserState.{UserState}
-use Rattle.lj_access.specs.Rows.{Row, is_of, user_with, with_row_changed, with_ticket, without_home, with_home}
+use Rattle.lj_access.specs.Rows.{UserRow, is_of, user_with, with_row_changed, with_ticket, without_home, with_home}
 use Rattle.lj_world.specs.Machine.{Machine, Connection, connection_at, new_connection}
 use Rattle.lj_world.specs.Transitions.{HelloTransition}
 use Rattle.lj_world.specs.Scripts.{ConnectionHistory}
@@ -18,9 +18,9 @@ use Rattle.lj_world.proofs.RowLemmas.{row_changed, row_other, users_stay, WasRea
 use Rattle.lj_world.proofs.RunInvariant.{RunInvariant, Distinct, Same, Renewed, renewed, distinct_changed, logged_changed}
 
 -- a change of a row that leaves its name, its token and its tickets that were granted
-pub record LeavesTickets (change : Row → Row) : Type 0 where
-  pub known : (name token : List ℕ) (row : Row) → is_of name token (change row) ≡ is_of name token row
-  pub granted : (row : Row) → (change row).granted ≡ row.granted
+pub record LeavesTickets (change : UserRow → UserRow) : Type 0 where
+  pub known : (name token : List ℕ) (row : UserRow) → is_of name token (change row) ≡ is_of name token row
+  pub granted : (row : UserRow) → (change row).granted ≡ row.granted
 
 pub lent_leaves : LeavesTickets without_home
 lent_leaves = record { known = λ name token row. refl; granted = λ row. refl }
@@ -29,8 +29,8 @@ pub home_leaves : (state : UserState) → LeavesTickets (with_home state)
 home_leaves state = record { known = λ name token row. refl; granted = λ row. refl }
 
 -- a connection and the row of its user change
-pub row_change_keeps : (rows : List Row) (user : ℕ) (from : User) (s t : Machine) (hs : List ConnectionHistory) (texts : Texts) (k : RunInvariant rows user from s hs texts)
-    (c : ℕ) (log x : ConnectionLog) (change : Row → Row) → found c k.logs ≡ Some log → Same log x → history_of x ≡ history_of log → LeavesTickets change
+pub row_change_keeps : (rows : List UserRow) (user : ℕ) (from : User) (s t : Machine) (hs : List ConnectionHistory) (texts : Texts) (k : RunInvariant rows user from s hs texts)
+    (c : ℕ) (log x : ConnectionLog) (change : UserRow → UserRow) → found c k.logs ≡ Some log → Same log x → history_of x ≡ history_of log → LeavesTickets change
     → t.rows ≡ with_row_changed log.connection.user change s.rows → t.connections ≡ slice_set s.connections c (Some x.connection)
     → (log.connection.user ≡ user → (queue : List ConnectionLog) → Changes c log x (queue_in user k.logs) queue
     → QueueInvariant from (change k.row).past (change k.row).home queue texts)
@@ -52,10 +52,10 @@ row_change_keeps rows user from s t hs texts k c log x change is_found same unre
     r : Renewed k.logs c log x
     r = renewed k c log x is_found same
 
-    granted_is : (v : ℕ) (row : Row) → slice_get t.rows v ≡ Some row → row.granted ≡ length (queue_in v r.new)
+    granted_is : (v : ℕ) (row : UserRow) → slice_get t.rows v ≡ Some row → row.granted ≡ length (queue_in v r.new)
     granted_is v row e = by (read_changed s.rows log.connection.user change v row (sym (ap (λ r. slice_get r v) rows_are) ∙ e))
       where
-        as_was : (was : Row) → slice_get s.rows v ≡ Some was → row.granted ≡ was.granted → row.granted ≡ length (queue_in v r.new)
+        as_was : (was : UserRow) → slice_get s.rows v ≡ Some was → row.granted ≡ was.granted → row.granted ≡ length (queue_in v r.new)
         as_was was is g = g ∙ k.granted v was is ∙ sym (r.lengths v)
 
         by : WasRead s.rows log.connection.user change v row → row.granted ≡ length (queue_in v r.new)
@@ -63,12 +63,12 @@ row_change_keeps rows user from s t hs texts k c log x change is_found same unre
         by (was, is, inr (inl (_, e))) = as_was was is (ap (λ z. z.granted) e)
         by (was, is, inr (inr (_, e))) = as_was was is (ap (λ z. z.granted) e)
 
-    mine : (row : Row) × (slice_get (with_row_changed log.connection.user change s.rows) user ≡ Some row)
+    mine : (row : UserRow) × (slice_get (with_row_changed log.connection.user change s.rows) user ≡ Some row)
         × QueueInvariant from row.past row.home (queue_in user r.new) texts × Numbered 0 (queue_in user r.new)
     mine = by (eqb_tells log.connection.user user)
       where
         by : ((nat_eq log.connection.user user ≡ true) × (log.connection.user ≡ user)) ⊎ ((nat_eq log.connection.user user ≡ false) × (log.connection.user ≢ user))
-            → (row : Row) × (slice_get (with_row_changed log.connection.user change s.rows) user ≡ Some row)
+            → (row : UserRow) × (slice_get (with_row_changed log.connection.user change s.rows) user ≡ Some row)
             × QueueInvariant from row.past row.home (queue_in user r.new) texts × Numbered 0 (queue_in user r.new)
         by (inl (e, is)) =
             let queue_ch = queue_changes user c log x k.logs r.new r.changes e same.user in (
@@ -124,7 +124,7 @@ queue_pushed v logs x b e = filter-append (λ log. nat_eq log.connection.user v)
 abbrev pub new_log : ℕ → ℕ → ℕ → ConnectionLog
 new_log c user number = record { id = c; items = []; connection = new_connection user number }
 
-pub hello_adds_log : (rows : List Row) (user : ℕ) (from : User) (s t : Machine) (hs : List ConnectionHistory) (texts : Texts) (k : RunInvariant rows user from s hs texts)
+pub hello_adds_log : (rows : List UserRow) (user : ℕ) (from : User) (s t : Machine) (hs : List ConnectionHistory) (texts : Texts) (k : RunInvariant rows user from s hs texts)
     (c : ℕ) (name token : List ℕ) (p : HelloTransition s c name token t)
     → RunInvariant rows user from t (hs ++ history_of (new_log c p.user p.row.granted) ∷ []) texts
 hello_adds_log rows user from s t hs texts k c name token p = record {
@@ -168,7 +168,7 @@ hello_adds_log rows user from s t hs texts k c name token p = record {
             ap (λ ts. slice_index_or ts d None) connections ∙ get_or-set_other s.connections c d (Some x.connection) None (λ h. differs (sym h)) ∙ k.logged d
             ∙ sym (after ∙ ap (λ b. option_map (λ log. log.connection) (cond b (Some x) (found d k.logs))) e)
 
-    granted_is : (v : ℕ) (row : Row) → slice_get t.rows v ≡ Some row → row.granted ≡ length (queue_in v (k.logs ++ x ∷ []))
+    granted_is : (v : ℕ) (row : UserRow) → slice_get t.rows v ≡ Some row → row.granted ≡ length (queue_in v (k.logs ++ x ∷ []))
     granted_is v row e = by (read_changed s.rows p.user with_ticket v row (sym (ap (λ r. slice_get r v) rows_are) ∙ e))
       where
         by : WasRead s.rows p.user with_ticket v row → row.granted ≡ length (queue_in v (k.logs ++ x ∷ []))
@@ -181,18 +181,18 @@ hello_adds_log rows user from s t hs texts k c name token p = record {
             ap (λ z. z.granted) r ∙ k.granted v was is ∙ sym (ap length (queue ∙ append-nil (queue_in v k.logs)))
         by (was, is, inr (inr (absent, r))) = absurd (none_some p.row (sym absent ∙ p.there))
           where
-            none_some : (a : Row) → None ≡ Some a → ⊥
+            none_some : (a : UserRow) → None ≡ Some a → ⊥
             none_some a h = cc
 
-    mine : (row : Row) × (slice_get (with_row_changed p.user with_ticket s.rows) user ≡ Some row)
+    mine : (row : UserRow) × (slice_get (with_row_changed p.user with_ticket s.rows) user ≡ Some row)
         × QueueInvariant from row.past row.home (queue_in user (k.logs ++ x ∷ [])) texts × Numbered 0 (queue_in user (k.logs ++ x ∷ []))
     mine = by (eqb_tells p.user user)
       where
-        same_row : (a b : Row) → Some a ≡ Some b → a ≡ b
+        same_row : (a b : UserRow) → Some a ≡ Some b → a ≡ b
         same_row a b h = cc
 
         by : ((nat_eq p.user user ≡ true) × (p.user ≡ user)) ⊎ ((nat_eq p.user user ≡ false) × (p.user ≢ user))
-            → (row : Row) × (slice_get (with_row_changed p.user with_ticket s.rows) user ≡ Some row)
+            → (row : UserRow) × (slice_get (with_row_changed p.user with_ticket s.rows) user ≡ Some row)
             × QueueInvariant from row.past row.home (queue_in user (k.logs ++ x ∷ [])) texts × Numbered 0 (queue_in user (k.logs ++ x ∷ []))
         by (inl (e, is)) =
             let queue = queue_pushed user k.logs x true e in

@@ -2,7 +2,7 @@
 use Rattle.std.proofs.Common.{◌≡◌, ◌≢◌, ℕ, zero, suc, ◌+◌, Bool, not, cond, nat_lt, List, [], ◌∷◌, slice_get, slice_set, position, Option, Some, None, nat_eq, true, false, ◌⊎◌, inl, inr, refl, sym, ◌∙◌, ap, ap₂, length-set}
 use Rattle.std.proofs.lemmas.Bool.Decides.{eqb_tells}
 use Rattle.std.specs.List.{prefix_len}
-use Rattle.lj_access.specs.Rows.{Row, is_of, user_with, with_row_changed, with_row_changed_to}
+use Rattle.lj_access.specs.Rows.{UserRow, is_of, user_with, with_row_changed, with_row_changed_to}
 
 no_row : {A : Type 0} (x : A) → None ≡ Some x → ⊥
 no_row x e = cc
@@ -34,37 +34,37 @@ position_set {A} p xs i old new e same =
     ap₂ (λ n l. cond (nat_lt n l) (Some n) None) (prefix_set (λ x. not (p x)) xs i old new e (ap not same)) (length-set {A = A} xs i new)
 
 -- the row that is changed
-pub row_changed : (rows : List Row) (user : ℕ) (change : Row → Row) (row : Row) → slice_get rows user ≡ Some row
+pub row_changed : (rows : List UserRow) (user : ℕ) (change : UserRow → UserRow) (row : UserRow) → slice_get rows user ≡ Some row
     → slice_get (with_row_changed user change rows) user ≡ Some (change row)
 row_changed rows user change row e =
     ap (λ o. slice_get (with_row_changed_to user change o rows) user) e ∙ set_same rows user row (change row) e
 
 -- and every other as it was
-pub row_other : (rows : List Row) (user : ℕ) (change : Row → Row) (other : ℕ) → user ≢ other
+pub row_other : (rows : List UserRow) (user : ℕ) (change : UserRow → UserRow) (other : ℕ) → user ≢ other
     → slice_get (with_row_changed user change rows) other ≡ slice_get rows other
 row_other rows user change other differs = by (slice_get rows user)
   where
-    by : (o : Option Row) → slice_get (with_row_changed_to user change o rows) other ≡ slice_get rows other
+    by : (o : Option UserRow) → slice_get (with_row_changed_to user change o rows) other ≡ slice_get rows other
     by None = refl
     by (Some row) = set_other rows user other (change row) differs
 
 -- a change that leaves names and tokens leaves who is known by them
-pub users_stay : (rows : List Row) (user : ℕ) (change : Row → Row) (name token : List ℕ)
-    → ((row : Row) → is_of name token (change row) ≡ is_of name token row) → user_with (with_row_changed user change rows) name token ≡ user_with rows name token
+pub users_stay : (rows : List UserRow) (user : ℕ) (change : UserRow → UserRow) (name token : List ℕ)
+    → ((row : UserRow) → is_of name token (change row) ≡ is_of name token row) → user_with (with_row_changed user change rows) name token ≡ user_with rows name token
 users_stay rows user change name token same = by (slice_get rows user) refl
   where
-    by : (o : Option Row) → slice_get rows user ≡ o → user_with (with_row_changed_to user change o rows) name token ≡ user_with rows name token
+    by : (o : Option UserRow) → slice_get rows user ≡ o → user_with (with_row_changed_to user change o rows) name token ≡ user_with rows name token
     by None e = refl
     by (Some row) e = position_set (is_of name token) rows user row (change row) e (same row)
 
 -- what was there before a change of a row, and whether it was changed
-abbrev pub WasRead : List Row → ℕ → (Row → Row) → ℕ → Row → Type 0
+abbrev pub WasRead : List UserRow → ℕ → (UserRow → UserRow) → ℕ → UserRow → Type 0
 WasRead rows user change other row =
-    (was : Row) × (slice_get rows other ≡ Some was)
+    (was : UserRow) × (slice_get rows other ≡ Some was)
     × ((user ≡ other) × (row ≡ change was) ⊎ (user ≢ other) × (row ≡ was) ⊎ (slice_get rows user ≡ None) × (row ≡ was))
 
-read_same : (rows : List Row) (user : ℕ) (change : Row → Row) (other : ℕ) (row : Row) → slice_get (with_row_changed user change rows) other ≡ Some row
-    → (o : Option Row) → slice_get rows user ≡ o → user ≡ other → WasRead rows user change other row
+read_same : (rows : List UserRow) (user : ℕ) (change : UserRow → UserRow) (other : ℕ) (row : UserRow) → slice_get (with_row_changed user change rows) other ≡ Some row
+    → (o : Option UserRow) → slice_get rows user ≡ o → user ≡ other → WasRead rows user change other row
 read_same rows user change other row e None none same =
     (row, sym (ap (λ o. slice_get (with_row_changed_to user change o rows) other) none) ∙ e, inr (inr (none, refl)))
 read_same rows user change other row e (Some was) is same =
@@ -74,7 +74,7 @@ read_same rows user change other row e (Some was) is same =
     (was, read, inl (same, same_row row (change was) (sym e ∙ new)))
 
 -- what is read after a change was there before
-pub read_changed : (rows : List Row) (user : ℕ) (change : Row → Row) (other : ℕ) (row : Row) → slice_get (with_row_changed user change rows) other ≡ Some row
+pub read_changed : (rows : List UserRow) (user : ℕ) (change : UserRow → UserRow) (other : ℕ) (row : UserRow) → slice_get (with_row_changed user change rows) other ≡ Some row
     → WasRead rows user change other row
 read_changed rows user change other row e = by (eqb_tells user other)
   where

@@ -1,15 +1,15 @@
 -- The rows of users where one changes, and connections with their rows.
 use Rattle.std.proofs.Common.{◌≡◌, ◌≢◌, ℕ, ◌<◌, List, length, set, get_or, slice_get, Option, Some, None, ap, ◌∙◌, sym, subst, inl, inr, length-set, get_or-set_same, get_or-set_other}
 use Rattle.std.proofs.lemmas.Bool.{cases_eq}
-use Rattle.lj_access.specs.Rows.{Row, HasEntered, with_row_changed}
+use Rattle.lj_access.specs.Rows.{UserRow, HasEntered, with_row_changed}
 use Rattle.lj_world.specs.Machine.{Connection, Worker}
 use Rattle.lj_world.specs.KnownConnections.{IsRowOf, HasRow, KeepsTicket}
 use Rattle.lj_world.specs.Machines.{IsMachine}
 use Rattle.lj_world.proofs.RowLemmas.{row_changed, row_other}
 
 -- a connection whose row changes has the changed row, where that fits
-pub has_changed : (rows : List Row) (user : ℕ) (change : Row → Row) (connection : Connection) → HasRow rows connection
-    → ((row : Row) → slice_get rows user ≡ Some row → connection.user ≡ user → IsRowOf connection row → IsRowOf connection (change row))
+pub has_changed : (rows : List UserRow) (user : ℕ) (change : UserRow → UserRow) (connection : Connection) → HasRow rows connection
+    → ((row : UserRow) → slice_get rows user ≡ Some row → connection.user ≡ user → IsRowOf connection row → IsRowOf connection (change row))
     → HasRow (with_row_changed user change rows) connection
 has_changed rows user change connection has fits =
     elim (cases_eq connection.user user) [
@@ -20,7 +20,7 @@ has_changed rows user change connection has fits =
     ]
 
 -- a connection that has a row has it too where it stays
-pub stays_has : (rows : List Row) (old new : Connection) → KeepsTicket old new → HasRow rows old → HasRow rows new
+pub stays_has : (rows : List UserRow) (old new : Connection) → KeepsTicket old new → HasRow rows old → HasRow rows new
 stays_has rows old new stays has = (
   has.0,
   ap (slice_get rows) stays.user ∙ has.1,
@@ -31,7 +31,7 @@ stays_has rows old new stays has = (
 )
 
 -- a slot is written with a connection
-pub put_connection : (rows after : List Row) (connections : List (Option Connection)) (workers : List (Option Worker)) (c : ℕ) (connection : Connection)
+pub put_connection : (rows after : List UserRow) (connections : List (Option Connection)) (workers : List (Option Worker)) (c : ℕ) (connection : Connection)
     → IsMachine rows connections workers → c < length connections → HasRow after connection
     → ((d : ℕ) (other : Connection) → d ≢ c → get_or connections d None ≡ Some other → HasRow after other)
     → ((d : ℕ) (other : Connection) → d ≢ c → get_or connections d None ≡ Some other → other.user ≡ connection.user → other.number ≢ connection.number)

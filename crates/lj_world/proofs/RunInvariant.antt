@@ -4,7 +4,7 @@ use Rattle.std.proofs.Common.{◌≡◌, ◌≢◌, ℕ, zero, suc, ◌<◌, Boo
 use Rattle.std.proofs.lemmas.Bool.{eqb-false}
 use Rattle.std.proofs.lemmas.Bool.Decides.{eqb_tells}
 use Rattle.lj_session.specs.Users.{User}
-use Rattle.lj_access.specs.Rows.{Row, user_with}
+use Rattle.lj_access.specs.Rows.{UserRow, user_with}
 use Rattle.lj_world.specs.Machine.{Machine, Connection, connection_at}
 use Rattle.lj_world.specs.Scripts.{ConnectionHistory}
 use Rattle.lj_world.proofs.Answering.{Texts}
@@ -27,15 +27,15 @@ distinct_changed c log x logs new (there {other} {queue = rest} {new = changed} 
 
 -- The invariant for a user that begins from a value: a state, the histories and the replies so far. The rows are those in
 -- which the run began.
-pub record RunInvariant (rows : List Row) (user : ℕ) (from : User) (s : Machine) (hs : List ConnectionHistory) (texts : Texts) : Type 0 where
+pub record RunInvariant (rows : List UserRow) (user : ℕ) (from : User) (s : Machine) (hs : List ConnectionHistory) (texts : Texts) : Type 0 where
   pub logs : List ConnectionLog
   pub histories_are : hs ≡ map history_of logs
   pub connection_slots : length s.connections ≡ 65
   pub logged : (c : ℕ) → connection_at s c ≡ option_map (λ log. log.connection) (found c logs)
   pub distinct : Distinct logs
   pub names : (name token : List ℕ) → user_with s.rows name token ≡ user_with rows name token
-  pub granted : (v : ℕ) (row : Row) → slice_get s.rows v ≡ Some row → row.granted ≡ length (queue_in v logs)
-  pub row : Row
+  pub granted : (v : ℕ) (row : UserRow) → slice_get s.rows v ≡ Some row → row.granted ≡ length (queue_in v logs)
+  pub row : UserRow
   pub there_is : slice_get s.rows user ≡ Some row
   pub queue_is_valid : QueueInvariant from row.past row.home (queue_in user logs) texts
   pub numbered : Numbered 0 (queue_in user logs)
@@ -112,7 +112,7 @@ pub record Renewed (logs : List ConnectionLog) (c : ℕ) (log x : ConnectionLog)
   pub within : c < 65
   pub lengths : (v : ℕ) → length (queue_in v new) ≡ length (queue_in v logs)
 
-pub renewed : {rows : List Row} {user : ℕ} {from : User} {s : Machine} {hs : List ConnectionHistory} {texts : Texts} (k : RunInvariant rows user from s hs texts)
+pub renewed : {rows : List UserRow} {user : ℕ} {from : User} {s : Machine} {hs : List ConnectionHistory} {texts : Texts} (k : RunInvariant rows user from s hs texts)
     (c : ℕ) (log x : ConnectionLog) → found c k.logs ≡ Some log → Same log x → Renewed k.logs c log x
 renewed {s} k c log x is_found same = record { new = changed.0; changes = changed.1; within = slot; lengths = lengths_stay }
   where
@@ -130,7 +130,7 @@ renewed {s} k c log x is_found same = record { new = changed.0; changes = change
         by false e = ap length (queue_stays v c log x k.logs changed.0 changed.1 e same.user)
 
 -- a connection goes on, and all rows stay
-pub change_keeps : (rows : List Row) (user : ℕ) (from : User) (s t : Machine) (hs new_hs : List ConnectionHistory) (texts : Texts) (k : RunInvariant rows user from s hs texts)
+pub change_keeps : (rows : List UserRow) (user : ℕ) (from : User) (s t : Machine) (hs new_hs : List ConnectionHistory) (texts : Texts) (k : RunInvariant rows user from s hs texts)
     (c : ℕ) (log x : ConnectionLog) (reply : Option (List ℕ)) → found c k.logs ≡ Some log → ConnectionChange log reply x → t.rows ≡ s.rows
     → t.connections ≡ slice_set s.connections c (Some x.connection) → ((new : List ConnectionLog) → Changes c log x k.logs new → new_hs ≡ map history_of new)
     → RunInvariant rows user from t new_hs (grown texts (reply_if (nat_eq log.connection.user user) reply))

@@ -9,7 +9,7 @@ use Rattle.lj_wire.specs.Texts.{is_memory}
 use Rattle.lj_wire.specs.Told.{texts}
 use Rattle.lj_wire.specs.Laws.{MarkIsTold}
 use Rattle.lj_access.specs.declared.user.User.{User}
-use Rattle.lj_access.specs.Rows.{Row, first_row}
+use Rattle.lj_access.specs.Rows.{UserRow, first_row}
 use Rattle.lj_world.specs.declared.event.Event.{Event}
 use Rattle.lj_world.specs.declared.transcript.Entry.{Entry}
 use Rattle.lj_world.specs.Machine.{Machine, Connection, start}
@@ -37,7 +37,7 @@ replies_grow user reply_texts (Some e) later = by (nat_eq e.user user)
     by true = append_assoc reply_texts (e.text ∷ []) (replies user later)
     by false = refl
 
-module _ (laws : PendingCommandLaws) (rows : List Row) (user : ℕ) (from : Value) where
+module _ (laws : PendingCommandLaws) (rows : List UserRow) (user : ℕ) (from : Value) where
   -- a run keeps the invariant
   pub run_keeps : (events : List Event) (s t : Machine) (hs : List ConnectionHistory) (reply_texts : Texts) (entries : List Entry) (k : RunInvariant rows user from s hs reply_texts)
       → Run s events entries t → RunInvariant rows user from t (fold (histories_after rows) hs events) (reply_texts ++ replies user entries)
@@ -60,14 +60,14 @@ no_connection zero c = refl
 no_connection (suc n) zero = refl
 no_connection (suc n) (suc c) = no_connection n c
 
-opened : (o : Option User) (row : Row) → option_map first_row o ≡ Some row → row.granted ≡ 0
+opened : (o : Option User) (row : UserRow) → option_map first_row o ≡ Some row → row.granted ≡ 0
 opened None row e = absurd (none_some row e)
   where
-    none_some : (a : Row) → None ≡ Some a → ⊥
+    none_some : (a : UserRow) → None ≡ Some a → ⊥
     none_some a h = cc
 opened (Some user) row e = sym (ap (λ r. r.granted) (same (first_row user) row e))
   where
-    same : (a b : Row) → Some a ≡ Some b → a ≡ b
+    same : (a b : UserRow) → Some a ≡ Some b → a ≡ b
     same a b h = cc
 
 -- the user of a quota
@@ -105,7 +105,7 @@ take_front [] ys = refl
 take_front (x ∷ xs) ys = ap (λ l. x ∷ l) (take_front xs ys)
 
 -- the items of a script are those of the queue
-pub script_items : (rows : List Row) (user : ℕ) (from : Value) (t : Machine) (hs : List ConnectionHistory) (reply_texts : Texts) (k : RunInvariant rows user from t hs reply_texts)
+pub script_items : (rows : List UserRow) (user : ℕ) (from : Value) (t : Machine) (hs : List ConnectionHistory) (reply_texts : Texts) (k : RunInvariant rows user from t hs reply_texts)
     → items_joined (histories_of user hs) ≡ items_in (queue_in user k.logs)
 script_items rows user from t hs reply_texts k = ap (λ h. items_joined (histories_of user h)) k.histories_are ∙ ap items_joined (queue_histories user k.logs)
 

@@ -6,12 +6,12 @@ use Rattle.std.proofs.lemmas.Option.{slice_get-get_or}
 use Rattle.std.specs.List.{list_any}
 use Rattle.lj_tile.specs.Task.{Task}
 use Rattle.lj_session.specs.Users.{User}
-use Rattle.lj_session.specs.UserState.{state_at_rest}
+use Rattle.lj_session.specs.UserState.{with_steps_restarted}
 use Rattle.lj_session.specs.Owner.{Owner, user_in, owner_of_state, command_left, with_task_posted}
 use Rattle.lj_session.specs.Laws.{AcceptKeepsUser}
 use Rattle.lj_wire.specs.declared.item.Item.{Item}
 use Rattle.lj_wire.specs.declared.item.Item.TheVariants.{Command}
-use Rattle.lj_access.specs.Rows.{Row, is_of, user_with, without_home, with_home}
+use Rattle.lj_access.specs.Rows.{UserRow, is_of, user_with, without_home, with_home}
 use Rattle.lj_world.specs.declared.event.Event.{Event}
 use Rattle.lj_world.specs.declared.event.Event.TheVariants.{Hello, At, By}
 use Rattle.lj_world.specs.declared.event.ConnectionEvent.{ConnectionEvent}
@@ -38,10 +38,10 @@ reply_to user None = None
 reply_to user (Some e) = reply_if (nat_eq e.user user) (Some e.text)
 
 -- the invariant after an event
-abbrev pub RunInvariantAfter : List Row → ℕ → User → Machine → List ConnectionHistory → Texts → Option Entry → Type 0
+abbrev pub RunInvariantAfter : List UserRow → ℕ → User → Machine → List ConnectionHistory → Texts → Option Entry → Type 0
 RunInvariantAfter rows user from t hs texts reply = RunInvariant rows user from t hs (grown texts (reply_to user reply))
 
-no_reply : (rows : List Row) (user : ℕ) (from : User) (t : Machine) (hs : List ConnectionHistory) (texts : Texts) (reply : Option Entry) → reply ≡ None → RunInvariant rows user from t hs texts
+no_reply : (rows : List UserRow) (user : ℕ) (from : User) (t : Machine) (hs : List ConnectionHistory) (texts : Texts) (reply : Option Entry) → reply ≡ None → RunInvariant rows user from t hs texts
     → RunInvariantAfter rows user from t hs texts reply
 unfolding reply_to
 no_reply rows user from t hs texts reply r k = subst (RunInvariantAfter rows user from t hs texts) (sym r) k
@@ -51,7 +51,7 @@ reply_none true = refl
 reply_none false = refl
 
 -- rows and connections stay
-front_stays : (rows : List Row) (user : ℕ) (from : User) (s t : Machine) (hs : List ConnectionHistory) (texts : Texts) → RunInvariant rows user from s hs texts
+front_stays : (rows : List UserRow) (user : ℕ) (from : User) (s t : Machine) (hs : List ConnectionHistory) (texts : Texts) → RunInvariant rows user from s hs texts
     → t.rows ≡ s.rows → t.connections ≡ s.connections → RunInvariant rows user from t hs texts
 front_stays rows user from s t hs texts k rows_stay connections_stay = record {
   logs = k.logs;
@@ -73,7 +73,7 @@ unfolding reply_to
 reply_own user c connection None = sym (reply_none (nat_eq connection.user user))
 reply_own user c connection (Some text) = refl
 
-same_row : (o : Option Row) (a b : Row) → o ≡ Some a → o ≡ Some b → a ≡ b
+same_row : (o : Option UserRow) (a b : UserRow) → o ≡ Some a → o ≡ Some b → a ≡ b
 same_row o a b e h = cc
 
 -- an owner that receives a result keeps the pending command and the user
@@ -83,7 +83,7 @@ given_keeps accept owner after work (inl h) = (ap (λ (o : Owner). o.waiting) h.
 given_keeps accept owner after work (inr h) = (ap (λ (o : Owner). o.waiting) h.1, ap user_in h.1)
 
 -- an event at a known connection
-module _ (laws : PendingCommandLaws) (rows : List Row) (user : ℕ) (from : User) (s : Machine) (hs : List ConnectionHistory) (texts : Texts)
+module _ (laws : PendingCommandLaws) (rows : List UserRow) (user : ℕ) (from : User) (s : Machine) (hs : List ConnectionHistory) (texts : Texts)
     (k : RunInvariant rows user from s hs texts) (c : ℕ) (connection : Connection) (is_known : connection_at s c ≡ Some connection) where
   abbrev old : ConnectionView
   old = connection_view connection s.rows s.book
@@ -135,8 +135,8 @@ module _ (laws : PendingCommandLaws) (rows : List Row) (user : ℕ) (from : User
       (ap (λ (z : ConnectionView). z.rows) d.next) (ap (λ (z : ConnectionView). slice_set s.connections c (Some z.connection)) d.next)
       (λ mine queue ch.
       let row : d.row ≡ k.row = same_row (slice_get s.rows user) d.row k.row (ap (slice_get s.rows) (sym mine) ∙ d.there) k.there_is in
-      let home : k.row.home ≡ Some d.state = ap (λ (r : Row). r.home) (sym row) ∙ d.home in
-      let number : connection.number ≡ k.row.past = sym d.may_enter.first.past ∙ ap (λ (r : Row). r.past) row in
+      let home : k.row.home ≡ Some d.state = ap (λ (r : UserRow). r.home) (sym row) ∙ d.home in
+      let number : connection.number ≡ k.row.past = sym d.may_enter.first.past ∙ ap (λ (r : UserRow). r.past) row in
       queue_invariant_enter from k.row.past 0 d.state c log owner (queue_in user k.logs) queue texts ch d.waits k.numbered (omega (arith, number)) refl (laws.restart d.state)
       (subst (λ o. QueueInvariant from k.row.past o (queue_in user k.logs) texts) home k.queue_is_valid))
 
@@ -144,13 +144,13 @@ module _ (laws : PendingCommandLaws) (rows : List Row) (user : ℕ) (from : User
   leave_keeps text h d =
       let log = log_with connection its_log.0 in
       let x = log_with (with_state gone connection) its_log.0 in
-      row_change_keeps rows user from s (with_connection_view c h s) hs texts k c log x (with_home (state_at_rest d.owner.state)) its_log.1
-      (record { id = refl; user = refl; number = refl }) refl (home_leaves (state_at_rest d.owner.state))
+      row_change_keeps rows user from s (with_connection_view c h s) hs texts k c log x (with_home (with_steps_restarted d.owner.state)) its_log.1
+      (record { id = refl; user = refl; number = refl }) refl (home_leaves (with_steps_restarted d.owner.state))
       (ap (λ (z : ConnectionView). z.rows) d.next) (ap (λ (z : ConnectionView). slice_set s.connections c (Some z.connection)) d.next)
       (λ mine queue ch.
       let away = (progress_of_owner from k.row.past k.row.home c log x (queue_in user k.logs) queue d.owner texts ch d.owns k.queue_is_valid).0 in
-      subst (λ n. QueueInvariant from n (Some (state_at_rest d.owner.state)) queue texts) (sym (add-one k.row.past))
-      (queue_invariant_leave from k.row.past c log d.owner (state_at_rest d.owner.state) (queue_in user k.logs) queue texts ch d.owns d.idle d.done
+      subst (λ n. QueueInvariant from n (Some (with_steps_restarted d.owner.state)) queue texts) (sym (add-one k.row.past))
+      (queue_invariant_leave from k.row.past c log d.owner (with_steps_restarted d.owner.state) (queue_in user k.logs) queue texts ch d.owns d.idle d.done
       (laws.restart d.owner.state)
       (subst (λ o. QueueInvariant from k.row.past o (queue_in user k.logs) texts) away k.queue_is_valid)))
 
@@ -201,18 +201,18 @@ module _ (laws : PendingCommandLaws) (rows : List Row) (user : ℕ) (from : User
   connection_transition_keeps Leave text h d = without_reply h hs text d.no_reply (leave_keeps text h d)
 
 -- a known connection has a history
-has_history : (rows : List Row) (user : ℕ) (from : User) (s : Machine) (hs : List ConnectionHistory) (texts : Texts) (k : RunInvariant rows user from s hs texts) (c : ℕ)
+has_history : (rows : List UserRow) (user : ℕ) (from : User) (s : Machine) (hs : List ConnectionHistory) (texts : Texts) (k : RunInvariant rows user from s hs texts) (c : ℕ)
     → list_any (λ h. nat_eq h.id c) hs ≡ is_some (found c k.logs)
 has_history rows user from s hs texts k c = ap (list_any (λ h. nat_eq h.id c)) k.histories_are ∙ any_found c k.logs
 
 -- the number of a user's tickets is the length of its queue
-queue_length : (rows : List Row) (user : ℕ) (from : User) (s : Machine) (hs : List ConnectionHistory) (texts : Texts) (k : RunInvariant rows user from s hs texts) (v : ℕ) (row : Row)
+queue_length : (rows : List UserRow) (user : ℕ) (from : User) (s : Machine) (hs : List ConnectionHistory) (texts : Texts) (k : RunInvariant rows user from s hs texts) (v : ℕ) (row : UserRow)
     → slice_get s.rows v ≡ Some row → length (histories_of v hs) ≡ row.granted
 queue_length rows user from s hs texts k v row e =
     ap (λ l. length (histories_of v l)) k.histories_are ∙ ap length (queue_histories v k.logs) ∙ length-map (queue_in v k.logs) history_of ∙ sym (k.granted v row e)
 
 -- a HELLO that the machine grants is granted in the histories
-hello_granted : (rows : List Row) (user : ℕ) (from : User) (s t : Machine) (hs : List ConnectionHistory) (texts : Texts) (k : RunInvariant rows user from s hs texts)
+hello_granted : (rows : List UserRow) (user : ℕ) (from : User) (s t : Machine) (hs : List ConnectionHistory) (texts : Texts) (k : RunInvariant rows user from s hs texts)
     (c : ℕ) (name token : List ℕ) (p : HelloTransition s c name token t) → is_granted c p.user hs ≡ true
 hello_granted rows user from s t hs texts k c name token p =
     let none = nowhere c k.logs (sym (k.logged c) ∙ p.is_new) in
@@ -240,7 +240,7 @@ no_log None e = refl
 no_log (Some log) e = absurd (true≢false e)
 
 -- and one that is granted there is possible in the machine
-hello_possible : (rows : List Row) (user : ℕ) (from : User) (s : Machine) (hs : List ConnectionHistory) (texts : Texts) (k : RunInvariant rows user from s hs texts)
+hello_possible : (rows : List UserRow) (user : ℕ) (from : User) (s : Machine) (hs : List ConnectionHistory) (texts : Texts) (k : RunInvariant rows user from s hs texts)
     (c : ℕ) (name token : List ℕ) (v : ℕ) → user_with rows name token ≡ Some v → is_granted c v hs ≡ true
     → (t : Machine) × HelloTransition s c name token t
 hello_possible rows user from s hs texts k c name token v is_named granted =
@@ -266,7 +266,7 @@ hello_possible rows user from s hs texts k c name token v is_named granted =
       },
     )
 
-module _ (laws : PendingCommandLaws) (rows : List Row) (user : ℕ) (from : User) where
+module _ (laws : PendingCommandLaws) (rows : List UserRow) (user : ℕ) (from : User) where
   hello_keeps : (s t : Machine) (hs : List ConnectionHistory) (texts : Texts) (k : RunInvariant rows user from s hs texts) (c : ℕ) (name token : List ℕ)
       → HelloTransition s c name token t → RunInvariant rows user from t (with_hello c (user_with rows name token) hs) texts
   hello_keeps s t hs texts k c name token p =
@@ -290,7 +290,7 @@ module _ (laws : PendingCommandLaws) (rows : List Row) (user : ℕ) (from : User
       no_reply rows user from t hs texts reply r (front_stays rows user from s t hs texts k (ap (λ z. z.rows) p.next) (ap (λ z. z.connections) p.next))
 
 -- an event that is not possible leaves the histories
-module _ (rows : List Row) (user : ℕ) (from : User) (s : Machine) (hs : List ConnectionHistory) (texts : Texts) (k : RunInvariant rows user from s hs texts) where
+module _ (rows : List UserRow) (user : ℕ) (from : User) (s : Machine) (hs : List ConnectionHistory) (texts : Texts) (k : RunInvariant rows user from s hs texts) where
   hello_unrecorded : (c : ℕ) (name token : List ℕ) → ¬ IsPossible s (Hello c name token) → with_hello c (user_with rows name token) hs ≡ hs
   unfolding Transition
   hello_unrecorded c name token impossible = by (user_with rows name token) refl
@@ -335,7 +335,7 @@ module _ (rows : List Row) (user : ℕ) (from : User) (s : Machine) (hs : List C
   unrecorded (At c End) impossible = end_unrecorded c impossible
   unrecorded _ impossible = refl
 
-module _ (laws : PendingCommandLaws) (rows : List Row) (user : ℕ) (from : User) where
+module _ (laws : PendingCommandLaws) (rows : List UserRow) (user : ℕ) (from : User) where
   -- each step keeps the invariant
   pub step_keeps : (s t : Machine) (hs : List ConnectionHistory) (texts : Texts) (event : Event) (reply : Option Entry) (k : RunInvariant rows user from s hs texts)
       → Step s event reply t → RunInvariantAfter rows user from t (histories_after rows hs event) texts reply

@@ -1,8 +1,8 @@
 -- The steps of a connection keep the invariant of the machine.
 use Rattle.std.proofs.Common.{◌≡◌, ◌≢◌, ℕ, ◌<◌, List, length, set, get_or, slice_get, Option, Some, None, refl, ap, ◌∙◌, sym, subst, inl, inr}
-use Rattle.lj_session.specs.UserState.{UserState, state_at_rest}
+use Rattle.lj_session.specs.UserState.{UserState, with_steps_restarted}
 use Rattle.lj_session.specs.Owner.{Owner}
-use Rattle.lj_access.specs.Rows.{Row, CanEnter, with_row_changed, without_home, with_home}
+use Rattle.lj_access.specs.Rows.{UserRow, CanEnter, with_row_changed, without_home, with_home}
 use Rattle.lj_book.specs.Book.{Book}
 use Rattle.lj_world.specs.declared.event.ConnectionEvent.{ConnectionEvent}
 use Rattle.lj_world.specs.Machine.{inside, gone, Connection, Worker, with_state}
@@ -14,7 +14,7 @@ use Rattle.lj_world.proofs.TicketChanges.{TicketChange, stays, enters, leaves, t
 use Rattle.lj_world.proofs.RowLemmas.{row_changed}
 use Rattle.lj_world.proofs.RowsKept.{has_changed, stays_has, put_connection}
 
-module _ (rows : List Row) (connections : List (Option Connection)) (workers : List (Option Worker)) (c : ℕ) (connection : Connection)
+module _ (rows : List UserRow) (connections : List (Option Connection)) (workers : List (Option Worker)) (c : ℕ) (connection : Connection)
     (m : IsMachine rows connections workers) (within : c < length connections) (known : get_or connections c None ≡ Some connection) where
   -- no other connection has the ticket of this one
   unlike : (new : Connection) → new.user ≡ connection.user → new.number ≡ connection.number → (d : ℕ) (other : Connection) → d ≢ c
@@ -29,7 +29,7 @@ module _ (rows : List Row) (connections : List (Option Connection)) (workers : L
       (λ d other apart e. m.known d other e) (unlike new kept.user kept.number)
 
   -- the connection enters
-  pub enters_keeps : (owner : Owner) (row : Row) → slice_get rows connection.user ≡ Some row → CanEnter connection.number row
+  pub enters_keeps : (owner : Owner) (row : UserRow) → slice_get rows connection.user ≡ Some row → CanEnter connection.number row
       → IsMachine (with_row_changed connection.user without_home rows) (set connections c (Some (with_state (inside owner) connection))) workers
   enters_keeps owner row there may =
       put_connection rows (with_row_changed connection.user without_home rows) connections workers c (with_state (inside owner) connection) m within (
@@ -67,7 +67,7 @@ module _ (rows : List Row) (connections : List (Option Connection)) (workers : L
             let h = is.entered i in
             let row : r ≡ has.0 = cc (at, has.1) in
             let number : other.number ≡ connection.number =
-            sym h.first.past ∙ ap (λ (x : Row). x.past) row ∙ (has.2.entered (owner, owns)).first.past in
+            sym h.first.past ∙ ap (λ (x : UserRow). x.past) row ∙ (has.2.entered (owner, owns)).first.past in
             absurd (apart (m.apart d c other connection e known same number));
       }))
       (unlike (with_state gone connection) refl refl)
@@ -75,10 +75,10 @@ module _ (rows : List Row) (connections : List (Option Connection)) (workers : L
       has : HasRow rows connection
       has = m.known c connection known
 
-  ticket_change_keeps : (new : Connection) (after : List Row) → TicketChange connection rows new after → IsMachine after (set connections c (Some new)) workers
+  ticket_change_keeps : (new : Connection) (after : List UserRow) → TicketChange connection rows new after → IsMachine after (set connections c (Some new)) workers
   ticket_change_keeps new after (stays _ kept) = stays_keeps new kept
   ticket_change_keeps new after (enters owner row there may) = enters_keeps owner row there may
-  ticket_change_keeps new after (leaves owner owns) = leaves_keeps owner (state_at_rest owner.state) owns
+  ticket_change_keeps new after (leaves owner owns) = leaves_keeps owner (with_steps_restarted owner.state) owns
 
   -- any step of the connection
   pub connection_step_keeps : (event : ConnectionEvent) (book : Book) (text : Option (List ℕ)) (h : ConnectionView) → ConnectionStep event (connection_view connection rows book) text h

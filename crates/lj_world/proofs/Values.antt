@@ -12,7 +12,7 @@ use Rattle.lj_wire.specs.declared.item.Item.TheVariants.{Command}
 use Rattle.lj_wire.specs.Texts.{is_memory}
 use Rattle.lj_wire.specs.Told.{last_user}
 use Rattle.lj_wire.specs.Laws.{MarkIsTold}
-use Rattle.lj_access.specs.Rows.{Row, first_row}
+use Rattle.lj_access.specs.Rows.{UserRow, first_row}
 use Rattle.lj_world.specs.Machine.{Machine, inside}
 use Rattle.lj_world.specs.Scripts.{ConnectionHistory, connection_histories, histories_of, items_joined, replies}
 use Rattle.lj_world.specs.Laws.{PendingCommandLaws, HasValue, IsAtHome, IsOwned, IsScriptValue, HasTicket, ValueIsThatOfScript, TicketsAreInOrder, WaitsOn}
@@ -77,7 +77,7 @@ holder from (suc past) home [] texts s = absurd s
 holder from (suc past) home (log ∷ queue) texts (between, early, late, left, s, whole) = holder_later home log queue (holder between past home queue late s)
 
 -- each user has a value
-has_value : (rows : List Row) (user : ℕ) (from : Value) (t : Machine) (hs : List ConnectionHistory) (texts : Texts) → RunInvariant rows user from t hs texts
+has_value : (rows : List UserRow) (user : ℕ) (from : Value) (t : Machine) (hs : List ConnectionHistory) (texts : Texts) → RunInvariant rows user from t hs texts
     → (value : Value) × (waits : Option Order) × HasValue t user value waits
 has_value rows user from t hs texts k = by (holder from k.row.past k.row.home (queue_in user k.logs) texts k.queue_is_valid)
   where
@@ -100,7 +100,7 @@ has_value rows user from t hs texts k = by (holder from k.row.past k.row.home (q
         } in (user_in owner, owner.waiting, inr own)
 
 -- the invariant accounts for the value of a user
-progress_of_value : (rows : List Row) (user : ℕ) (from : Value) (t : Machine) (hs : List ConnectionHistory) (texts : Texts) (k : RunInvariant rows user from t hs texts)
+progress_of_value : (rows : List UserRow) (user : ℕ) (from : Value) (t : Machine) (hs : List ConnectionHistory) (texts : Texts) (k : RunInvariant rows user from t hs texts)
     (value : Value) (waits : Option Order) → HasValue t user value waits → ScriptProgress from (items_in (queue_in user k.logs)) texts value waits
 progress_of_value rows user from t hs texts k value waits (inl (h, none)) =
     let row : h.row ≡ k.row = same_some (slice_get t.rows user) h.row k.row h.there k.there_is in

@@ -3,26 +3,26 @@
 use Rattle.std.specs.Prelude.{◌≡◌, ℕ, ◌+◌, ◌-◌, ◌^◌, ◌<◌, true, false, ◌&&◌, is_some, List, [], ◌∷◌, ◌++◌, slice_get}
 use Rattle.std.specs.Prelude.{Option, Some, None, ◌⊎◌}
 use Rattle.lj_tile.specs.Task.{Task}
-use Rattle.lj_session.specs.UserState.{UserState, state_at_rest}
+use Rattle.lj_session.specs.UserState.{UserState, with_steps_restarted}
 use Rattle.lj_session.specs.Owner.{Owner, owner_of_state, is_busy, task_in, with_task_posted, IsAwaitedIn, with_task_in}
 use Rattle.lj_wire.specs.declared.item.Item.{Item}
 use Rattle.lj_wire.specs.Items.{is_ending}
-use Rattle.lj_access.specs.Rows.{Row, CanEnter, with_row_changed, without_home, with_home}
-use Rattle.lj_book.specs.declared.entries.TheConstants.{MAX_ENTRIES}
+use Rattle.lj_access.specs.Rows.{UserRow, CanEnter, with_row_changed, without_home, with_home}
+use Rattle.lj_book.specs.declared.book_entry.TheConstants.{MAX_ENTRIES}
 use Rattle.lj_book.specs.Book.{Book, entry_count, Posts, Fetches, Withdraws}
 use Rattle.lj_world.specs.declared.event.ConnectionEvent.{ConnectionEvent}
 use Rattle.lj_world.specs.declared.event.ConnectionEvent.TheVariants.{Arrive, End, Enter, Next, Post, Fetch, Turn, Leave}
-use Rattle.lj_world.specs.declared.limits.TheConstants.{MAX_POSTED}
+use Rattle.lj_world.specs.declared.world_limits.TheConstants.{MAX_POSTED}
 use Rattle.lj_world.specs.Machine.{waiting, inside, gone, Connection, with_state}
 use Rattle.lj_world.specs.OwnerReplies.{Begins, CanTurn, TurnsTo}
 
 -- what a connection sees: itself, the rows and the book
 pub record ConnectionView : Type 0 where
   pub connection : Connection
-  pub rows : List Row
+  pub rows : List UserRow
   pub book : Book
 
-abbrev pub connection_view : Connection → List Row → Book → ConnectionView
+abbrev pub connection_view : Connection → List UserRow → Book → ConnectionView
 connection_view connection rows book = record { connection = connection; rows = rows; book = book }
 
 -- the view with another connection
@@ -47,7 +47,7 @@ pub record Closes (old : ConnectionView) (text : Option (List ℕ)) (new : Conne
 pub record Enters (old : ConnectionView) (text : Option (List ℕ)) (new : ConnectionView) : Type 0 where
   pub no_reply : text ≡ None
   pub waits : old.connection.state ≡ waiting
-  pub row : Row
+  pub row : UserRow
   pub there : slice_get old.rows old.connection.user ≡ Some row
   pub may_enter : CanEnter old.connection.number row
   pub state : UserState
@@ -151,7 +151,7 @@ pub record Leaves (old : ConnectionView) (text : Option (List ℕ)) (new : Conne
   pub withdraws : Withdraws old.connection.user old.book new.book
   pub next : new ≡ record {
     connection = with_state gone old.connection;
-    rows = with_row_changed old.connection.user (with_home (state_at_rest owner.state)) old.rows;
+    rows = with_row_changed old.connection.user (with_home (with_steps_restarted owner.state)) old.rows;
     book = new.book;
   }
 

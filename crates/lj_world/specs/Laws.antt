@@ -9,13 +9,13 @@ use Rattle.lj_session.specs.UserState.{UserState, user_of}
 use Rattle.lj_session.specs.Owner.{Owner, user_in, rest_of, state_turned}
 use Rattle.lj_session.specs.Refusals.{refusal_text}
 use Rattle.lj_session.specs.Turns.{turns}
-use Rattle.lj_session.specs.Laws.{RestKeepsUser, PostedKeepsUser, AcceptKeepsUser, BegunWaitsAlike, user_taking}
+use Rattle.lj_session.specs.Laws.{RestartKeepsUser, PostedKeepsUser, AcceptKeepsUser, BegunWaitsAlike, user_taking}
 use Rattle.lj_wire.specs.declared.item.Item.TheVariants.{Command}
 use Rattle.lj_wire.specs.Texts.{ended_line}
 use Rattle.lj_wire.specs.Told.{alone, last_user}
 use Rattle.lj_wire.specs.Laws.{AlikeIsTold, WaitingGoesOn}
 use Rattle.lj_access.specs.declared.user.User.{User}
-use Rattle.lj_access.specs.Rows.{Row, user_with}
+use Rattle.lj_access.specs.Rows.{UserRow, user_with}
 use Rattle.lj_world.specs.declared.event.ConnectionEvent.TheVariants.{Next, Turn}
 use Rattle.lj_world.specs.declared.event.Event.{Event}
 use Rattle.lj_world.specs.declared.event.Event.TheVariants.{Hello, At, By}
@@ -27,7 +27,7 @@ use Rattle.lj_world.specs.Scripts.{ConnectionHistory, Script, Agree, IsPrefix, O
 
 -- The laws of pending commands: those of owners and of texts, on which the laws of runs stand.
 pub record PendingCommandLaws : Type 0 where
-  pub restart : RestKeepsUser
+  pub restart : RestartKeepsUser
   pub posted : PostedKeepsUser
   pub accept : AcceptKeepsUser
   pub begun : BegunWaitsAlike
@@ -102,7 +102,7 @@ AgreesWithEveryRun users events entries =
 
 -- The state of the user is at home, and this is its value.
 pub record IsAtHome (s : Machine) (user : ℕ) (value : Value) : Type 0 where
-  pub row : Row
+  pub row : UserRow
   pub there : slice_get s.rows user ≡ Some row
   pub state : UserState
   pub home : row.home ≡ Some state

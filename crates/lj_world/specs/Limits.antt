@@ -1,6 +1,6 @@
 -- The numbers of connections and workers, and how many tasks a connection may have posted.
 use Rattle.std.specs.Prelude.{◌≡◌, refl}
-use Rattle.lj_world.specs.declared.limits.TheConstants.{MAX_CONNECTIONS, MAX_POSTED, MAX_WORKERS}
+use Rattle.lj_world.specs.declared.world_limits.TheConstants.{MAX_CONNECTIONS, MAX_POSTED, MAX_WORKERS}
 
 -- connections are numbered up to 64
 most_connections : MAX_CONNECTIONS ≡ 64

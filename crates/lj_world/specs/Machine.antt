@@ -4,9 +4,9 @@ use Rattle.lj_tile.specs.Task.{Task}
 use Rattle.lj_session.specs.Owner.{Owner}
 use Rattle.lj_wire.specs.declared.item.Item.{Item}
 use Rattle.lj_access.specs.declared.user.User.{User}
-use Rattle.lj_access.specs.Rows.{Row, first_row}
+use Rattle.lj_access.specs.Rows.{UserRow, first_row}
 use Rattle.lj_book.specs.Book.{Book}
-use Rattle.lj_world.specs.declared.limits.TheConstants.{MAX_CONNECTIONS, MAX_WORKERS}
+use Rattle.lj_world.specs.declared.world_limits.TheConstants.{MAX_CONNECTIONS, MAX_WORKERS}
 
 -- the state of a connection: its ticket waits, it owns the state of its user, or it has left
 pub data ConnectionState : Type 0 where
@@ -35,7 +35,7 @@ pub record Worker : Type 0 where
 -- The state: a row for each user, a slot for each connection and each worker, numbered from 0, and the book. Slot 0
 -- stays empty.
 pub record Machine : Type 0 where
-  pub rows : List Row
+  pub rows : List UserRow
   pub connections : List (Option Connection)
   pub workers : List (Option Worker)
   pub book : Book
@@ -82,7 +82,7 @@ with_connection id connection s = record s { connections = slice_set s.connectio
 abbrev pub with_worker : ℕ → Option Worker → Machine → Machine
 with_worker id worker s = record s { workers = slice_set s.workers id worker }
 
-abbrev pub with_rows : List Row → Machine → Machine
+abbrev pub with_rows : List UserRow → Machine → Machine
 with_rows rows s = record s { rows = rows }
 
 abbrev pub with_book : Book → Machine → Machine

@@ -1,11 +1,11 @@
 -- The invariant of the machine.
 use Rattle.std.specs.Prelude.{◌≡◌, ℕ, List, length, slice_index_or, Option, Some, None}
-use Rattle.lj_access.specs.Rows.{Row}
+use Rattle.lj_access.specs.Rows.{UserRow}
 use Rattle.lj_world.specs.Machine.{Connection, Worker}
 use Rattle.lj_world.specs.KnownConnections.{HasRow}
 
 -- There are 65 slots of connections and 17 of workers. Each connection has a row, and no two have the same ticket.
-pub record IsMachine (rows : List Row) (connections : List (Option Connection)) (workers : List (Option Worker))
+pub record IsMachine (rows : List UserRow) (connections : List (Option Connection)) (workers : List (Option Worker))
     : Type 0 where
   pub connection_slots : length connections ≡ 65
   pub worker_slots : length workers ≡ 17

@@ -6,12 +6,12 @@ use Rattle.lj_wire.specs.Items.{is_ending}
 use Rattle.lj_wire.specs.Texts.{is_memory}
 use Rattle.lj_access.specs.declared.user.User.{User}
 use Rattle.lj_access.specs.declared.user_row.TheConstants.{MAX_TICKETS}
-use Rattle.lj_access.specs.Rows.{Row, first_row, user_with}
+use Rattle.lj_access.specs.Rows.{UserRow, first_row, user_with}
 use Rattle.lj_world.specs.declared.event.Event.{Event}
 use Rattle.lj_world.specs.declared.event.Event.TheVariants.{Hello, At}
 use Rattle.lj_world.specs.declared.event.ConnectionEvent.TheVariants.{Arrive, End}
 use Rattle.lj_world.specs.declared.transcript.Entry.{Entry}
-use Rattle.lj_world.specs.declared.limits.TheConstants.{MAX_CONNECTIONS}
+use Rattle.lj_world.specs.declared.world_limits.TheConstants.{MAX_CONNECTIONS}
 
 -- the history of a granted connection: its number, its user, the items that arrived, and whether its input ended
 pub record ConnectionHistory : Type 0 where
@@ -55,7 +55,7 @@ abbrev pub with_end : ConnectionHistory → ConnectionHistory
 with_end h = record h { ended = true }
 
 -- the histories after one more event; the rows have the names and tokens of the users
-abbrev pub histories_after : List Row → List ConnectionHistory → Event → List ConnectionHistory
+abbrev pub histories_after : List UserRow → List ConnectionHistory → Event → List ConnectionHistory
 histories_after rows histories (Hello id name token) = with_hello id (user_with rows name token) histories
 histories_after rows histories (At id (Arrive item)) = with_history id (with_item item) histories
 histories_after rows histories (At id End) = with_history id with_end histories

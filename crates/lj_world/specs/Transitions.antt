@@ -2,7 +2,7 @@
 -- not named stays.
 use Rattle.std.specs.Prelude.{◌≡◌, ℕ, List, slice_get, Option, Some, None}
 use Rattle.std.specs.Option.{option_map}
-use Rattle.lj_access.specs.Rows.{Row, user_with, HasTicketLeft, with_row_changed, with_ticket}
+use Rattle.lj_access.specs.Rows.{UserRow, user_with, HasTicketLeft, with_row_changed, with_ticket}
 use Rattle.lj_world.specs.declared.event.Event.{Event}
 use Rattle.lj_world.specs.declared.event.Event.TheVariants.{Hello, At, By}
 use Rattle.lj_world.specs.declared.event.ConnectionEvent.{ConnectionEvent}
@@ -19,7 +19,7 @@ pub record HelloTransition (old : Machine) (id : ℕ) (name token : List ℕ) (n
   pub is_new : connection_at old id ≡ None
   pub user : ℕ
   pub named : user_with old.rows name token ≡ Some user
-  pub row : Row
+  pub row : UserRow
   pub there : slice_get old.rows user ≡ Some row
   pub left : HasTicketLeft row
   pub next : new

@@ -1,6 +1,6 @@
 //! A connection, and how it handles each event.
 ghost use Rattle.std.specs.Prelude.{◌≡◌, ◌↔◌, None, IfOk, IsTrue, OnErr, List};
-ghost use Rattle.lj_access.specs.Rows.{Row};
+ghost use Rattle.lj_access.specs.Rows.{UserRow};
 ghost use Rattle.lj_book.specs.Book.{Book, IsDoneAt};
 ghost use Rattle.lj_world.specs.declared.event.ConnectionEvent.TheVariants.{Arrive, End, Enter, Next, Post, Fetch, Turn, Leave};
 ghost use Rattle.lj_world.specs.Machine.{new_connection};
@@ -12,8 +12,8 @@ ghost use Rattle.lj_world.specs.KnownConnections.{HasRow, KeepsTicket};
 use crate::answers;
 use crate::connection_state::ConnectionState;
 use crate::event::ConnectionEvent;
-use crate::limits::MAX_POSTED;
 use crate::transcript::ReplyText;
+use crate::world_limits::MAX_POSTED;
 use lj_access::{Directory, Ticket};
 use lj_base::Name;
 use lj_book::Book;
@@ -117,7 +117,7 @@ impl Connection {
 
     /// Appends an item to the inbox, unless the input of the connection has ended.
     fn arrive(&mut self, item: Item) -> Result<(), AllocError>
-        ensures step { IfOk result (λ _. (rows : List Row) (book : Book)
+        ensures step { IfOk result (λ _. (rows : List UserRow) (book : Book)
             → ConnectionStep (Arrive item) (connection_view self.old rows book) None
             (connection_view self.new rows book)) }
         ensures stays { OnErr result (KeepsTicket self.old self.new) }
@@ -130,7 +130,7 @@ impl Connection {
 
     /// Marks the input as ended: no more items arrive.
     fn end(&mut self)
-        ensures { (rows : List Row) (book : Book)
+        ensures { (rows : List UserRow) (book : Book)
             → ConnectionStep End (connection_view self.old rows book) None
             (connection_view self.new rows book) }
     {
@@ -156,7 +156,7 @@ impl Connection {
 
     /// Begins the next item of the inbox, unless a command is pending or the connection is finished.
     fn next(&mut self) -> Result<Option<ReplyText>, AllocError>
-        ensures step { IfOk result (λ text. (rows : List Row) (book : Book)
+        ensures step { IfOk result (λ text. (rows : List UserRow) (book : Book)
             → ConnectionStep Next (connection_view self.old rows book) text
             (connection_view self.new rows book)) }
         ensures stays { OnErr result (KeepsTicket self.old self.new) }
@@ -178,7 +178,7 @@ impl Connection {
 
     /// Posts the next task of its user's sessions.
     fn post(&mut self, book: &mut Book)
-        ensures { (rows : List Row)
+        ensures { (rows : List UserRow)
             → ConnectionStep Post (connection_view self.old rows book.old) None
             (connection_view self.new rows book.new) }
     {
@@ -199,7 +199,7 @@ impl Connection {
 
     /// Fetches a result of its user. A result that no session awaits is dropped.
     fn fetch(&mut self, book: &mut Book, pick: usize)
-        ensures step { (rows : List Row)
+        ensures step { (rows : List UserRow)
             → ConnectionStep (Fetch pick) (connection_view self.old rows book.old) None
             (connection_view self.new rows book.new) }
         ensures picked { ChangesPicked (IsDoneAt self.old.user book.old) pick book.old book.new }
@@ -219,7 +219,7 @@ impl Connection {
 
     /// Turns the step of the named session or, if none is named, of the first that is ready.
     fn turn(&mut self, session: Option<Name>) -> Result<Option<ReplyText>, AllocError>
-        ensures step { IfOk result (λ text. (rows : List Row) (book : Book)
+        ensures step { IfOk result (λ text. (rows : List UserRow) (book : Book)
             → ConnectionStep (Turn session) (connection_view self.old rows book) text
             (connection_view self.new rows book)) }
         ensures stays { OnErr result (KeepsTicket self.old self.new) }

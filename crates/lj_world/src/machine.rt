@@ -10,9 +10,9 @@ ghost use Rattle.lj_world.specs.Picked.{PickedStep};
 
 use crate::connection::Connection;
 use crate::event::{ConnectionEvent, Event, WorkerEvent};
-use crate::limits::{MAX_CONNECTIONS, MAX_WORKERS};
 use crate::transcript::Entry;
 use crate::worker::{self, Worker};
+use crate::world_limits::{MAX_CONNECTIONS, MAX_WORKERS};
 use lj_access::{Directory, MAX_USERS, User};
 use lj_base::{Name, Token};
 use lj_book::Book;

@@ -9,8 +9,8 @@ ghost use Rattle.lj_world.specs.Picked.{FollowsPick, IsPickedTranscript};
 ghost use Rattle.lj_world.specs.Laws.{AgreesWithEveryRun};
 
 use crate::event::Event;
-use crate::laws::headline;
 use crate::machine::Machine;
+use crate::run_laws::headline;
 use crate::transcript::{Entry, Transcript};
 use lj_access::{MAX_USERS, User};
 use lj_base::OutOfMemory;

@@ -6,7 +6,7 @@ use Rattle.std.proofs.lemmas.List.{length-append}
 use Rattle.lj_xyz.specs.declared.xyz_fault.XyzKind.{XyzKind}
 use Rattle.lj_xyz.specs.declared.xyz_fault.XyzKind.TheVariants as kind
 use Rattle.lj_xyz.specs.declared.xyz_fault.XyzFault.{XyzFault}
-use Rattle.lj_xyz.specs.declared.atom_row.Row.{Row}
+use Rattle.lj_xyz.specs.declared.atom_row.AtomRow.{AtomRow}
 use Rattle.lj_xyz.specs.declared.frame_reader.Position.{Position}
 use Rattle.lj_xyz.specs.Symbols.{SymbolPair}
 use Rattle.lj_xyz.specs.Atoms.{◌>>=◌, row_of}
@@ -57,25 +57,25 @@ head_good position taken head more n is =
 
 -- ---- the atoms
 
-same_length : (symbols : Option SymbolPair) (atoms : List (List ℕ)) (rows : List Row) → AreAtoms symbols atoms rows
+same_length : (symbols : Option SymbolPair) (atoms : List (List ℕ)) (rows : List AtomRow) → AreAtoms symbols atoms rows
     → length atoms ≡ length rows
 same_length symbols [] [] e = refl
 same_length symbols [] (row ∷ rows) e = absurd cc
 same_length symbols (atom ∷ atoms) [] e = absurd cc
 same_length symbols (atom ∷ atoms) (row ∷ rows) e = ap suc (same_length symbols atoms rows (cc))
 
-row_good : (symbols : Option SymbolPair) (taken : ℕ) (atom : List ℕ) (more : List (List ℕ)) (row : Row)
+row_good : (symbols : Option SymbolPair) (taken : ℕ) (atom : List ℕ) (more : List (List ℕ)) (row : AtomRow)
     → row_of symbols atom ≡ Ok row
     → next_row symbols taken (atom ∷ more) ≡ Ok (row, left (taken + 1) more)
 unfolding next_row
 row_good symbols taken atom more row e = rw e refl
 
-front_of : (row : Row) (rows : List Row) (read : Result (List Row × Left) XyzFault)
+front_of : (row : AtomRow) (rows : List AtomRow) (read : Result (List AtomRow × Left) XyzFault)
     → (with_front rows read >>= λ x. Ok (row ∷ x.0, x.1)) ≡ with_front (row ∷ rows) read
 front_of row rows (Ok x) = refl
 front_of row rows (Err fault) = refl
 
-rows_go_over : (symbols : Option SymbolPair) (k taken : ℕ) (atoms more : List (List ℕ)) (rows : List Row)
+rows_go_over : (symbols : Option SymbolPair) (k taken : ℕ) (atoms more : List (List ℕ)) (rows : List AtomRow)
     → AreAtoms symbols atoms rows
     → rows_in symbols (length rows + k) (left taken (atoms ++ more))
     ≡ with_front rows (rows_in symbols k (left (taken + length atoms) more))
@@ -93,12 +93,12 @@ rows_go_over symbols k taken (atom ∷ atoms) more (row ∷ rows) e =
     rw (n, t, row_good symbols taken atom (atoms ++ more) row first, more_rows)
     (front_of row rows (rows_in symbols k (left (taken + 1 + length atoms) more)))
 
-no_more : (symbols : Option SymbolPair) (rows : List Row) (after : Left)
+no_more : (symbols : Option SymbolPair) (rows : List AtomRow) (after : Left)
     → with_front rows (rows_in symbols 0 after) ≡ Ok (rows, after)
 unfolding rows_in
-no_more symbols rows after = ap (λ (all : List Row). Ok (all, after)) (append-nil rows)
+no_more symbols rows after = ap (λ (all : List AtomRow). Ok (all, after)) (append-nil rows)
 
-stops : (symbols : Option SymbolPair) (rows : List Row) (k taken : ℕ) (lines : List (List ℕ)) (fault : XyzFault)
+stops : (symbols : Option SymbolPair) (rows : List AtomRow) (k taken : ℕ) (lines : List (List ℕ)) (fault : XyzFault)
     → next_row symbols taken lines ≡ Err fault
     → with_front rows (rows_in symbols (suc k) (left taken lines)) ≡ Err fault
 unfolding rows_in
@@ -122,7 +122,7 @@ frame_body symbols position taken head comment more n is =
     rw (head_good position taken head (comment ∷ more) n is, comment_good (taken + length head) comment more) refl
 
 pub frame_good : (symbols : Option SymbolPair) (position : Position) (taken : ℕ) (frame behind : List (List ℕ))
-    (rows : List Row)
+    (rows : List AtomRow)
     → IsFrame symbols position frame rows
     → frame_in symbols position (left taken (frame ++ behind)) ≡ Ok (rows, left (taken + length frame) behind)
 frame_good symbols position taken frame behind rows is =
@@ -142,7 +142,7 @@ frame_good symbols position taken frame behind rows is =
 -- a fault among the atoms
 fault_behind_atoms : (symbols : Option SymbolPair) (position : Position) (taken : ℕ) (lines head : List (List ℕ))
     (n : ℕ) (comment : List ℕ)
-    (atoms more : List (List ℕ)) (rows : List Row) (fault : XyzFault)
+    (atoms more : List (List ℕ)) (rows : List AtomRow) (fault : XyzFault)
     → lines ≡ head ++ comment ∷ (atoms ++ more) → IsHead position head n → AreAtoms symbols atoms rows
     → length atoms < n
     → next_row symbols (taken + length head + 1 + length atoms) more ≡ Err fault

@@ -7,7 +7,7 @@ use Rattle.std.proofs.lemmas.List.{length-append}
 use Rattle.lj_xyz.specs.declared.xyz_fault.XyzKind.{XyzKind}
 use Rattle.lj_xyz.specs.declared.xyz_fault.XyzKind.TheVariants as kind
 use Rattle.lj_xyz.specs.declared.xyz_fault.XyzFault.{XyzFault}
-use Rattle.lj_xyz.specs.declared.atom_row.Row.{Row}
+use Rattle.lj_xyz.specs.declared.atom_row.AtomRow.{AtomRow}
 use Rattle.lj_xyz.specs.declared.frame_reader.Position.{Position}
 use Rattle.lj_base.specs.Words.{words_of}
 use Rattle.lj_xyz.specs.Symbols.{SymbolPair}
@@ -119,7 +119,7 @@ head_stands position before (line ∷ lines) =
 
 -- ---- the atoms
 
-record RowsEnd (symbols : Option SymbolPair) (n before : ℕ) (lines : List (List ℕ)) (rows : List Row)
+record RowsEnd (symbols : Option SymbolPair) (n before : ℕ) (lines : List (List ℕ)) (rows : List AtomRow)
     (after : Left) : Type 0 where
   atoms : List (List ℕ)
   whole : lines ≡ atoms ++ after.lines
@@ -128,24 +128,24 @@ record RowsEnd (symbols : Option SymbolPair) (n before : ℕ) (lines : List (Lis
   taken : after.taken ≡ before + length atoms
 
 data RowsFault (symbols : Option SymbolPair) (n before : ℕ) (lines : List (List ℕ)) (fault : XyzFault) : Type 0 where
-  ended : (rows : List Row) → AreAtoms symbols lines rows → length lines < n
+  ended : (rows : List AtomRow) → AreAtoms symbols lines rows → length lines < n
       → fault ≡ fault_behind (before + length lines) kind.Short → RowsFault symbols n before lines fault
-  wrong : (atoms : List (List ℕ)) (rows : List Row) (bad : List ℕ) (behind : List (List ℕ)) (fault_kind : XyzKind)
+  wrong : (atoms : List (List ℕ)) (rows : List AtomRow) (bad : List ℕ) (behind : List (List ℕ)) (fault_kind : XyzKind)
       → lines ≡ atoms ++ bad ∷ behind → AreAtoms symbols atoms rows → length atoms < n
       → row_of symbols bad ≡ Err fault_kind → fault ≡ fault_behind (before + length atoms) fault_kind
       → RowsFault symbols n before lines fault
 
-abbrev RowsStand : Option SymbolPair → ℕ → ℕ → List (List ℕ) → Result (List Row × Left) XyzFault → Type 0
+abbrev RowsStand : Option SymbolPair → ℕ → ℕ → List (List ℕ) → Result (List AtomRow × Left) XyzFault → Type 0
 RowsStand symbols n before lines (Ok x) = RowsEnd symbols n before lines x.0 x.1
 RowsStand symbols n before lines (Err fault) = RowsFault symbols n before lines fault
 
-more_atoms : (symbols : Option SymbolPair) (line : List ℕ) (row : Row) (atoms : List (List ℕ)) (rows : List Row)
+more_atoms : (symbols : Option SymbolPair) (line : List ℕ) (row : AtomRow) (atoms : List (List ℕ)) (rows : List AtomRow)
     → row_of symbols line ≡ Ok row
     → AreAtoms symbols atoms rows → AreAtoms symbols (line ∷ atoms) (row ∷ rows)
 more_atoms symbols line row atoms rows e are = rw (e, are) refl
 
-later_rows : (symbols : Option SymbolPair) (n before : ℕ) (line : List ℕ) (lines : List (List ℕ)) (row : Row)
-    (r : Result (List Row × Left) XyzFault)
+later_rows : (symbols : Option SymbolPair) (n before : ℕ) (line : List ℕ) (lines : List (List ℕ)) (row : AtomRow)
+    (r : Result (List AtomRow × Left) XyzFault)
     → row_of symbols line ≡ Ok row → RowsStand symbols n (before + 1) lines r
     → RowsStand symbols (suc n) before (line ∷ lines) (r >>= λ x. Ok (row ∷ x.0, x.1))
 later_rows symbols n before line lines row (Ok x) e stands = record {
@@ -164,7 +164,7 @@ later_rows symbols n before line lines row (Err fault) e
     wrong (line ∷ atoms) (row ∷ rows) faulty behind fault_kind (ap (λ (y : List (List ℕ)). line ∷ y) whole)
     (more_atoms symbols line row atoms rows e are) (omega arith) at_faulty (rw at is)
 
-row_cases : (r : Result Row XyzKind) → ((row : Row) × (r ≡ Ok row)) ⊎ ((fault_kind : XyzKind) × (r ≡ Err fault_kind))
+row_cases : (r : Result AtomRow XyzKind) → ((row : AtomRow) × (r ≡ Ok row)) ⊎ ((fault_kind : XyzKind) × (r ≡ Err fault_kind))
 row_cases (Ok row) = inl (row, refl)
 row_cases (Err fault_kind) = inr (fault_kind, refl)
 
@@ -178,7 +178,7 @@ rows_in_end : (symbols : Option SymbolPair) (n before : ℕ)
 unfolding rows_in next_row
 rows_in_end symbols n before = refl
 
-rows_in_good : (symbols : Option SymbolPair) (n before : ℕ) (line : List ℕ) (lines : List (List ℕ)) (row : Row)
+rows_in_good : (symbols : Option SymbolPair) (n before : ℕ) (line : List ℕ) (lines : List (List ℕ)) (row : AtomRow)
     → row_of symbols line ≡ Ok row
     → rows_in symbols (suc n) (left before (line ∷ lines))
     ≡ (rows_in symbols n (left (before + 1) lines) >>= λ x. Ok (row ∷ x.0, x.1))
@@ -219,13 +219,13 @@ rows_stand symbols (suc n) before (line ∷ lines) =
 -- ---- frames
 
 pub record FrameEnds (symbols : Option SymbolPair) (position : Position) (before : ℕ) (lines : List (List ℕ))
-    (rows : List Row) (after : Left) : Type 0 where
+    (rows : List AtomRow) (after : Left) : Type 0 where
   pub frame : List (List ℕ)
   pub whole : lines ≡ frame ++ after.lines
   pub is_frame : IsFrame symbols position frame rows
   pub taken : after.taken ≡ before + length frame
 
-abbrev pub FrameStands : Option SymbolPair → Position → ℕ → List (List ℕ) → Result (List Row × Left) XyzFault → Type 0
+abbrev pub FrameStands : Option SymbolPair → Position → ℕ → List (List ℕ) → Result (List AtomRow × Left) XyzFault → Type 0
 FrameStands symbols position before lines (Ok x) = FrameEnds symbols position before lines x.0 x.1
 FrameStands symbols position before lines (Err fault) = FirstFault symbols position before lines fault
 
@@ -238,7 +238,7 @@ behind_head position before lines n after comment more ends e =
 with_rows : (symbols : Option SymbolPair) (position : Position) (before : ℕ) (lines : List (List ℕ)) (n : ℕ)
     (after : Left) (comment : List ℕ)
     (more : List (List ℕ)) → HeadEnds position before lines n after → after.lines ≡ comment ∷ more
-    → (r : Result (List Row × Left) XyzFault) → RowsStand symbols n (after.taken + 1) more r
+    → (r : Result (List AtomRow × Left) XyzFault) → RowsStand symbols n (after.taken + 1) more r
     → FrameStands symbols position before lines r
 with_rows symbols position before lines n after comment more ends e (Ok x) stands =
     let frame : List (List ℕ) = ends.head ++ comment ∷ stands.atoms in
@@ -280,7 +280,7 @@ no_more (first ∷ others) = inr (first, others, refl)
 abbrev counted_behind : ℕ → Left → ℕ × Left
 counted_behind n body = (n, body)
 
-abbrev rows_behind : Option SymbolPair → ℕ × Left → Result (List Row × Left) XyzFault
+abbrev rows_behind : Option SymbolPair → ℕ × Left → Result (List AtomRow × Left) XyzFault
 rows_behind symbols opening = rows_in symbols opening.0 opening.1
 
 comment_end : (symbols : Option SymbolPair) (n : ℕ) (taken : ℕ)

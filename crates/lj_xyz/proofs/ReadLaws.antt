@@ -5,7 +5,7 @@ use Rattle.std.proofs.lemmas.Bool.{cases_Bool, eqb-true}
 use Rattle.lj_xyz.specs.declared.xyz_fault.XyzFault.{XyzFault}
 use Rattle.lj_xyz.specs.declared.xyz_fault.XyzError.{XyzError}
 use Rattle.lj_xyz.specs.declared.xyz_fault.XyzError.TheVariants as errors
-use Rattle.lj_xyz.specs.declared.atom_row.Row.{Row}
+use Rattle.lj_xyz.specs.declared.atom_row.AtomRow.{AtomRow}
 use Rattle.lj_xyz.specs.declared.frame_reader.Position.{Position}
 use Rattle.lj_xyz.specs.declared.frame_reader.Position.TheVariants.{First, Second}
 use Rattle.lj_fixed.specs.Numbers.{number_of}
@@ -16,14 +16,14 @@ use Rattle.lj_xyz.specs.Reading.{Left, frame_in, start, reading, Fails, Gives}
 use Rattle.lj_xyz.proofs.ReadingLaws.{reading_stands, reads_one, reads_no_first, reads_no_second}
 
 -- what was read stands in the relation
-pub frames_stand : {X : Type 0} (symbols : Option SymbolPair) (view : X → List (List Row)) (mode : Mode)
+pub frames_stand : {X : Type 0} (symbols : Option SymbolPair) (view : X → List (List AtomRow)) (mode : Mode)
     (lines : List (List ℕ)) (r : Result X XyzError) → Gives view r (reading symbols mode lines)
     → IfOk r (λ x. IsReading symbols mode lines (Ok (view x)))
 frames_stand symbols view mode lines (Ok x) e = rw e at (reading_stands symbols mode lines)
 frames_stand symbols view mode lines (Err error) e = tt
 
 -- a fault that was answered stands in the relation
-pub fault_stands : {X : Type 0} (symbols : Option SymbolPair) (view : X → List (List Row)) (mode : Mode)
+pub fault_stands : {X : Type 0} (symbols : Option SymbolPair) (view : X → List (List AtomRow)) (mode : Mode)
     (lines : List (List ℕ)) (r : Result X XyzError) → Gives view r (reading symbols mode lines)
     → (fault : XyzFault) → r ≡ Err (errors.Fault fault) → IsReading symbols mode lines (Err fault)
 fault_stands symbols view mode lines r e fault is =
@@ -37,7 +37,7 @@ fails_first symbols mode lines errors.Memory e = tt
 fails_first symbols mode lines (errors.Fault fault) e = reads_no_first symbols mode lines fault e
 
 -- where the second one is not read, no pair is
-pub fails_second : (symbols : Option SymbolPair) (lines : List (List ℕ)) (first : List Row) (after : Left)
+pub fails_second : (symbols : Option SymbolPair) (lines : List (List ℕ)) (first : List AtomRow) (after : Left)
     (error : XyzError) → frame_in symbols First (start lines) ≡ Ok (first, after)
     → Fails error (frame_in None (Second (length first)) after) → Fails error (reading symbols pair lines)
 fails_second symbols lines first after errors.Memory e next = tt
@@ -45,9 +45,9 @@ fails_second symbols lines first after (errors.Fault fault) e next =
     reads_no_second symbols lines first after fault e next
 
 -- the first frame is all that is read at rest
-pub gives_one : (symbols : Option SymbolPair) (lines : List (List ℕ)) (after : Left) (r : Result (List Row) XyzError)
-    → Gives (λ (rows : List Row). (rows, after)) r (frame_in symbols First (start lines))
-    → Gives (λ (rows : List Row). rows ∷ []) r (reading symbols rest lines)
+pub gives_one : (symbols : Option SymbolPair) (lines : List (List ℕ)) (after : Left) (r : Result (List AtomRow) XyzError)
+    → Gives (λ (rows : List AtomRow). (rows, after)) r (frame_in symbols First (start lines))
+    → Gives (λ (rows : List AtomRow). rows ∷ []) r (reading symbols rest lines)
 gives_one symbols lines after (Ok rows) e = reads_one symbols lines rows after e
 gives_one symbols lines after (Err error) e = fails_first symbols rest lines error e
 
@@ -68,7 +68,7 @@ counted (Some m) n e =
     ]
 
 -- a frame has 1 to 4,096 atoms
-pub frame_count : (symbols : Option SymbolPair) (position : Position) (frame : List (List ℕ)) (rows : List Row)
+pub frame_count : (symbols : Option SymbolPair) (position : Position) (frame : List (List ℕ)) (rows : List AtomRow)
     → IsFrame symbols position frame rows
     → is_count (length rows) ≡ true
 frame_count symbols position frame rows is =
@@ -76,14 +76,14 @@ frame_count symbols position frame rows is =
 
 -- ---- the numbers of atoms
 
-pub one_count : (symbols : Option SymbolPair) (lines : List (List ℕ)) (rows : List Row)
+pub one_count : (symbols : Option SymbolPair) (lines : List (List ℕ)) (rows : List AtomRow)
     → IsReading symbols rest lines (Ok (rows ∷ []))
     → is_count (length rows) ≡ true
 one_count symbols lines rows is =
     let same : is.0 ≡ rows = cc in
     rw (← same) (frame_count symbols First is.2.frame is.0 is.2.is_frame)
 
-pub two_counts : (symbols : Option SymbolPair) (lines : List (List ℕ)) (first second : List Row)
+pub two_counts : (symbols : Option SymbolPair) (lines : List (List ℕ)) (first second : List AtomRow)
     → IsReading symbols pair lines (Ok (first ∷ second ∷ []))
     → (is_count (length first) ≡ true) × (length second ≡ length first)
 two_counts symbols lines first second is =

@@ -3,7 +3,7 @@ use Rattle.std.proofs.Common.{◌≡◌, ℕ, suc, ◌+◌, ◌-◌, ◌≤◌, 
 use Rattle.std.proofs.Common.{refl, sym, ap, subst, ◌∙◌, append_assoc, append-nil, arith}
 use Rattle.lj_xyz.specs.declared.xyz_fault.XyzKind.{XyzKind}
 use Rattle.lj_xyz.specs.declared.xyz_fault.XyzFault.{XyzFault}
-use Rattle.lj_xyz.specs.declared.atom_row.Row.{Row}
+use Rattle.lj_xyz.specs.declared.atom_row.AtomRow.{AtomRow}
 use Rattle.lj_xyz.specs.declared.frame_reader.Position.{Position}
 use Rattle.lj_base.specs.Words.{words_of}
 use Rattle.lj_xyz.specs.Symbols.{SymbolPair}
@@ -75,16 +75,16 @@ head_missing position old new wrong total none same is so_far =
 -- ---- the atoms
 
 -- what was read before, and what is still read
-abbrev pub with_front : List Row → Result (List Row × Left) XyzFault → Result (List Row × Left) XyzFault
+abbrev pub with_front : List AtomRow → Result (List AtomRow × Left) XyzFault → Result (List AtomRow × Left) XyzFault
 with_front front read = read >>= λ x. Ok (front ++ x.0, x.1)
 
-pub regroup : (front : List Row) (row : Row) (read : Result (List Row × Left) XyzFault)
+pub regroup : (front : List AtomRow) (row : AtomRow) (read : Result (List AtomRow × Left) XyzFault)
     → with_front front (read >>= λ x. Ok (row ∷ x.0, x.1)) ≡ with_front (front ++ row ∷ []) read
-regroup front row (Ok x) = ap (λ (rows : List Row). Ok (rows, x.1)) (simp append_assoc)
+regroup front row (Ok x) = ap (λ (rows : List AtomRow). Ok (rows, x.1)) (simp append_assoc)
 regroup front row (Err fault) = refl
 
-pub rows_go_on : (symbols : Option SymbolPair) (front : List Row) (count i : ℕ) (old new : Left) (row : Row)
-    (total : Result (List Row × Left) XyzFault) → i < count → next_row symbols old.taken old.lines ≡ Ok (row, new)
+pub rows_go_on : (symbols : Option SymbolPair) (front : List AtomRow) (count i : ℕ) (old new : Left) (row : AtomRow)
+    (total : Result (List AtomRow × Left) XyzFault) → i < count → next_row symbols old.taken old.lines ≡ Ok (row, new)
     → with_front front (rows_in symbols (count - i) old) ≡ total
     → with_front (front ++ row ∷ []) (rows_in symbols (count - (i + 1)) new) ≡ total
 unfolding rows_in
@@ -95,8 +95,8 @@ rows_go_on symbols front count i old new row total lt h so_far =
     rw (k, h) (regroup front row (rows_in symbols (count - (i + 1)) new)) in
     sym one ∙ so_far
 
-pub rows_end : (symbols : Option SymbolPair) (front : List Row) (count i : ℕ) (old : Left) (fault : XyzFault)
-    (total : Result (List Row × Left) XyzFault) → i < count → next_row symbols old.taken old.lines ≡ Err fault
+pub rows_end : (symbols : Option SymbolPair) (front : List AtomRow) (count i : ℕ) (old : Left) (fault : XyzFault)
+    (total : Result (List AtomRow × Left) XyzFault) → i < count → next_row symbols old.taken old.lines ≡ Err fault
     → with_front front (rows_in symbols (count - i) old) ≡ total → total ≡ Err fault
 unfolding rows_in
 rows_end symbols front count i old fault total lt h so_far =
@@ -104,17 +104,17 @@ rows_end symbols front count i old fault total lt h so_far =
     let one : with_front front (rows_in symbols (count - i) old) ≡ Err fault = rw (k, h) refl in
     sym so_far ∙ one
 
-pub rows_done : (symbols : Option SymbolPair) (front : List Row) (count i : ℕ) (left : Left)
-    (total : Result (List Row × Left) XyzFault) → count ≤ i
+pub rows_done : (symbols : Option SymbolPair) (front : List AtomRow) (count i : ℕ) (left : Left)
+    (total : Result (List AtomRow × Left) XyzFault) → count ≤ i
     → with_front front (rows_in symbols (count - i) left) ≡ total → total ≡ Ok (front, left)
 unfolding rows_in
 rows_done symbols front count i left total le so_far =
     let k : count - i ≡ 0 = omega arith in
     let one : with_front front (rows_in symbols (count - i) left) ≡ Ok (front, left) =
-    rw k (ap (λ (rows : List Row). Ok (rows, left)) (append-nil front)) in
+    rw k (ap (λ (rows : List AtomRow). Ok (rows, left)) (append-nil front)) in
     sym so_far ∙ one
 
-pub no_front : (read : Result (List Row × Left) XyzFault) → with_front [] read ≡ read
+pub no_front : (read : Result (List AtomRow × Left) XyzFault) → with_front [] read ≡ read
 no_front (Ok x) = refl
 no_front (Err fault) = refl
 

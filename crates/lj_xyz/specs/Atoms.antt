@@ -6,7 +6,7 @@ use Rattle.lj_fixed.specs.Numbers.{number_of}
 use Rattle.lj_xyz.specs.declared.xyz_fault.XyzKind.{XyzKind}
 use Rattle.lj_xyz.specs.declared.xyz_fault.XyzKind.TheVariants as kind
 use Rattle.lj_xyz.specs.declared.frame_reader.TheConstants.{MAX_FRAME_ATOMS}
-use Rattle.lj_xyz.specs.declared.atom_row.Row.{Row}
+use Rattle.lj_xyz.specs.declared.atom_row.AtomRow.{AtomRow}
 use Rattle.lj_base.specs.Words.{words_of}
 use Rattle.lj_xyz.specs.Kinds.{kind_of}
 use Rattle.lj_xyz.specs.Symbols.{SymbolPair, is_symbol, is_of_species}
@@ -48,7 +48,7 @@ abbrev pub symbol_or_kind : Option SymbolPair → List ℕ → Result (List ℕ)
 symbol_or_kind symbols word = if is_symbol word then species_or_kind symbols word else Err kind.Symbol
 
 -- the atom of four words, or their first fault
-unfoldable pub row_of_four : Option SymbolPair → List ℕ → List ℕ → List ℕ → List ℕ → Result Row XyzKind
+unfoldable pub row_of_four : Option SymbolPair → List ℕ → List ℕ → List ℕ → List ℕ → Result AtomRow XyzKind
 row_of_four symbols word x y z = do
   symbol ← symbol_or_kind symbols word
   x ← coordinate x
@@ -57,10 +57,10 @@ row_of_four symbols word x y z = do
   Ok (record { symbol = symbol; x = x; y = y; z = z })
 
 -- the atom of a line's words; those after the fourth are not used
-abbrev pub row_of_words : Option SymbolPair → List (List ℕ) → Result Row XyzKind
+abbrev pub row_of_words : Option SymbolPair → List (List ℕ) → Result AtomRow XyzKind
 row_of_words symbols (word ∷ x ∷ y ∷ z ∷ more) = row_of_four symbols word x y z
 row_of_words symbols _ = Err kind.Short
 
 -- the atom of a line, or the fault of the line
-unfoldable pub row_of : Option SymbolPair → List ℕ → Result Row XyzKind
+unfoldable pub row_of : Option SymbolPair → List ℕ → Result AtomRow XyzKind
 row_of symbols line = row_of_words symbols (words_of line)

@@ -6,7 +6,7 @@ use Rattle.std.specs.List.{AllByRecursion}
 use Rattle.lj_xyz.specs.declared.xyz_fault.XyzKind.{XyzKind}
 use Rattle.lj_xyz.specs.declared.xyz_fault.XyzKind.TheVariants as kind
 use Rattle.lj_xyz.specs.declared.xyz_fault.XyzFault.{XyzFault}
-use Rattle.lj_xyz.specs.declared.atom_row.Row.{Row}
+use Rattle.lj_xyz.specs.declared.atom_row.AtomRow.{AtomRow}
 use Rattle.lj_xyz.specs.declared.frame_reader.Position.{Position}
 use Rattle.lj_xyz.specs.declared.frame_reader.Position.TheVariants.{First, Second}
 use Rattle.lj_base.specs.Words.{words_of}
@@ -49,12 +49,12 @@ pub record IsHead (position : Position) (head : List (List ℕ)) (n : ℕ) : Typ
   pub admitted : admits position n ≡ true
 
 -- each line is the atom of its row
-abbrev pub AreAtoms : Option SymbolPair → List (List ℕ) → List Row → Type 0
+abbrev pub AreAtoms : Option SymbolPair → List (List ℕ) → List AtomRow → Type 0
 AreAtoms symbols atoms rows = map (row_of symbols) atoms ≡ map (λ row. Ok row) rows
 
 -- the lines of a frame: its head, a comment line of any bytes, and a line for each row
 pub record IsFrame (symbols : Option SymbolPair) (position : Position) (frame : List (List ℕ))
-    (rows : List Row) : Type 0 where
+    (rows : List AtomRow) : Type 0 where
   pub head : List (List ℕ)
   pub comment : List ℕ
   pub atoms : List (List ℕ)
@@ -96,13 +96,13 @@ pub data FirstFault (symbols : Option SymbolPair) (position : Position) (before 
   -- it is before the atom lines
   in_opening : OpeningFault position before lines fault → FirstFault symbols position before lines fault
   -- an atom line is missing
-  no_atom : (head : List (List ℕ)) (n : ℕ) (comment : List ℕ) (atoms : List (List ℕ)) (rows : List Row)
+  no_atom : (head : List (List ℕ)) (n : ℕ) (comment : List ℕ) (atoms : List (List ℕ)) (rows : List AtomRow)
       → lines ≡ head ++ comment ∷ atoms
       → IsHead position head n → AreAtoms symbols atoms rows → length atoms < n
       → fault ≡ fault_behind (before + length lines) kind.Short
       → FirstFault symbols position before lines fault
   -- an atom line is not an atom
-  bad_atom : (head : List (List ℕ)) (n : ℕ) (comment : List ℕ) (atoms : List (List ℕ)) (rows : List Row)
+  bad_atom : (head : List (List ℕ)) (n : ℕ) (comment : List ℕ) (atoms : List (List ℕ)) (rows : List AtomRow)
       (bad : List ℕ) (behind : List (List ℕ)) (wrong : XyzKind)
       → lines ≡ head ++ comment ∷ (atoms ++ bad ∷ behind)
       → IsHead position head n → AreAtoms symbols atoms rows → length atoms < n → row_of symbols bad ≡ Err wrong
@@ -110,14 +110,14 @@ pub data FirstFault (symbols : Option SymbolPair) (position : Position) (before 
       → FirstFault symbols position before lines fault
 
 -- The lines of a body begin with a frame of these rows; what follows the frame is not read.
-pub record GivesOne (symbols : Option SymbolPair) (lines : List (List ℕ)) (rows : List Row) : Type 0 where
+pub record GivesOne (symbols : Option SymbolPair) (lines : List (List ℕ)) (rows : List AtomRow) : Type 0 where
   pub frame : List (List ℕ)
   pub behind : List (List ℕ)
   pub whole : lines ≡ frame ++ behind
   pub is_frame : IsFrame symbols First frame rows
 
 -- The lines of a body begin with two frames with equal numbers of atoms, the second of any species; what follows is not read.
-pub record GivesTwo (symbols : Option SymbolPair) (lines : List (List ℕ)) (first second : List Row) : Type 0 where
+pub record GivesTwo (symbols : Option SymbolPair) (lines : List (List ℕ)) (first second : List AtomRow) : Type 0 where
   pub frame : List (List ℕ)
   pub next : List (List ℕ)
   pub behind : List (List ℕ)
@@ -129,16 +129,16 @@ pub record GivesTwo (symbols : Option SymbolPair) (lines : List (List ℕ)) (fir
 pub record FaultOfSecond (symbols : Option SymbolPair) (lines : List (List ℕ)) (fault : XyzFault) : Type 0 where
   pub frame : List (List ℕ)
   pub behind : List (List ℕ)
-  pub rows : List Row
+  pub rows : List AtomRow
   pub whole : lines ≡ frame ++ behind
   pub is_frame : IsFrame symbols First frame rows
   pub of_next : FirstFault None (Second (length rows)) (length frame) behind fault
 
 -- The relation between the lines of a body, the given species, the mode, and the frames or the first fault with its line.
-abbrev pub IsReading : Option SymbolPair → Mode → List (List ℕ) → Result (List (List Row)) XyzFault → Type 0
-IsReading symbols rest lines (Ok frames) = (rows : List Row) × (frames ≡ rows ∷ []) × GivesOne symbols lines rows
+abbrev pub IsReading : Option SymbolPair → Mode → List (List ℕ) → Result (List (List AtomRow)) XyzFault → Type 0
+IsReading symbols rest lines (Ok frames) = (rows : List AtomRow) × (frames ≡ rows ∷ []) × GivesOne symbols lines rows
 IsReading symbols rest lines (Err fault) = FirstFault symbols First 0 lines fault
 IsReading symbols pair lines (Ok frames) =
-    (first : List Row) × (second : List Row) × (frames ≡ first ∷ second ∷ []) × GivesTwo symbols lines first second
+    (first : List AtomRow) × (second : List AtomRow) × (frames ≡ first ∷ second ∷ []) × GivesTwo symbols lines first second
 IsReading symbols pair lines (Err fault) =
     FirstFault symbols First 0 lines fault ⊎ FaultOfSecond symbols lines fault

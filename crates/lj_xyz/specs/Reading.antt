@@ -6,7 +6,7 @@ use Rattle.lj_xyz.specs.declared.xyz_fault.XyzKind.TheVariants as kind
 use Rattle.lj_xyz.specs.declared.xyz_fault.XyzFault.{XyzFault}
 use Rattle.lj_xyz.specs.declared.xyz_fault.XyzError.{XyzError}
 use Rattle.lj_xyz.specs.declared.xyz_fault.XyzError.TheVariants as errors
-use Rattle.lj_xyz.specs.declared.atom_row.Row.{Row}
+use Rattle.lj_xyz.specs.declared.atom_row.AtomRow.{AtomRow}
 use Rattle.lj_xyz.specs.declared.frame_reader.Position.{Position}
 use Rattle.lj_xyz.specs.declared.frame_reader.Position.TheVariants.{First, Second}
 use Rattle.lj_base.specs.Words.{words_of}
@@ -45,18 +45,18 @@ behind_comment taken [] = Err (fault_behind taken kind.Short)
 behind_comment taken (comment ∷ lines) = Ok (record { taken = taken + 1; lines = lines })
 
 -- the atom of the line of this number
-abbrev pub row_at : ℕ → Result Row XyzKind → Result Row XyzFault
+abbrev pub row_at : ℕ → Result AtomRow XyzKind → Result AtomRow XyzFault
 row_at line (Ok row) = Ok row
 row_at line (Err wrong) = Err (fault_at line wrong)
 
 -- the atom of the next line, and the lines after it
-unfoldable pub next_row : Option SymbolPair → ℕ → List (List ℕ) → Result (Row × Left) XyzFault
+unfoldable pub next_row : Option SymbolPair → ℕ → List (List ℕ) → Result (AtomRow × Left) XyzFault
 next_row symbols taken [] = Err (fault_behind taken kind.Short)
 next_row symbols taken (line ∷ lines) =
     row_at (taken + 1) (row_of symbols line) >>= λ row. Ok (row, record { taken = taken + 1; lines = lines })
 
 -- the next n atoms, and the lines after them
-unfoldable pub rows_in : Option SymbolPair → ℕ → Left → Result (List Row × Left) XyzFault
+unfoldable pub rows_in : Option SymbolPair → ℕ → Left → Result (List AtomRow × Left) XyzFault
 rows_in symbols zero left = Ok ([], left)
 rows_in symbols (suc n) left = do
   row ← next_row symbols left.taken left.lines
@@ -71,7 +71,7 @@ opening_in position left = do
   Ok (head.0, body)
 
 -- the rows of a frame, and the lines after it
-unfoldable pub frame_in : Option SymbolPair → Position → Left → Result (List Row × Left) XyzFault
+unfoldable pub frame_in : Option SymbolPair → Position → Left → Result (List AtomRow × Left) XyzFault
 frame_in symbols position left = do
   opening ← opening_in position left
   rows_in symbols opening.0 opening.1
@@ -81,7 +81,7 @@ abbrev pub start : List (List ℕ) → Left
 start lines = record { taken = 0; lines = lines }
 
 -- the frames of the mode, the first one of the given species, or the first fault
-unfoldable pub reading : Option SymbolPair → Mode → List (List ℕ) → Result (List (List Row)) XyzFault
+unfoldable pub reading : Option SymbolPair → Mode → List (List ℕ) → Result (List (List AtomRow)) XyzFault
 reading symbols rest lines = do
   first ← frame_in symbols First (start lines)
   Ok (first.0 ∷ [])

@@ -7,7 +7,7 @@ use Rattle.lj_fixed.specs.Millionths.{millionths}
 use Rattle.lj_xyz.specs.declared.xyz_fault.XyzKind.{XyzKind}
 use Rattle.lj_xyz.specs.declared.xyz_fault.XyzKind.TheVariants as kind
 use Rattle.lj_xyz.specs.declared.xyz_fault.XyzFault.{XyzFault}
-use Rattle.lj_xyz.specs.declared.atom_row.Row.{Row}
+use Rattle.lj_xyz.specs.declared.atom_row.AtomRow.{AtomRow}
 use Rattle.lj_base.specs.Words.{words_of}
 use Rattle.lj_xyz.specs.Lines.{lines_of}
 use Rattle.lj_xyz.specs.Symbols.{SymbolPair}
@@ -17,25 +17,25 @@ use Rattle.lj_xyz.specs.Reading.{head_in, behind_comment, next_row, rows_in, fra
 use Rattle.lj_xyz.specs.Texts.{count_text, comment_text, atom_text}
 
 -- the answer to a body with atoms of the given species, if there is memory
-answer_of : Option SymbolPair → Mode → List ℕ → Result (List (List Row)) XyzFault
+answer_of : Option SymbolPair → Mode → List ℕ → Result (List (List AtomRow)) XyzFault
 unfolding reading frame_in head_in behind_comment next_row rows_in row_of row_of_four number_of
     lines_of words_of nano_of decimal_of
 answer_of symbols mode body = reading symbols mode (lines_of body)
 
 -- the same for any species
-answer : Mode → List ℕ → Result (List (List Row)) XyzFault
+answer : Mode → List ℕ → Result (List (List AtomRow)) XyzFault
 unfolding answer_of
 answer mode body = answer_of None mode body
 
 -- the same for sodium and chlorine
-salt : Mode → List ℕ → Result (List (List Row)) XyzFault
+salt : Mode → List ℕ → Result (List (List AtomRow)) XyzFault
 unfolding answer_of
 salt mode body = answer_of (Some (record { first = codes "Na"; second = codes "Cl" })) mode body
 
-fault : XyzKind → ℕ → Result (List (List Row)) XyzFault
+fault : XyzKind → ℕ → Result (List (List AtomRow)) XyzFault
 fault wrong line = Err (record { kind = wrong; line = line })
 
-atom : List ℕ → ℤ → ℤ → ℤ → Row
+atom : List ℕ → ℤ → ℤ → ℤ → AtomRow
 atom symbol x y z = record { symbol = symbol; x = x; y = y; z = z }
 
 -- lines: a carriage return before the line feed or the end is dropped once, and two line feeds have an empty line

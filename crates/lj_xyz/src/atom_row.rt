@@ -7,7 +7,7 @@ use std::marker::Model;
 
 /// An atom of a frame: its symbol and its coordinates in nano.
 #[derive(Debug, Drop)]
-pub struct Row {
+pub struct AtomRow {
     pub symbol: Symbol,
     pub x: Nano,
     pub y: Nano,
@@ -17,7 +17,7 @@ pub struct Row {
 /// The atoms of a frame, in the order of the file.
 #[derive(Debug, Drop)]
 pub struct Rows {
-    rows: Vec<Row>,
+    rows: Vec<AtomRow>,
 }
 
 /// The first two frames of a file, with the same number of atoms.
@@ -29,15 +29,15 @@ pub struct FramePair {
 
 impl Model for Rows {
     ghost use Rattle.std.specs.Prelude.{List};
-    ghost use Rattle.lj_xyz.specs.declared.atom_row.Row.{Row};
+    ghost use Rattle.lj_xyz.specs.declared.atom_row.AtomRow.{AtomRow};
 
-    ghost Value = { List Row };
+    ghost Value = { List AtomRow };
 
     ghost view = { λ r. r.rows.items };
 }
 
 impl Rows {
-    pub(crate) fn new(rows: Vec<Row>) -> Rows
+    pub(crate) fn new(rows: Vec<AtomRow>) -> Rows
         ensures { result ≡ rows.items }
     {
         Rows { rows }
@@ -55,13 +55,13 @@ impl Rows {
         self.rows.is_empty()
     }
 
-    pub fn as_slice(&self) -> &[Row]
+    pub fn as_slice(&self) -> &[AtomRow]
         ensures { result.now ≡ self.now }
     {
         self.rows.as_slice()
     }
 
-    pub fn into_vec(self) -> Vec<Row>
+    pub fn into_vec(self) -> Vec<AtomRow>
         ensures { result.items ≡ self }
     {
         let Rows { rows } = self;

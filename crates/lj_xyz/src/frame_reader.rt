@@ -10,7 +10,7 @@ ghost use Rattle.lj_xyz.specs.Reading.{Gives, Tells, count_or_fault, head_in, be
 ghost use Rattle.lj_xyz.specs.Reading.{rows_in, frame_in, reading};
 ghost use Rattle.lj_xyz.specs.Cursor.{left_of};
 
-use crate::atom_row::{FramePair, Row, Rows};
+use crate::atom_row::{AtomRow, FramePair, Rows};
 use crate::lines::Lines;
 use crate::symbol::Symbol;
 use crate::symbol_pair::SymbolPair;
@@ -84,7 +84,7 @@ fn symbol_of(word: &[u8], symbols: Option<&SymbolPair>) -> Result<Symbol, XyzKin
 
 // Parses the line of an atom.
 #[tactic(auto, unfolding(crate::specs::Atoms::row_of))]
-fn row_of(line: &[u8], symbols: Option<&SymbolPair>) -> Result<Row, XyzKind>
+fn row_of(line: &[u8], symbols: Option<&SymbolPair>) -> Result<AtomRow, XyzKind>
     ensures { result ≡ row_of (option_copied symbols.entry) line.now }
 {
     let (word, line) = split_word(line).ok_or(XyzKind::Short)?;
@@ -101,14 +101,14 @@ fn row_of_four(
     y: &[u8],
     z: &[u8],
     symbols: Option<&SymbolPair>,
-) -> Result<Row, XyzKind>
+) -> Result<AtomRow, XyzKind>
     ensures { result ≡ row_of_four (option_copied symbols.entry) word.now x.now y.now z.now }
 {
     let symbol = symbol_of(word, symbols)?;
     let x = parse_nano(x)?;
     let y = parse_nano(y)?;
     let z = parse_nano(z)?;
-    Ok(Row { symbol, x, y, z })
+    Ok(AtomRow { symbol, x, y, z })
 }
 
 // Parses the first word of the count line, which is line number `line`, as the number of atoms.
@@ -161,7 +161,7 @@ fn pass_comment(lines: &mut Lines) -> Result<(), XyzFault>
 }
 
 #[tactic(auto, unfolding(crate::specs::Reading::next_row))]
-fn read_row(lines: &mut Lines, symbols: Option<&SymbolPair>) -> Result<Row, XyzFault>
+fn read_row(lines: &mut Lines, symbols: Option<&SymbolPair>) -> Result<AtomRow, XyzFault>
     ensures { Tells (λ row. (row, left_of lines.new)) result
         (next_row (option_copied symbols.entry) lines.old.taken (lines_of lines.old.rest.now)) }
 {

@@ -2,17 +2,17 @@
 use Rattle.std.specs.Prelude.{ℕ, Result, Ok, Err}
 use Rattle.clap.specs.declared.error.kind.ErrorKind.{ErrorKind}
 use Rattle.clap.specs.declared.error.kind.ErrorKind.TheVariants.{DisplayHelp, DisplayVersion, OutOfMemory}
-use Rattle.lj_serve.specs.declared.program_fault.Fault.{Fault}
-use Rattle.lj_serve.specs.declared.program_fault.Fault.TheVariants.{Write, Listen, Memory, Unreadable, UsersLine}
+use Rattle.lj_serve.specs.declared.program_fault.ProgramFault.{ProgramFault}
+use Rattle.lj_serve.specs.declared.program_fault.ProgramFault.TheVariants.{Write, Listen, Memory, Unreadable, UsersLine}
 use Rattle.lj_serve.specs.Outcomes.{status_of}
 
 -- the exit status of the program
-abbrev pub exit_of : Result (Unit {0}) Fault → ℕ
+abbrev pub exit_of : Result (Unit {0}) ProgramFault → ℕ
 exit_of (Ok done) = 0
 exit_of (Err fault) = status_of fault
 
 -- the faults with which a server can fail
-abbrev pub IsOfServer : Fault → Type 0
+abbrev pub IsOfServer : ProgramFault → Type 0
 IsOfServer (Unreadable file) = Unit {0}
 IsOfServer (UsersLine number) = Unit {0}
 IsOfServer Listen = Unit {0}
@@ -21,7 +21,7 @@ IsOfServer Memory = Unit {0}
 IsOfServer _ = ⊥
 
 -- the faults with which the reading of a file can fail
-abbrev pub IsOfFile : Fault → Type 0
+abbrev pub IsOfFile : ProgramFault → Type 0
 IsOfFile (Unreadable file) = Unit {0}
 IsOfFile Memory = Unit {0}
 IsOfFile _ = ⊥

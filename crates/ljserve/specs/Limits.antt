@@ -1,6 +1,6 @@
 -- How many workers a server may be given, and how many connections it may accept.
 use Rattle.std.specs.Prelude.{◌≡◌, ◌^◌, refl}
-use Rattle.lj_world.specs.declared.limits.TheConstants as world
+use Rattle.lj_world.specs.declared.world_limits.TheConstants as world
 use Rattle.ljserve.specs.declared.option_limits.TheConstants.{MAX_ACCEPTED, MAX_WORKERS}
 
 -- a server has at most 16 workers

@@ -14,7 +14,7 @@ use arguments::{Job, Service, no_text, parse_arguments};
 use clap::Error;
 use clap::error::ErrorKind;
 use lj_quota::Quota;
-use lj_serve::{Fault, read_users, replay, run, serve_on};
+use lj_serve::{ProgramFault, read_users, replay, run, serve_on};
 use lj_wire::{Asked, CountedWriting, Sink};
 use log::sink::Discard;
 use log::{LevelFilter, Log, Logged};
@@ -49,21 +49,21 @@ fn main(rt: HostRuntime) -> ExitCode {
 }
 
 /// Answers the commands of standard input on standard output.
-fn run_input(rt: &HostRuntime, quota: Quota) -> Result<(), Fault<'static>> {
+fn run_input(rt: &HostRuntime, quota: Quota) -> Result<(), ProgramFault<'static>> {
     run(rt.alloc(), quota, rt.reader(), io::writer(rt))
 }
 
 /// Replays the schedule in the file of this name on standard output.
-fn replay_file<'a>(rt: &HostRuntime, file: &'a str) -> Result<(), Fault<'a>> {
+fn replay_file<'a>(rt: &HostRuntime, file: &'a str) -> Result<(), ProgramFault<'a>> {
     let bytes = read_file(rt, file)?;
-    let mut outlet = CountedWriting::new(Asked::writer(io::writer(rt)));
-    replay(rt.alloc(), bytes.as_slice(), &mut outlet)?;
-    outlet.flush()?;
+    let mut counted_writer = CountedWriting::new(Asked::writer(io::writer(rt)));
+    replay(rt.alloc(), bytes.as_slice(), &mut counted_writer)?;
+    counted_writer.flush()?;
     Ok(())
 }
 
 /// Serves the users of a file, and prints how many connections and tiles there were.
-fn serve_users<'a, R>(rt: &R, service: Service<'a>) -> Result<(), Fault<'a>>
+fn serve_users<'a, R>(rt: &R, service: Service<'a>) -> Result<(), ProgramFault<'a>>
 where
     R: Files
         + Alloc<A = Global>
@@ -86,10 +86,10 @@ where
     let bytes = read_file(rt, users)?;
     let users = match read_users(rt.alloc(), bytes.as_slice()) {
         Ok(users) => users,
-        Err(fault) => return Err(Fault::of_users(fault)),
+        Err(fault) => return Err(ProgramFault::of_users(fault)),
     };
     let Ok(listener) = TcpListener::bind(rt, address) else {
-        return Err(Fault::Listen);
+        return Err(ProgramFault::Listen);
     };
     let tiles = serve_on(
         rt,
@@ -102,7 +102,7 @@ where
     )?;
     match println!(rt; "served {connections} connections, {tiles} tiles") {
         Ok(()) => Ok(()),
-        Err(_) => Err(Fault::Write),
+        Err(_) => Err(ProgramFault::Write),
     }
 }
 
@@ -122,13 +122,16 @@ fn take_closed(rt: &HostRuntime) -> Option<File> {
 }
 
 /// Returns the bytes of a file.
-fn read_file<'a, R: Files + Alloc<A = Global>>(rt: &R, file: &'a str) -> Result<Vec<u8>, Fault<'a>>
+fn read_file<'a, R: Files + Alloc<A = Global>>(
+    rt: &R,
+    file: &'a str,
+) -> Result<Vec<u8>, ProgramFault<'a>>
     ensures { IfErr result IsOfFile }
 {
     match fs::read(rt, file) {
         Ok(bytes) => Ok(bytes),
-        Err(error) if error.kind() == io::ErrorKind::OutOfMemory => Err(Fault::Memory),
-        Err(_) => Err(Fault::Unreadable(file)),
+        Err(error) if error.kind() == io::ErrorKind::OutOfMemory => Err(ProgramFault::Memory),
+        Err(_) => Err(ProgramFault::Unreadable(file)),
     }
 }
 
@@ -149,16 +152,16 @@ fn usage(rt: &(impl Print + Eprint), error: &Error) -> ExitCode
     ensures memory { kind_of error.now ≡ OutOfMemory → exit_status result ≡ 3 }
 {
     if error.kind() == ErrorKind::OutOfMemory {
-        return ended(rt, Err(Fault::Memory));
+        return ended(rt, Err(ProgramFault::Memory));
     }
     match error.print(rt) {
         Ok(()) => ExitCode::from(if error.use_stderr() { 2 } else { 0 }),
-        Err(_) => ended(rt, Err(Fault::Write)),
+        Err(_) => ended(rt, Err(ProgramFault::Write)),
     }
 }
 
 /// Prints the fault of the program, if there is one, and returns the exit status.
-fn ended(rt: &impl Eprint, outcome: Result<(), Fault<'_>>) -> ExitCode
+fn ended(rt: &impl Eprint, outcome: Result<(), ProgramFault<'_>>) -> ExitCode
     ensures { exit_status result ≡ exit_of outcome.entry }
 {
     match outcome {

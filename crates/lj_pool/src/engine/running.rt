@@ -1,5 +1,5 @@
 //! The work that is owed to sessions, done over a pool: while a command waits for it, and before the next one is read. Tasks
-//! are written in rooms, which are handed down.
+//! are written in slots, which are handed down.
 ghost use Rattle.std.specs.Prelude.{◌≡◌, ◌+◌, ◌-◌, ◌<◌, ◌≤◌, length, ℕ, Bool, true, false, [], ◌∷◌, Some, None, Ok, IsSome, IfOk, IfErr, IfSome, OnErr, OnOk};
 ghost use Rattle.lj_session.specs.Owner.{IsReplied, IsSettled, task_in, user_in, ready_session};
 ghost use Rattle.lj_wire.specs.Runs.{item_before};
@@ -18,8 +18,8 @@ use lj_session::{Begin, Owner, Refusal, Reply};
 use lj_tile::Task;
 use lj_wire::Item;
 
-/// The rooms in which tasks are written that are posted together.
-pub(crate) type Rooms = [Task; MAX_POSTS];
+/// The slots in which tasks are written that are posted together.
+pub(crate) type TaskSlots = [Task; MAX_POSTS];
 
 /// Why the work was given up.
 #[derive(Clone, Copy, PartialEq, Eq, Debug)]
@@ -34,7 +34,7 @@ pub(crate) fn answer<P: Pool>(
     user: u8,
     pool: &mut P,
     item: &mut Item,
-    rooms: &mut Rooms,
+    slots: &mut TaskSlots,
 ) -> Result<Reply, Halt>
     requires idle { owner.old.waiting ≡ None }
     requires number { owner.old.number ≡ user }
@@ -62,14 +62,19 @@ pub(crate) fn answer<P: Pool>(
     match item {
         Item::Command(command) => match owner.begin_from(command) {
             Begin::Answered(reply) => Ok(reply),
-            Begin::Running => run(owner, user, pool, rooms),
+            Begin::Running => run(owner, user, pool, slots),
         },
         Item::Bad(fault) | Item::Last(fault) => Ok(Reply::Refused(Refusal::from(*fault))),
     }
 }
 
 /// Goes on with the steps of all sessions, until what waits is answered.
-fn run<P: Pool>(owner: &mut Owner, user: u8, pool: &mut P, rooms: &mut Rooms) -> Result<Reply, Halt>
+fn run<P: Pool>(
+    owner: &mut Owner,
+    user: u8,
+    pool: &mut P,
+    slots: &mut TaskSlots,
+) -> Result<Reply, Halt>
     requires waits { IsSome owner.old.waiting }
     requires number { owner.old.number ≡ user }
     requires gathers { Gathers owner.old (P.seen pool.old).owed }
@@ -96,11 +101,11 @@ fn run<P: Pool>(owner: &mut Owner, user: u8, pool: &mut P, rooms: &mut Rooms) ->
                 return Ok(reply);
             }
             poll_next(owner, user, pool);
-            post_next(owner, pool, &mut rooms[0], false)?;
+            post_next(owner, pool, &mut slots[0], false)?;
             strays = 0;
-        } else if !post_or_wait(owner, pool, &mut rooms[0])? {
+        } else if !post_or_wait(owner, pool, &mut slots[0])? {
             strays = strays_after(strays, fetch_next(owner, user, pool)?)?;
-            if poll_and_post(owner, user, pool, rooms) {
+            if poll_and_post(owner, user, pool, slots) {
                 strays = 0;
             }
         }
@@ -115,7 +120,7 @@ pub(crate) fn work_ahead<P: Pool>(
     user: u8,
     pool: &mut P,
     owes: bool,
-    rooms: &mut Rooms,
+    slots: &mut TaskSlots,
 ) -> Result<bool, Halt>
     requires idle { owner.old.waiting ≡ None }
     requires number { owner.old.number ≡ user }
@@ -129,8 +134,8 @@ pub(crate) fn work_ahead<P: Pool>(
         return Ok(false);
     }
     poll_all(owner, user, pool);
-    turn_whole(owner, user, pool, rooms);
-    post_all(owner, pool, rooms);
+    turn_whole(owner, user, pool, slots);
+    post_all(owner, pool, slots);
     fetch_down(owner, user, pool)?;
     poll_all(owner, user, pool);
     Ok(owner.is_busy())
@@ -155,7 +160,7 @@ fn poll_all<P: Pool>(owner: &mut Owner, user: u8, pool: &mut P) -> bool
 
 /// Turns sessions until none is whole. Between two turns a result is taken in and a task posted, so that a session whose
 /// steps have no tiles does not keep the others waiting.
-fn turn_whole<P: Pool>(owner: &mut Owner, user: u8, pool: &mut P, rooms: &mut Rooms)
+fn turn_whole<P: Pool>(owner: &mut Owner, user: u8, pool: &mut P, slots: &mut TaskSlots)
     requires idle { owner.old.waiting ≡ None }
     requires number { owner.old.number ≡ user }
     requires gathers { Gathers owner.old (P.seen pool.old).owed }
@@ -165,47 +170,47 @@ fn turn_whole<P: Pool>(owner: &mut Owner, user: u8, pool: &mut P, rooms: &mut Ro
     while let Some(name) = owner.ready_session() {
         let _none = owner.turn_session(&name);
         poll_next(owner, user, pool);
-        let _posted = post_next(owner, pool, &mut rooms[0], false);
+        let _posted = post_next(owner, pool, &mut slots[0], false);
     }
 }
 
 /// Posts tasks while there is room for them, several at once where the pool has room for several.
-fn post_all<P: Pool>(owner: &mut Owner, pool: &mut P, rooms: &mut Rooms)
+fn post_all<P: Pool>(owner: &mut Owner, pool: &mut P, slots: &mut TaskSlots)
     requires gathers { Gathers owner.old (P.seen pool.old).owed }
     ensures goes_on { GoesOn owner.old (P.seen pool.old) owner.new (P.seen pool.new) }
     ensures own { let user = owner.old.number in P.for_others pool.new user ≡ P.for_others pool.old user }
 {
-    while post_some(owner, pool, rooms) {}
+    while post_some(owner, pool, slots) {}
 }
 
 /// Posts the next tasks together, as many as there is room for. False where there was none, or not all of them were posted.
-fn post_some<P: Pool>(owner: &mut Owner, pool: &mut P, rooms: &mut Rooms) -> bool
+fn post_some<P: Pool>(owner: &mut Owner, pool: &mut P, slots: &mut TaskSlots) -> bool
     requires gathers { Gathers owner.old (P.seen pool.old).owed }
     ensures goes_on { GoesOn owner.old (P.seen pool.old) owner.new (P.seen pool.new) }
     ensures fewer { result ≡ true → posts_coming owner.new < posts_coming owner.old }
     ensures own { let user = owner.old.number in P.for_others pool.new user ≡ P.for_others pool.old user }
 {
-    let written = write_next(owner, pool.room().min(MAX_POSTS), rooms);
+    let written = write_next(owner, pool.room().min(MAX_POSTS), slots);
     if written == 0 {
         return false;
     }
-    let posted = pool.post_some(&rooms[..written]);
+    let posted = pool.post_some(&slots[..written]);
     note_posted(owner, posted);
     posted == written
 }
 
-/// Writes the next tasks in the rooms, at most so many, and posts none. Returns how many.
-fn write_next(owner: &Owner, most: usize, rooms: &mut Rooms) -> usize
+/// Writes the next tasks in the slots, at most so many, and posts none. Returns how many.
+fn write_next(owner: &Owner, most: usize, slots: &mut TaskSlots) -> usize
     requires { most ≤ MAX_POSTS }
     ensures most { result ≤ most }
-    ensures next { AreNext result rooms.new owner.now }
-    ensures rooms { length rooms.new ≡ MAX_POSTS }
+    ensures next { AreNext result slots.new owner.now }
+    ensures slots { length slots.new ≡ MAX_POSTS }
 {
     let Some(mut cursor) = owner.first_tile() else {
         return 0;
     };
     for here in 0..most {
-        if !owner.task_from_in(&mut cursor, &mut rooms[here]) {
+        if !owner.task_from_in(&mut cursor, &mut slots[here]) {
             return here;
         }
     }
@@ -240,7 +245,7 @@ fn fetch_down<P: Pool>(owner: &mut Owner, user: u8, pool: &mut P) -> Result<(), 
 
 /// Posts the next task, and waits for room for it only where nothing is owed. False where there is no task, or no room; then
 /// something is owed.
-fn post_or_wait<P: Pool>(owner: &mut Owner, pool: &mut P, room: &mut Task) -> Result<bool, Halt>
+fn post_or_wait<P: Pool>(owner: &mut Owner, pool: &mut P, slot: &mut Task) -> Result<bool, Halt>
     requires waits { IsSome owner.old.waiting }
     requires none_ready { ready_session owner.old ≡ None }
     requires gathers { Gathers owner.old (P.seen pool.old).owed }
@@ -252,14 +257,14 @@ fn post_or_wait<P: Pool>(owner: &mut Owner, pool: &mut P, room: &mut Task) -> Re
     ensures own { let user = owner.old.number in P.for_others pool.new user ≡ P.for_others pool.old user }
 {
     let wait = pool.owed() == 0;
-    post_next(owner, pool, room, wait)
+    post_next(owner, pool, slot, wait)
 }
 
-/// Posts the next task, written in `room`. False where there is none, or the pool has no place for it now.
+/// Posts the next task, written in `slot`. False where there is none, or the pool has no place for it now.
 fn post_next<P: Pool>(
     owner: &mut Owner,
     pool: &mut P,
-    room: &mut Task,
+    slot: &mut Task,
     wait: bool,
 ) -> Result<bool, Halt>
     requires gathers { Gathers owner.old (P.seen pool.old).owed }
@@ -276,10 +281,10 @@ fn post_next<P: Pool>(
     if pool.is_full() {
         return Ok(false);
     }
-    if !owner.next_task_in(room) {
+    if !owner.next_task_in(slot) {
         return Ok(false);
     }
-    match pool.post_from(room, wait) {
+    match pool.post_from(slot, wait) {
         Ok(()) => {
             owner.posted();
             Ok(true)
@@ -291,7 +296,7 @@ fn post_next<P: Pool>(
 
 /// Takes in what is there of the results that are owed, and posts what there is room for then, so that many tasks go to the
 /// workers together. Whether one of the results was of a tile that is awaited.
-fn poll_and_post<P: Pool>(owner: &mut Owner, user: u8, pool: &mut P, rooms: &mut Rooms) -> bool
+fn poll_and_post<P: Pool>(owner: &mut Owner, user: u8, pool: &mut P, slots: &mut TaskSlots) -> bool
     requires number { owner.old.number ≡ user }
     requires gathers { Gathers owner.old (P.seen pool.old).owed }
     ensures goes_on { GoesOn owner.old (P.seen pool.old) owner.new (P.seen pool.new) }
@@ -299,7 +304,7 @@ fn poll_and_post<P: Pool>(owner: &mut Owner, user: u8, pool: &mut P, rooms: &mut
     ensures own { P.for_others pool.new user ≡ P.for_others pool.old user }
 {
     let taken = poll_all(owner, user, pool);
-    post_all(owner, pool, rooms);
+    post_all(owner, pool, slots);
     taken
 }
 

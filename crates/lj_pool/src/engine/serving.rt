@@ -42,7 +42,7 @@ pub fn serve<R: Source, W: Sink, P: Pool>(
     pool: &mut P,
 ) -> (Option<UserState>, Served, R)
     requires none_owed { (P.seen pool.old).owed ≡ [] }
-    ensures told { Serves result.1 state (R.remaining reader) (R.remaining result.2)
+    ensures dialogue { Serves result.1 state (R.remaining reader) (R.remaining result.2)
         (W.contents writer.old) (W.contents writer.new) (P.seen pool.old) (P.seen pool.new) result.0 }
     ensures end { result.1 ≡ served.End → IsAtEnd (R.remaining result.2) }
     ensures read_fault { result.1 ≡ served.ReadFault → Rises (R.errors reader) (R.errors result.2) }
@@ -71,7 +71,7 @@ pub fn serve_lines<R: Source, W: Sink, P: Pool>(
     requires fresh { lines.old.items ≡ 0 }
     requires at_work { lines.old.phase ≡ Open }
     requires none_owed { (P.seen pool.old).owed ≡ [] }
-    ensures told { Serves result.1 state lines.old.left lines.new.left
+    ensures dialogue { Serves result.1 state lines.old.left lines.new.left
         (W.contents writer.old) (W.contents writer.new) (P.seen pool.old) (P.seen pool.new) result.0 }
     ensures end { result.1 ≡ served.End → IsAtEnd lines.new.left }
     ensures all_read { result.1 ≡ served.ReadFault → lines.new.held ≡ [] }
@@ -86,11 +86,11 @@ pub fn serve_lines<R: Source, W: Sink, P: Pool>(
 {
     let mut owner = Owner::new(state, user);
     let mut line = Line::new();
-    let mut rooms = array::from_fn(|_| Task::blank());
+    let mut slots = array::from_fn(|_| Task::blank());
     let mut item = Item::Bad(Fault::Syntax);
     let mut owes = true;
     'items: loop {
-        owes = match work_ahead(&mut owner, user, pool, owes, &mut rooms) {
+        owes = match work_ahead(&mut owner, user, pool, owes, &mut slots) {
             Ok(owes) => owes,
             Err(halt) => return given_up(owner, halt),
         };
@@ -101,7 +101,7 @@ pub fn serve_lines<R: Source, W: Sink, P: Pool>(
         }
         let ending = ending_of(&item);
         owes = owes || matches!(&item, Item::Command(Command::Start { .. }));
-        let reply = match answer(&mut owner, user, pool, &mut item, &mut rooms) {
+        let reply = match answer(&mut owner, user, pool, &mut item, &mut slots) {
             Ok(reply) => reply,
             Err(halt) => return given_up(owner, halt),
         };

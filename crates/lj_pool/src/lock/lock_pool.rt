@@ -14,7 +14,7 @@ use crate::lock::pool_state::PoolState;
 use crate::pool::NotPosted;
 use crate::share::{Share, shares_of};
 use crate::waking::{TASKS_AT_ONCE, WAIT_QUEUES, wait_queue_of};
-use lj_book::{BoxBook, Counts, Lent, LentDone, MAX_ENTRIES, TaskBox};
+use lj_book::{BoxBook, Counts, LentDone, LentTask, MAX_ENTRIES, TaskBox};
 use lj_tile::{Done, Task};
 use std::alloc::{AllocError, Global};
 use std::array;
@@ -265,7 +265,7 @@ impl<L: Ledger> LockPool<L> {
         rt: &R,
         done: LentDone,
         share: &mut Share<L>,
-    ) -> Option<Lent>
+    ) -> Option<LentTask>
         ensures never_falls { share.old ≤ share.new }
         ensures one_at_most { share.new ≤ share.old + 1 }
     {
@@ -290,7 +290,7 @@ impl<L: Ledger> LockPool<L> {
 
     /// Hands a task back, which is then open again, and wakes waiting workers. Then takes an open task, perhaps the same one, and
     /// waits until there is one. None where the pool is closed.
-    pub(crate) fn hand_back<R: Wait>(&self, rt: &R, lent: Lent) -> Option<Lent> {
+    pub(crate) fn hand_back<R: Wait>(&self, rt: &R, lent: LentTask) -> Option<LentTask> {
         let mut state = self.state.lock(rt);
         let was_full = state.is_full();
         let was_out = state.hand_back(lent);
@@ -304,7 +304,7 @@ impl<L: Ledger> LockPool<L> {
     }
 
     /// Takes an open task, and waits until there is one. None where the pool is closed.
-    pub(crate) fn take<R: Wait>(&self, rt: &R) -> Option<Lent> {
+    pub(crate) fn take<R: Wait>(&self, rt: &R) -> Option<LentTask> {
         let mut state = self.state.lock(rt);
         for _ in rt.forever() {
             let taken = state.take();

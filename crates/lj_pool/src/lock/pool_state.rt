@@ -13,7 +13,7 @@ use crate::lock::end_boxes::{EndBoxes, MAX_IN_HAND, TaskCopies};
 use crate::pool::NotPosted;
 use crate::share::Share;
 use crate::waking::{UnsignalledPosts, WaitQueues};
-use lj_book::{BoxBook, Counts, Key, Lent, LentDone, MAX_ENTRIES, TaskBox};
+use lj_book::{BoxBook, Counts, Key, LentDone, LentTask, MAX_ENTRIES, TaskBox};
 use lj_tile::Task;
 use std::sync::ledger::{self, Ledger};
 
@@ -152,7 +152,7 @@ impl<L: Ledger> PoolState<L> {
     }
 
     /// Takes an open task in its box, round robin. None where there is none, or the pool is closed.
-    pub(crate) fn take(&mut self) -> Option<Lent>
+    pub(crate) fn take(&mut self) -> Option<LentTask>
         ensures some { IfSome result (λ lent. TakesBox self.old.book self.new.book lent) }
         ensures none { IfNone result (self.old.closed ≡ false → (k : ℕ) → ¬ IsOpenAt self.old.book.held k) }
         ensures unchanged { IfNone result (self.new.book ≡ self.old.book) }
@@ -191,7 +191,7 @@ impl<L: Ledger> PoolState<L> {
 
     /// Hands back a task that was taken, and counts it as a post for which workers are to be woken. Returns whether it was out;
     /// where its user's entries were withdrawn it was not, and its box becomes spare.
-    pub(crate) fn hand_back(&mut self, lent: Lent) -> bool
+    pub(crate) fn hand_back(&mut self, lent: LentTask) -> bool
         ensures was_out { IsTrue result ↔ IsOut self.old.book lent }
         ensures hands_back { result ≡ true → HandsBackBox self.old.book self.new.book lent }
         ensures unsignalled { result ≡ true → 1 ≤ self.new.unsignalled }

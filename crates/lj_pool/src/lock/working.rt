@@ -1,6 +1,6 @@
 //! The loop of a worker of a pool, and the sum of what all workers did.
 ghost use Rattle.std.specs.Prelude.{◌≡◌, ◌≤◌, sum, vec_len, true, ⊤};
-ghost use Rattle.lj_tile.specs.declared.names.TaskName.{TaskName};
+ghost use Rattle.lj_tile.specs.declared.task_name.TaskName.{TaskName};
 
 use crate::lock::lock_pool::LockPool;
 use crate::share::{Share, merged};

@@ -10,7 +10,7 @@ use lj_base::{Name, OutOfMemory, Token};
 use lj_book::Counts;
 use lj_pool::{LockEnd, LockPool, Share, gather, work};
 use lj_table::Table;
-use lj_visit::{Backend, Lent, Shut, UserEnd, Visited, visit};
+use lj_visit::{Backend, LentState, Shut, UserEnd, Visited, visit};
 use lj_wire::{LineReader, Sink, Source};
 use log::{Log, info};
 use std::alloc::{AllocError, Global};
@@ -85,7 +85,7 @@ impl<'s, L: Ledger, R: Wait + Clock + Log> Backend for LockBackend<'_, 's, L, R>
         self.visitor.hello(name, token)
     }
 
-    fn enter(&mut self, ticket: Ticket, held: bool) -> Result<Lent, Shut> {
+    fn enter(&mut self, ticket: Ticket, held: bool) -> Result<LentState, Shut> {
         self.visitor.enter(ticket, held)
     }
 
@@ -102,7 +102,7 @@ impl<'s, L: Ledger, R: Wait + Clock + Log> Backend for LockBackend<'_, 's, L, R>
         end.pool.finish();
     }
 
-    fn leave(&mut self, lent: Lent) {
+    fn leave(&mut self, lent: LentState) {
         self.visitor.leave(lent);
     }
 

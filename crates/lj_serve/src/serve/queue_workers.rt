@@ -14,7 +14,7 @@ use lj_queue::{
     work_queue,
 };
 use lj_table::Table;
-use lj_visit::{Backend, Lent, Shut, UserEnd, Visited, visit};
+use lj_visit::{Backend, LentState, Shut, UserEnd, Visited, visit};
 use lj_wire::{LineReader, Sink, Source};
 use log::{Log, info};
 use std::alloc::{AllocError, Global};
@@ -143,7 +143,7 @@ impl<'s, L: PoolIdentity, R: Wait + Clock + Log> Backend for QueueBackend<'_, 's
         self.visitor.hello(name, token)
     }
 
-    fn enter(&mut self, ticket: Ticket, held: bool) -> Result<Lent, Shut> {
+    fn enter(&mut self, ticket: Ticket, held: bool) -> Result<LentState, Shut> {
         self.visitor.enter(ticket, held)
     }
 
@@ -162,7 +162,7 @@ impl<'s, L: PoolIdentity, R: Wait + Clock + Log> Backend for QueueBackend<'_, 's
         self.workers.return_pass(rt, end.pool.finish());
     }
 
-    fn leave(&mut self, lent: Lent) {
+    fn leave(&mut self, lent: LentState) {
         self.visitor.leave(lent);
     }
 

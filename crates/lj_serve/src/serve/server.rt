@@ -2,10 +2,10 @@
 ghost use Rattle.std.specs.Prelude.{◌≡◌, ◌+◌, ◌≤◌, length};
 ghost use Rattle.lj_serve.specs.Named.{AreUsers};
 
-use crate::serve::connection::Server;
 use crate::serve::connection_limit::MAX_OPEN_CONNECTIONS;
 use crate::serve::lock_workers::LockWorkers;
 use crate::serve::queue_workers::QueueWorkers;
+use crate::serve::socket_connection::Server;
 use crate::serve::worker_pool::{Kept, WorkerPool};
 use lj_access::{Directory, User};
 use lj_base::OutOfMemory;

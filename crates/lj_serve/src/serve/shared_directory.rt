@@ -3,7 +3,7 @@ ghost use Rattle.std.specs.Prelude.{◌≡◌, [], ◌∷◌, ◌++◌, List, If
 ghost use Rattle.std.specs.List.{All};
 ghost use Rattle.std.specs.List.Sorted.{IsPermutation};
 ghost use Rattle.lj_access.specs.Passing.{IsNext, PassesOver, tickets_passed};
-ghost use Rattle.lj_access.specs.Rows.{Row};
+ghost use Rattle.lj_access.specs.Rows.{UserRow};
 ghost use Rattle.lj_serve.specs.Entries.{ComesHome, IsReached};
 
 use crate::serve::clock::{end_of, left_until};
@@ -32,7 +32,7 @@ pub struct SharedDirectory {
 
 /// What has become of a ticket that waited for a while.
 #[derive(Drop)]
-pub enum Entry {
+pub enum EntryOutcome {
     /// It has entered, and has the state of its user.
     Entered(UserState),
     /// No ticket enters any more.
@@ -61,7 +61,7 @@ impl DirectoryState {
 
     // Takes a state home, and passes over the next tickets of its user that were given up.
     fn leave(&mut self, ticket: Ticket, state: UserState)
-        ensures passed { (home : List Row) × ComesHome ticket state self.old.directory home
+        ensures passed { (home : List UserRow) × ComesHome ticket state self.old.directory home
             × PassesOver ticket.user home self.new.directory
             × IsPermutation self.old.given_up
             (self.new.given_up ++ tickets_passed ticket.user home self.new.directory) }
@@ -95,21 +95,21 @@ impl SharedDirectory {
     }
 
     /// Waits until the ticket may enter, for `patience` at most.
-    pub fn wait<R: Wait + Clock>(&self, rt: &R, ticket: &Ticket, patience: Duration) -> Entry
+    pub fn wait<R: Wait + Clock>(&self, rt: &R, ticket: &Ticket, patience: Duration) -> EntryOutcome
         ensures { IsReached result }
     {
         let end = end_of(rt, patience);
         let mut locked = self.state.lock(rt);
         for _ in rt.forever() {
             if locked.closed {
-                return Entry::Closed;
+                return EntryOutcome::Closed;
             }
             if let Some(state) = locked.directory.try_enter(ticket) {
-                return Entry::Entered(state);
+                return EntryOutcome::Entered(state);
             }
             let left = left_until(rt, end);
             if left.is_zero() {
-                return Entry::Waits;
+                return EntryOutcome::Waits;
             }
             locked = self.state_returned.wait_timeout(rt, locked, left).0;
         }

@@ -3,10 +3,10 @@ ghost use Rattle.std.specs.Prelude.{◌≡◌, IfOk};
 ghost use Rattle.lj_session.specs.UserState.{Reached};
 
 use crate::serve::first_line::Deadline;
-use crate::serve::shared_directory::{Entry, SharedDirectory};
+use crate::serve::shared_directory::{EntryOutcome, SharedDirectory};
 use lj_access::{Denied, Ticket};
 use lj_base::{Name, Token};
-use lj_visit::{Lent, Shut, Visited};
+use lj_visit::{LentState, Shut, Visited};
 use log::{Log, info};
 use std::io::ErrorKind;
 use std::net::TcpStream;
@@ -61,7 +61,7 @@ impl<'s, R: Wait + Clock + Log> Visitor<'s, R> {
     }
 
     /// Waits until the ticket enters. Each second it checks that the client is still there, unless bytes of it are held.
-    pub fn enter(&mut self, ticket: Ticket, held: bool) -> Result<Lent, Shut>
+    pub fn enter(&mut self, ticket: Ticket, held: bool) -> Result<LentState, Shut>
         ensures ticket { IfOk result (λ lent. lent.ticket ≡ ticket) }
         ensures reached { IfOk result (λ lent. Reached lent.state) }
     {
@@ -71,9 +71,9 @@ impl<'s, R: Wait + Clock + Log> Visitor<'s, R> {
                 .directory
                 .wait(self.rt, &ticket, Duration::from_secs(LOOK_SECONDS))
             {
-                Entry::Entered(state) => return Ok(Lent { ticket, state }),
-                Entry::Closed => return Err(Shut::Closed),
-                Entry::Waits => {}
+                EntryOutcome::Entered(state) => return Ok(LentState { ticket, state }),
+                EntryOutcome::Closed => return Err(Shut::Closed),
+                EntryOutcome::Waits => {}
             }
             if held || is_there(self.stream) {
                 continue;
@@ -87,7 +87,7 @@ impl<'s, R: Wait + Clock + Log> Visitor<'s, R> {
     }
 
     /// Takes a state home.
-    pub fn leave(&self, lent: Lent) {
+    pub fn leave(&self, lent: LentState) {
         self.directory.leave(self.rt, lent.ticket, lent.state);
     }
 

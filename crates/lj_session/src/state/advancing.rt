@@ -2,19 +2,19 @@
 ghost use Rattle.std.specs.Prelude.{◌≡◌, ◌<◌, Bool, false, true, Ok, IsSome, OnErr, position};
 ghost use Rattle.std.specs.Option.{ForSome, option_copied};
 ghost use Rattle.std.specs.Str.{bytes_eq};
-ghost use Rattle.lj_tile.specs.declared.names.Kind.TheVariants.{Energy};
+ghost use Rattle.lj_tile.specs.declared.task_name.Kind.TheVariants.{Energy};
 ghost use Rattle.lj_session.specs.declared.command.Command.TheVariants as commands;
 ghost use Rattle.lj_session.specs.Answers.{answer};
 ghost use Rattle.lj_session.specs.Turns as definition;
 ghost use Rattle.lj_session.specs.UserState as states;
-ghost use Rattle.lj_session.specs.UserState.{IsWhole, MayAdvance, Performs, Reads, with_session_changed, held_session, names};
+ghost use Rattle.lj_session.specs.UserState.{IsWhole, MayAdvance, Performs, Reads, with_session_changed, live_session, names};
 ghost use Rattle.lj_session.specs.UserState.{owed_in};
 ghost use Rattle.lj_session.specs.UserState.{with_more_owed, turns_before, user_of};
 
 use crate::command::Command;
+use crate::live_session::LiveSession;
 use crate::refusal::Refusal;
 use crate::reply::Reply;
-use crate::session::HeldSession;
 use crate::state::UserState;
 use lj_base::Name;
 
@@ -95,8 +95,8 @@ impl UserState {
 
     /// Adds pending steps to a session, which may advance by them.
     pub(crate) fn owe(&mut self, name: &Name, steps: u64)
-        requires session { IsSome (held_session self.old name.now) }
-        requires near { ForSome (held_session self.old name.now) (MayAdvance steps) }
+        requires session { IsSome (live_session self.old name.now) }
+        requires near { ForSome (live_session self.old name.now) (MayAdvance steps) }
         ensures owed { self.new ≡ with_session_changed name.now (with_more_owed steps) self.old }
         ensures user { user_of self.new
             ≡ (answer (user_of self.old) (commands.Advance name.now steps) false).1 }
@@ -155,9 +155,9 @@ impl UserState {
 
     /// Returns the reply to a MEASURE, by the whole energy step of the session.
     pub(crate) fn measured(&self, name: Name) -> Reply
-        requires session { IsSome (held_session self.now name) }
+        requires session { IsSome (live_session self.now name) }
         requires settled { owed_in self.now name ≡ 0 }
-        requires whole { ForSome (held_session self.now name) (IsWhole Energy) }
+        requires whole { ForSome (live_session self.now name) (IsWhole Energy) }
         ensures { Reads self.now (commands.Measure name) (Ok result) }
     {
         let sim = self.session(&name).sim();
@@ -172,9 +172,9 @@ impl UserState {
     }
 
     /// Returns the session of a name.
-    fn session(&self, name: &Name) -> &HeldSession
-        requires { IsSome (held_session self.now name.now) }
-        ensures { held_session self.now name.now ≡ Some result.now }
+    fn session(&self, name: &Name) -> &LiveSession
+        requires { IsSome (live_session self.now name.now) }
+        ensures { live_session self.now name.now ≡ Some result.now }
     {
         self.find(name).unwrap()
     }

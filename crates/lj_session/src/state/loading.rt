@@ -6,10 +6,10 @@ ghost use Rattle.lj_session.specs.UserState.{Performs, user_of, owed_in};
 
 use crate::body::LoadBody;
 use crate::command::Load;
-use crate::opening::Opening;
+use crate::live_session::LiveSession;
+use crate::parsed_load::ParsedLoad;
 use crate::refusal::Refusal;
 use crate::reply::Reply;
-use crate::session::HeldSession;
 use crate::state::UserState;
 use lj_base::Name;
 use lj_quota::{may_load, may_session};
@@ -25,7 +25,7 @@ impl UserState {
         let mix = self.admit(&load)?;
         let Load {
             name,
-            substance,
+            interactions,
             mode,
             body,
             ..
@@ -34,15 +34,15 @@ impl UserState {
             return Err(Refusal::Memory);
         };
         let alloc = *self.sessions.allocator();
-        let symbols = substance.symbols();
-        let opening = Opening::read(alloc, mode, symbols, &body)?;
-        let atoms = opening.count();
+        let symbols = interactions.symbols();
+        let parsed = ParsedLoad::read(alloc, mode, symbols, &body)?;
+        let atoms = parsed.count();
         may_load(&self.quota, &self.used, atoms as u64)?;
-        let session = opening.session(alloc, mix, symbols)?;
+        let session = parsed.session(alloc, mix, symbols)?;
         self.sessions.insert(name.copy(), session)?;
         self.used.sessions += 1;
         self.used.atoms += atoms as u64;
-        Ok(substance.loaded(name, atoms))
+        Ok(interactions.loaded(name, atoms))
     }
 
     /// Removes a session. The others keep their order.
@@ -69,6 +69,6 @@ impl UserState {
             return Err(Refusal::Exists);
         }
         may_session(&self.quota, &self.used)?;
-        load.substance.mix(load.edge)
+        load.interactions.mix(load.edge)
     }
 }

@@ -4,11 +4,11 @@ ghost use Rattle.std.specs.Prelude.{OnErr, IfSome, IfNone, length, slice_get};
 ghost use Rattle.std.specs.List.{IsDistinct, find};
 ghost use Rattle.std.specs.Option.{ForSome, option_copied, option_map};
 ghost use Rattle.std.specs.Str.{bytes_eq};
-ghost use Rattle.lj_tile.specs.declared.names.Kind.TheVariants.{Force};
+ghost use Rattle.lj_tile.specs.declared.task_name.Kind.TheVariants.{Force};
 ghost use Rattle.lj_step.specs.OpenSteps.{tile_number_of};
-ghost use Rattle.lj_session.specs.UserState.{IsWhole, IsAwaited, user_of, held_session, names, owed_in, with_session_changed};
-ghost use Rattle.lj_session.specs.UserState.{HeldSession, IsNextTile, first_with_task, held_session_at, with_step, with_posted};
-ghost use Rattle.lj_session.specs.UserState.{with_tile_in, with_no_step, with_step_passed, state_at_rest, is_whole_in};
+ghost use Rattle.lj_session.specs.UserState.{IsWhole, IsAwaited, user_of, live_session, names, owed_in, with_session_changed};
+ghost use Rattle.lj_session.specs.UserState.{LiveSession, IsNextTile, first_with_task, live_session_at, with_step, with_posted};
+ghost use Rattle.lj_session.specs.UserState.{with_tile_in, with_no_step, with_step_finished, with_steps_restarted, is_whole_in};
 ghost use Rattle.lj_session.specs.UserState as states;
 
 use crate::state::UserState;
@@ -41,8 +41,8 @@ impl UserState {
 
     /// Restarts each step: a session with pending steps has one open, with no tile posted or in, and any other has none
     /// open.
-    pub(crate) fn rest(&mut self)
-        ensures rested { self.new ≡ state_at_rest self.old }
+    pub(crate) fn restart_steps(&mut self)
+        ensures rested { self.new ≡ with_steps_restarted self.old }
         ensures user { user_of self.new ≡ user_of self.old }
         ensures distinct { IsDistinct bytes_eq (names self.new) }
     {
@@ -50,7 +50,7 @@ impl UserState {
             let Some(session) = self.sessions.get_index_mut(i) else {
                 return;
             };
-            session.rest();
+            session.restart_step();
         }
     }
 
@@ -68,42 +68,42 @@ impl UserState {
         None
     }
 
-    /// Writes the task of the next tile, the k-th of the i-th session, to `room`.
-    pub(crate) fn task_in(&self, i: usize, k: usize, label: &Label, room: &mut Task) -> bool
+    /// Writes the task of the next tile, the k-th of the i-th session, to `out`.
+    pub(crate) fn task_in(&self, i: usize, k: usize, label: &Label, out: &mut Task) -> bool
         requires next { IsNextTile self.now i k }
         requires label { slice_get (names self.now) i ≡ Some label.now.session }
-        ensures some { result ≡ true → states.next_task self.now label.now ≡ Some room.new }
+        ensures some { result ≡ true → states.next_task self.now label.now ≡ Some out.new }
         ensures none { result ≡ false → states.next_task self.now label.now ≡ None }
-        ensures unchanged { result ≡ false → room.new ≡ room.old }
+        ensures unchanged { result ≡ false → out.new ≡ out.old }
     {
-        self.at(i).task_in(k, label, room)
+        self.at(i).task_in(k, label, out)
     }
 
     /// Returns how many tiles of the i-th session were posted, or skipped because they were in.
     pub(crate) fn passed_at(&self, i: usize) -> usize
         requires { i < length self.now.sessions }
-        ensures { option_map (λ held. held.passed) (held_session_at self.now i) ≡ Some result }
+        ensures { option_map (λ held. held.passed) (live_session_at self.now i) ≡ Some result }
     {
         self.at(i).passed()
     }
 
-    /// Writes the task of the first awaited tile of the i-th session, from a position of its cover on, to `room`.
+    /// Writes the task of the first awaited tile of the i-th session, from a position of its cover on, to `out`.
     /// Returns the position after it.
     pub(crate) fn task_from_in(
         &self,
         i: usize,
         from: usize,
         label: &Label,
-        room: &mut Task,
+        out: &mut Task,
     ) -> Option<usize>
         requires { i < length self.now.sessions }
-        ensures task { IfSome result (λ _. (held : HeldSession) → held_session_at self.now i ≡ Some held
-            → states.next_of label.now (Some (record held { passed = from })) ≡ Some room.new) }
-        ensures passes { IfSome result (λ next. (held : HeldSession) → held_session_at self.now i ≡ Some held
+        ensures task { IfSome result (λ _. (held : LiveSession) → live_session_at self.now i ≡ Some held
+            → states.next_of label.now (Some (record held { passed = from })) ≡ Some out.new) }
+        ensures passes { IfSome result (λ next. (held : LiveSession) → live_session_at self.now i ≡ Some held
             → with_posted (record held { passed = from }) ≡ record held { passed = next }) }
-        ensures unchanged { IfNone result (room.new ≡ room.old) }
+        ensures unchanged { IfNone result (out.new ≡ out.old) }
     {
-        self.at(i).task_from_in(from, label, room)
+        self.at(i).task_from_in(from, label, out)
     }
 
     /// Notes the next tile, the k-th of the i-th session, as posted.
@@ -169,16 +169,16 @@ impl UserState {
 
     /// Turns a whole force step of a session: its motion advances by one step, one fewer is pending, and the next one
     /// is open if there is one.
-    pub(crate) fn pass_step(&mut self, name: &Name)
-        requires session { IsSome (held_session self.old name.now) }
+    pub(crate) fn finish_step(&mut self, name: &Name)
+        requires session { IsSome (live_session self.old name.now) }
         requires owed { 0 < owed_in self.old name.now }
-        requires whole { ForSome (held_session self.old name.now) (IsWhole Force) }
-        ensures passed { self.new ≡ with_session_changed name.now with_step_passed self.old }
+        requires whole { ForSome (live_session self.old name.now) (IsWhole Force) }
+        ensures passed { self.new ≡ with_session_changed name.now with_step_finished self.old }
         ensures user { user_of self.new ≡ user_of self.old }
     {
         let Some(session) = self.sessions.get_mut(name) else {
             return;
         };
-        session.pass_step();
+        session.finish_step();
     }
 }

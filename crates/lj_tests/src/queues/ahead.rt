@@ -1,8 +1,8 @@
 //! How far work goes ahead of the next command: fifteen tasks may be under way while it is read, and no more.
 
 use super::over_queue::over_queue;
-use super::scene::{Scene, Seen};
-use super::stage::{Host, Stage};
+use super::scenario::{Scenario, Seen};
+use super::test_pool::{Host, TestPool};
 use super::{Counted, close_late, wait_for};
 use arrayvec::{ArrayString, ArrayVec};
 use lj_pool::{Served, serve};
@@ -19,11 +19,11 @@ use std::thread;
 const USER: u8 = 7;
 
 /// The commands of the user.
-type Input = ArrayString<2048>;
+type InputText = ArrayString<2048>;
 
 /// Writes commands that load this many sessions of two atoms and then start each, and a BYE.
-fn input(rt: &impl Abort, sessions: u8) -> Input {
-    let mut input = Input::new();
+fn input(rt: &impl Abort, sessions: u8) -> InputText {
+    let mut input = InputText::new();
     for number in 0..sessions {
         load(rt, &mut input, number);
     }
@@ -37,7 +37,7 @@ fn input(rt: &impl Abort, sessions: u8) -> Input {
 }
 
 /// Writes the load of the session of this number.
-fn load(rt: &impl Abort, input: &mut Input, number: u8) {
+fn load(rt: &impl Abort, input: &mut InputText, number: u8) {
     let written = write!(
         input,
         "LOAD s{number} 256 1 131072 rest 28\n2\ndimer\nAr 0 0 0\nAr 1.5 0 0\n"
@@ -48,23 +48,28 @@ fn load(rt: &impl Abort, input: &mut Input, number: u8) {
 
 /// The number of sessions, and the reply when the last one is started.
 #[derive(Clone, Copy)]
-pub struct Case {
+pub struct StartsCase {
     sessions: u8,
     last: &'static [u8],
 }
 
 /// The number of lines written, how serving ended, and whether the state is handed back.
 #[derive(Clone, Copy, PartialEq, Eq, Debug)]
-pub struct Told {
+pub struct StartsOutcome {
     lines: usize,
     served: Served,
     is_handed_back: bool,
 }
 
 /// Serves these sessions over a pool whose tasks nobody computes, and counts when the last one is started.
-fn serve_starts<S: Stage<R>, R: Host>(rt: &R, stage: &S, case: Case, count: &AtomicU64) -> Told {
+fn serve_starts<S: TestPool<R>, R: Host>(
+    rt: &R,
+    test_pool: &S,
+    case: StartsCase,
+    count: &AtomicU64,
+) -> StartsOutcome {
     let input = input(rt, case.sessions);
-    let mut end = stage.end(rt, USER);
+    let mut end = test_pool.end(rt, USER);
     let mut writer = Writing::new(Counted {
         output: ArrayVec::<u8, 1024>::new(),
         begins: case.last,
@@ -78,9 +83,9 @@ fn serve_starts<S: Stage<R>, R: Host>(rt: &R, stage: &S, case: Case, count: &Ato
     let reader = Reading::new(input.as_str().as_bytes());
     let state = UserState::new(rt.alloc(), quota);
     let (state, served, _) = serve(rt.alloc(), state, USER, reader, &mut writer, &mut end);
-    stage.leave(rt, end);
+    test_pool.leave(rt, end);
     let output = writer.into_inner().output;
-    Told {
+    StartsOutcome {
         lines: output.iter().filter(|byte| **byte == b'\n').count(),
         served,
         is_handed_back: state.is_some(),
@@ -88,30 +93,30 @@ fn serve_starts<S: Stage<R>, R: Host>(rt: &R, stage: &S, case: Case, count: &Ato
 }
 
 /// Serves the sessions over a pool that is closed a while after the last one was started.
-pub fn serve_until_closed<S: Stage<R> + Sync, R: Host + Sync>(
+pub fn serve_until_closed<S: TestPool<R> + Sync, R: Host + Sync>(
     rt: &R,
-    stage: &S,
-    case: Case,
-) -> Told {
+    test_pool: &S,
+    case: StartsCase,
+) -> StartsOutcome {
     let started = AtomicU64::new(0);
     let count = &started;
     let ((), told) = thread::join(
         rt,
         move || {
             wait_for(rt, count);
-            close_late(rt, stage);
+            close_late(rt, test_pool);
         },
-        move || serve_starts(rt, stage, case, count),
+        move || serve_starts(rt, test_pool, case, count),
     );
     told
 }
 
-const FIFTEEN: Case = Case {
+const FIFTEEN: StartsCase = StartsCase {
     sessions: 15,
     last: b"OK START s14 1",
 };
 
-const SIXTEEN: Case = Case {
+const SIXTEEN: StartsCase = StartsCase {
     sessions: 16,
     last: b"OK START s15 1",
 };
@@ -119,22 +124,22 @@ const SIXTEEN: Case = Case {
 /// With more than fifteen tasks the next command is read only once a result has come, and here none comes.
 #[test]
 fn fifteen_tasks_are_under_way_while_a_command_is_read(rt: HostRuntime) -> Result<(), Fail> {
-    let few = Told {
+    let few = StartsOutcome {
         lines: 31,
         served: Served::Bye,
         is_handed_back: true,
     };
-    let many = Told {
+    let many = StartsOutcome {
         lines: 32,
         served: Served::PoolClosed,
         is_handed_back: false,
     };
     assert_eq!(rt;
-        over_queue(&rt, 0, Scene::Ahead(FIFTEEN))?.seen,
+        over_queue(&rt, 0, Scenario::Ahead(FIFTEEN))?.seen,
         Seen::Ahead(few)
     );
     assert_eq!(rt;
-        over_queue(&rt, 0, Scene::Ahead(SIXTEEN))?.seen,
+        over_queue(&rt, 0, Scenario::Ahead(SIXTEEN))?.seen,
         Seen::Ahead(many)
     );
     Ok(())

@@ -3,10 +3,10 @@
 use super::over_lock::{OverLock, over_lock};
 use super::over_queue::{OverQueue, over_queue};
 use super::room::{self, Answer, post_last};
-use super::scene::{Scene, Seen};
-use super::stage::{Host, Stage, beside_worker};
+use super::scenario::{Scenario, Seen};
+use super::test_pool::{Host, TestPool, beside_worker};
 use super::{close_late, posting_end};
-use crate::tasks::task;
+use crate::sample_task::task;
 use lj_pool::Pool;
 use lj_queue::Settled;
 use std::process::Abort;
@@ -30,26 +30,30 @@ fn wait_in_vain<P: Pool, R: Abort>(rt: &R, end: &mut P) -> bool {
 }
 
 /// Does the same while the pool is closed.
-fn wait_until_closed<S: Stage<R> + Sync, P: Pool, R: Host + Sync>(
+fn wait_until_closed<S: TestPool<R> + Sync, P: Pool, R: Host + Sync>(
     rt: &R,
-    stage: &S,
+    test_pool: &S,
     end: &mut P,
 ) -> bool {
-    let ((), is_closed) = thread::join(rt, move || close_late(rt, stage), || wait_in_vain(rt, end));
+    let ((), is_closed) = thread::join(
+        rt,
+        move || close_late(rt, test_pool),
+        || wait_in_vain(rt, end),
+    );
     is_closed
 }
 
 /// Waits for a result by an end until the pool is closed. Returns whether none came, and the end is closed.
-pub fn end_in_vain<S: Stage<R> + Sync, R: Host + Sync>(rt: &R, stage: &S) -> bool {
-    let mut end = stage.end(rt, USER);
-    let is_closed = wait_until_closed(rt, stage, &mut end);
-    stage.leave(rt, end);
+pub fn end_in_vain<S: TestPool<R> + Sync, R: Host + Sync>(rt: &R, test_pool: &S) -> bool {
+    let mut end = test_pool.end(rt, USER);
+    let is_closed = wait_until_closed(rt, test_pool, &mut end);
+    test_pool.leave(rt, end);
     is_closed
 }
 
 #[test]
 fn who_waits_for_a_result_is_told_of_a_closed_pool(rt: HostRuntime) -> Result<(), Fail> {
-    let OverQueue { seen, settled, .. } = over_queue(&rt, 0, Scene::InVain)?;
+    let OverQueue { seen, settled, .. } = over_queue(&rt, 0, Scenario::InVain)?;
     let expected = Settled {
         pushed: 1,
         popped: 0,
@@ -61,7 +65,10 @@ fn who_waits_for_a_result_is_told_of_a_closed_pool(rt: HostRuntime) -> Result<()
 
 #[test]
 fn who_waits_for_a_result_is_told_of_a_closed_book(rt: HostRuntime) -> Result<(), Fail> {
-    assert_eq!(rt; over_lock(&rt, 1, Scene::InVain)?.seen, Seen::Right(true));
+    assert_eq!(rt;
+        over_lock(&rt, 1, Scenario::InVain)?.seen,
+        Seen::Right(true)
+    );
     Ok(())
 }
 
@@ -77,28 +84,28 @@ fn fetch_then_poll<P: Pool>(end: &mut P) -> bool {
 
 /// Lets two ends each fetch one of two results, so that the other one is in hand, and closes the pool. Returns whether neither
 /// result in hand comes any more.
-fn drop_in_hand<S: Stage<R>, R: Host>(rt: &R, stage: &S) -> bool {
-    let mut end = posting_end(rt, stage, USER, 2);
-    let mut other = posting_end(rt, stage, OTHER, 2);
-    let mut last = posting_end(rt, stage, LAST, 1);
+fn drop_in_hand<S: TestPool<R>, R: Host>(rt: &R, test_pool: &S) -> bool {
+    let mut end = posting_end(rt, test_pool, USER, 2);
+    let mut other = posting_end(rt, test_pool, OTHER, 2);
+    let mut last = posting_end(rt, test_pool, LAST, 1);
     let all_given = last.owed() > 0 && last.fetch(LAST).is_some();
     let first_came = end.poll(USER).is_some() && other.poll(OTHER).is_some();
-    stage.close(rt);
+    test_pool.close(rt);
     let are_dropped = poll_then_fetch(&mut end) && fetch_then_poll(&mut other);
-    stage.leave(rt, end);
-    stage.leave(rt, other);
-    stage.leave(rt, last);
+    test_pool.leave(rt, end);
+    test_pool.leave(rt, other);
+    test_pool.leave(rt, last);
     all_given && first_came && are_dropped
 }
 
 /// Closes the pool while ends have results in hand. Returns whether these do not come any more.
-pub fn close_in_hand<S: Stage<R> + Sync, R: Host + Sync>(rt: &R, stage: &S) -> bool {
-    beside_worker(rt, stage, move || drop_in_hand(rt, stage))
+pub fn close_in_hand<S: TestPool<R> + Sync, R: Host + Sync>(rt: &R, test_pool: &S) -> bool {
+    beside_worker(rt, test_pool, move || drop_in_hand(rt, test_pool))
 }
 
 #[test]
 fn results_in_hand_do_not_outlive_the_pool(rt: HostRuntime) -> Result<(), Fail> {
-    let OverQueue { seen, given, .. } = over_queue(&rt, 1, Scene::InHand)?;
+    let OverQueue { seen, given, .. } = over_queue(&rt, 1, Scenario::InHand)?;
     assert_eq!(rt; (seen, given), (Seen::Right(true), 5));
     Ok(())
 }
@@ -106,30 +113,30 @@ fn results_in_hand_do_not_outlive_the_pool(rt: HostRuntime) -> Result<(), Fail> 
 /// The result that came before the close is still the last one of each end.
 #[test]
 fn no_result_outlives_a_pool_behind_a_lock(rt: HostRuntime) -> Result<(), Fail> {
-    let OverLock { seen, given, .. } = over_lock(&rt, 1, Scene::InHand)?;
+    let OverLock { seen, given, .. } = over_lock(&rt, 1, Scenario::InHand)?;
     assert_eq!(rt; (seen, given), (Seen::Right(true), 5));
     Ok(())
 }
 
 /// Posts over a closed pool, by an end from before the close and by a new one, each without waiting and with it.
-pub fn post_after_close<S: Stage<R>, R: Host>(rt: &R, stage: &S) -> [Answer; 4] {
-    let mut present = stage.end(rt, room::LAST);
-    stage.close(rt);
-    let mut new = stage.end(rt, room::LAST);
+pub fn post_after_close<S: TestPool<R>, R: Host>(rt: &R, test_pool: &S) -> [Answer; 4] {
+    let mut present = test_pool.end(rt, room::LAST);
+    test_pool.close(rt);
+    let mut new = test_pool.end(rt, room::LAST);
     let answers = [
         post_last(rt, &mut present, false),
         post_last(rt, &mut present, true),
         post_last(rt, &mut new, false),
         post_last(rt, &mut new, true),
     ];
-    stage.leave(rt, present);
-    stage.leave(rt, new);
+    test_pool.leave(rt, present);
+    test_pool.leave(rt, new);
     answers
 }
 
 #[test]
 fn nothing_is_posted_to_a_closed_pool_behind_a_lock(rt: HostRuntime) -> Result<(), Fail> {
-    let OverLock { seen, counts, .. } = over_lock(&rt, 1, Scene::AfterClose)?;
+    let OverLock { seen, counts, .. } = over_lock(&rt, 1, Scenario::AfterClose)?;
     assert_eq!(rt;
         (seen, counts.posted),
         (Seen::Answers([Answer::Closed; 4]), 0)
@@ -139,7 +146,7 @@ fn nothing_is_posted_to_a_closed_pool_behind_a_lock(rt: HostRuntime) -> Result<(
 
 #[test]
 fn nothing_is_posted_to_a_closed_pool_with_a_queue(rt: HostRuntime) -> Result<(), Fail> {
-    let OverQueue { seen, settled, .. } = over_queue(&rt, 1, Scene::AfterClose)?;
+    let OverQueue { seen, settled, .. } = over_queue(&rt, 1, Scenario::AfterClose)?;
     assert_eq!(rt;
         (seen, settled.pushed),
         (Seen::Answers([Answer::Closed; 4]), 0)

@@ -3,8 +3,8 @@
 use super::over_lock::over_lock;
 use super::over_queue::over_queue;
 use super::post_some;
-use super::scene::{Scene, Seen};
-use super::stage::{Host, Stage};
+use super::scenario::{Scenario, Seen};
+use super::test_pool::{Host, TestPool};
 use lj_pool::{InlinePool, Pool};
 use lj_table::Table;
 use std::process::Abort;
@@ -34,10 +34,10 @@ fn give_twice<P: Pool, R: Abort>(rt: &R, end: &mut P, tasks: i64) -> [Given; 2] 
 }
 
 /// Gives an end 63 tasks, and one more.
-pub fn fill_end<S: Stage<R>, R: Host>(rt: &R, stage: &S) -> [Given; 2] {
-    let mut end = stage.end(rt, USER);
+pub fn fill_end<S: TestPool<R>, R: Host>(rt: &R, test_pool: &S) -> [Given; 2] {
+    let mut end = test_pool.end(rt, USER);
     let given = give_twice(rt, &mut end, 63);
-    stage.leave(rt, end);
+    test_pool.leave(rt, end);
     given
 }
 
@@ -56,7 +56,7 @@ const SIXTY_FOUR: [Given; 2] = [
 #[test]
 fn an_end_of_a_pool_behind_a_lock_takes_sixty_four_tasks(rt: HostRuntime) -> Result<(), Fail> {
     assert_eq!(rt;
-        over_lock(&rt, 1, Scene::Filling)?.seen,
+        over_lock(&rt, 1, Scenario::Filling)?.seen,
         Seen::Filled(SIXTY_FOUR)
     );
     Ok(())
@@ -65,7 +65,7 @@ fn an_end_of_a_pool_behind_a_lock_takes_sixty_four_tasks(rt: HostRuntime) -> Res
 #[test]
 fn an_end_of_a_pool_with_a_queue_takes_sixty_four_tasks(rt: HostRuntime) -> Result<(), Fail> {
     assert_eq!(rt;
-        over_queue(&rt, 1, Scene::Filling)?.seen,
+        over_queue(&rt, 1, Scenario::Filling)?.seen,
         Seen::Filled(SIXTY_FOUR)
     );
     Ok(())

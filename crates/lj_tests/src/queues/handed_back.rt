@@ -2,8 +2,8 @@
 
 use super::over_lock::{OverLock, over_lock};
 use super::over_queue::{OverQueue, over_queue};
-use super::scene::{Scene, Seen};
-use super::stage::{Host, Stage, work_both};
+use super::scenario::{Scenario, Seen};
+use super::test_pool::{Host, TestPool, work_both};
 use super::{Counted, wait_for};
 use arrayvec::ArrayVec;
 use lj_book::Counts;
@@ -76,7 +76,7 @@ impl<'a, R: AllocGlobal + Wait> SendBack<'a, R> {
 }
 
 /// The replies to a user.
-type Output = ArrayVec<u8, 128>;
+type HandBackOutput = ArrayVec<u8, 128>;
 
 /// The commands of the user whose step is held back, and those of the other one.
 const ADVANCES: &str = "LOAD a 256 1 131072 rest 28\n2\ndimer\nAr 0 0 0\nAr 1.5 0 0\nADVANCE a 1\n";
@@ -84,15 +84,20 @@ const ADVANCES: &str = "LOAD a 256 1 131072 rest 28\n2\ndimer\nAr 0 0 0\nAr 1.5 
 const MEASURES: &str = "LOAD a 256 1 131072 rest 28\n2\ndimer\nAr 0 0 0\nAr 1.5 0 0\nMEASURE a\n";
 
 /// Serves the commands of this user.
-fn serve_user<S: Stage<R>, R: Host>(rt: &R, stage: &S, user: u8, gate: &SendBack<R>) -> Output {
+fn serve_user<S: TestPool<R>, R: Host>(
+    rt: &R,
+    test_pool: &S,
+    user: u8,
+    gate: &SendBack<R>,
+) -> HandBackOutput {
     let (input, begins, count) = if user == HELD {
         (ADVANCES, b"OK ADVANCE".as_slice(), &gate.advanced)
     } else {
         (MEASURES, b"OK MEASURE".as_slice(), &gate.measured)
     };
-    let mut end = stage.end(rt, user);
+    let mut end = test_pool.end(rt, user);
     let mut writer = Writing::new(Counted {
-        output: Output::new(),
+        output: HandBackOutput::new(),
         begins,
         count,
     });
@@ -100,44 +105,44 @@ fn serve_user<S: Stage<R>, R: Host>(rt: &R, stage: &S, user: u8, gate: &SendBack
     let state = UserState::new(rt.alloc(), Quota::USUAL);
     let (state, _, _) = serve(rt.alloc(), state, user, reader, &mut writer, &mut end);
     drop(state);
-    stage.leave(rt, end);
+    test_pool.leave(rt, end);
     writer.into_inner().output
 }
 
 /// Serves both users at once, and then closes the pool.
-fn serve_both<S: Stage<R> + Sync, R: Host + Sync>(
+fn serve_both<S: TestPool<R> + Sync, R: Host + Sync>(
     rt: &R,
-    stage: &S,
+    test_pool: &S,
     gate: &SendBack<R>,
-) -> (Output, Output) {
+) -> (HandBackOutput, HandBackOutput) {
     let told = thread::join(
         rt,
-        move || serve_user(rt, stage, HELD, gate),
-        move || serve_user(rt, stage, 1, gate),
+        move || serve_user(rt, test_pool, HELD, gate),
+        move || serve_user(rt, test_pool, 1, gate),
     );
-    stage.close(rt);
+    test_pool.close(rt);
     told
 }
 
 /// The replies to both users, the number of results in the workers' shares, and the counts of the gate.
 #[derive(Drop)]
-struct Told {
-    held: Output,
-    other: Output,
+struct HandBackOutcome {
+    held: HandBackOutput,
+    other: HandBackOutput,
     credited: u64,
     gate: (usize, u64, u64),
 }
 
 /// Serves two users at once, beside two workers. Returns whether all was right.
-pub fn serve_beside_workers<S: Stage<R> + Sync, R: Host + Sync>(rt: &R, stage: &S) -> bool {
+pub fn serve_beside_workers<S: TestPool<R> + Sync, R: Host + Sync>(rt: &R, test_pool: &S) -> bool {
     let gate = SendBack::new(rt);
     let keeper = &gate;
     let ((held, other), (one, another)) = thread::join(
         rt,
-        move || serve_both(rt, stage, keeper),
-        move || work_both(rt, stage, keeper),
+        move || serve_both(rt, test_pool, keeper),
+        move || work_both(rt, test_pool, keeper),
     );
-    is_right(&Told {
+    is_right(&HandBackOutcome {
         held,
         other,
         credited: one.credited.saturating_add(another.credited),
@@ -146,7 +151,7 @@ pub fn serve_beside_workers<S: Stage<R> + Sync, R: Host + Sync>(rt: &R, stage: &
 }
 
 /// Returns whether both users got the replies that they get alone, and each task was sent back once and computed once.
-fn is_right(told: &Told) -> bool {
+fn is_right(told: &HandBackOutcome) -> bool {
     let held = b"OK LOAD a 0 2\nOK ADVANCE a 1\n".as_slice();
     let other = b"OK LOAD a 0 2\nOK MEASURE a 0 2 0 0 0 0 -5349132\n".as_slice();
     told.held.as_slice() == held
@@ -157,7 +162,7 @@ fn is_right(told: &Told) -> bool {
 
 #[test]
 fn tasks_are_sent_back_over_a_pool_behind_a_lock(rt: HostRuntime) -> Result<(), Fail> {
-    let OverLock { seen, counts, .. } = over_lock(&rt, 2, Scene::HandedBack)?;
+    let OverLock { seen, counts, .. } = over_lock(&rt, 2, Scenario::HandedBack)?;
     let all_fetched = Counts {
         posted: 2,
         given: 2,
@@ -171,7 +176,7 @@ fn tasks_are_sent_back_over_a_pool_behind_a_lock(rt: HostRuntime) -> Result<(), 
 
 #[test]
 fn tasks_are_sent_back_over_a_pool_with_a_queue(rt: HostRuntime) -> Result<(), Fail> {
-    let OverQueue { seen, settled, .. } = over_queue(&rt, 2, Scene::HandedBack)?;
+    let OverQueue { seen, settled, .. } = over_queue(&rt, 2, Scenario::HandedBack)?;
     let two_pushed_again = Settled {
         pushed: 4,
         popped: 4,

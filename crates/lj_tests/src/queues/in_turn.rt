@@ -2,10 +2,10 @@
 
 use super::over_lock::over_lock;
 use super::over_queue::over_queue;
-use super::scene::{Scene, Seen};
-use super::stage::{Host, Stage};
+use super::scenario::{Scenario, Seen};
+use super::test_pool::{Host, TestPool};
 use super::{post_one, wait_for};
-use crate::tasks::task;
+use crate::sample_task::task;
 use lj_pool::{Gate, Pool};
 use lj_tile::TaskName;
 use std::process::Abort;
@@ -63,9 +63,9 @@ fn fetch_some<P: Pool>(end: &mut P, results: u8) -> bool {
 
 /// Fetches the first result while the second task is held, so that its key is vacant, and posts a fourth task under it. Then
 /// fetches the others, and closes the pool. Returns whether all came.
-fn post_fourth<S: Stage<R>, P: Pool, R: Host>(
+fn post_fourth<S: TestPool<R>, P: Pool, R: Host>(
     rt: &R,
-    stage: &S,
+    test_pool: &S,
     gate: &Noting<'_, R>,
     end: &mut P,
 ) -> bool {
@@ -74,7 +74,7 @@ fn post_fourth<S: Stage<R>, P: Pool, R: Host>(
     post_one(rt, end, task(rt, USER, 4));
     gate.let_go.fetch_add(1, Ordering::SeqCst);
     let others_came = fetch_some(end, 3);
-    stage.close(rt);
+    test_pool.close(rt);
     is_held && first_came && others_came
 }
 
@@ -88,8 +88,8 @@ fn post_three<P: Pool, R: Abort>(rt: &R, end: &mut P) {
 }
 
 /// Posts three tasks by an end, and then lets a worker come.
-pub fn take_in_turn<S: Stage<R> + Sync, R: Host + Sync>(rt: &R, stage: &S) -> Taken {
-    let mut end = stage.end(rt, USER);
+pub fn take_in_turn<S: TestPool<R> + Sync, R: Host + Sync>(rt: &R, test_pool: &S) -> Taken {
+    let mut end = test_pool.end(rt, USER);
     post_three(rt, &mut end);
     let gate = Noting {
         rt,
@@ -100,10 +100,10 @@ pub fn take_in_turn<S: Stage<R> + Sync, R: Host + Sync>(rt: &R, stage: &S) -> Ta
     let keeper = &gate;
     let (_, all_came) = thread::join(
         rt,
-        move || stage.work(rt, keeper),
-        || post_fourth(rt, stage, keeper, &mut end),
+        move || test_pool.work(rt, keeper),
+        || post_fourth(rt, test_pool, keeper, &mut end),
     );
-    stage.leave(rt, end);
+    test_pool.leave(rt, end);
     Taken {
         all_came,
         order: gate.order.load(Ordering::SeqCst),
@@ -119,7 +119,7 @@ const EXPECTED: Taken = Taken {
 #[test]
 fn tasks_of_a_book_are_taken_in_turn_of_their_keys(rt: HostRuntime) -> Result<(), Fail> {
     assert_eq!(rt;
-        over_lock(&rt, 1, Scene::InTurn)?.seen,
+        over_lock(&rt, 1, Scenario::InTurn)?.seen,
         Seen::Taken(EXPECTED)
     );
     Ok(())
@@ -128,7 +128,7 @@ fn tasks_of_a_book_are_taken_in_turn_of_their_keys(rt: HostRuntime) -> Result<()
 #[test]
 fn tasks_of_a_queue_are_taken_in_the_order_of_their_posts(rt: HostRuntime) -> Result<(), Fail> {
     assert_eq!(rt;
-        over_queue(&rt, 1, Scene::InTurn)?.seen,
+        over_queue(&rt, 1, Scenario::InTurn)?.seen,
         Seen::Taken(EXPECTED)
     );
     Ok(())

@@ -2,10 +2,10 @@
 
 use super::over_lock::over_lock;
 use super::over_queue::over_queue;
-use super::scene::{Scene, Seen};
-use super::stage::{Host, Stage};
+use super::scenario::{Scenario, Seen};
+use super::test_pool::{Host, TestPool};
 use super::{post_one, sleep_a_while};
-use crate::tasks::task;
+use crate::sample_task::task;
 use lj_pool::Pool;
 use std::process::Abort;
 use std::test::Fail;
@@ -31,20 +31,20 @@ fn fetch_one<P: Pool, R: Abort>(rt: &R, end: &mut P) -> bool {
 }
 
 /// Fetches a result before it is computed, by a worker that comes after a while.
-fn fetch_early<S: Stage<R> + Sync, P: Pool, R: Host + Sync>(
+fn fetch_early<S: TestPool<R> + Sync, P: Pool, R: Host + Sync>(
     rt: &R,
-    stage: &S,
+    test_pool: &S,
     end: &mut P,
 ) -> bool {
     let (_, came) = thread::join(
         rt,
         move || {
             sleep_a_while(rt);
-            stage.work(rt, &())
+            test_pool.work(rt, &())
         },
         || {
             let came = fetch_one(rt, end);
-            stage.close(rt);
+            test_pool.close(rt);
             came
         },
     );
@@ -52,13 +52,13 @@ fn fetch_early<S: Stage<R> + Sync, P: Pool, R: Host + Sync>(
 }
 
 /// Polls by an end while nothing is owed to it, and while there is no worker. Then fetches until a result comes.
-pub fn find_nothing<S: Stage<R> + Sync, R: Host + Sync>(rt: &R, stage: &S) -> bool {
-    let mut end = stage.end(rt, USER);
+pub fn find_nothing<S: TestPool<R> + Sync, R: Host + Sync>(rt: &R, test_pool: &S) -> bool {
+    let mut end = test_pool.end(rt, USER);
     let none_owed = poll_nothing(&mut end);
     post_one(rt, &mut end, task(rt, USER, 0));
     let none_computed = poll_nothing(&mut end);
-    let came = fetch_early(rt, stage, &mut end);
-    stage.leave(rt, end);
+    let came = fetch_early(rt, test_pool, &mut end);
+    test_pool.leave(rt, end);
     none_owed && none_computed && came
 }
 
@@ -67,7 +67,7 @@ fn who_finds_nothing_over_a_pool_behind_a_lock_is_told_of_no_close(
     rt: HostRuntime,
 ) -> Result<(), Fail> {
     assert_eq!(rt;
-        over_lock(&rt, 1, Scene::NothingFound)?.seen,
+        over_lock(&rt, 1, Scenario::NothingFound)?.seen,
         Seen::Right(true)
     );
     Ok(())
@@ -78,7 +78,7 @@ fn who_finds_nothing_over_a_pool_with_a_queue_is_told_of_no_close(
     rt: HostRuntime,
 ) -> Result<(), Fail> {
     assert_eq!(rt;
-        over_queue(&rt, 1, Scene::NothingFound)?.seen,
+        over_queue(&rt, 1, Scenario::NothingFound)?.seen,
         Seen::Right(true)
     );
     Ok(())

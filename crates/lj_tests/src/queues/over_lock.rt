@@ -1,8 +1,8 @@
-//! Scenes over a pool behind a lock.
+//! Scenarios over a pool behind a lock.
 ghost use Rattle.std.specs.Prelude.{◌≡◌};
 
-use super::scene::{Scene, Seen, play_over};
-use super::stage::{Host, Stage, Worked};
+use super::scenario::{Scenario, Seen, run_over};
+use super::test_pool::{Host, TestPool, Worked};
 use super::{next, put_back};
 use lj_book::Counts;
 use lj_pool::{Gate, LockEnd, LockPool, Share, gather, work};
@@ -14,14 +14,14 @@ use std::sync::ledger::{Blank, Ledger};
 
 /// A pool behind a lock, with the shares that no worker has.
 #[derive(Drop)]
-struct LockStage<'p, L: Ledger, R> {
+struct LockTestPool<'p, L: Ledger, R> {
     rt: &'p R,
     pool: &'p LockPool<L>,
     shares: Mutex<Vec<Share<L>>>,
 }
 
-impl<'p, L: Ledger + Send + Sync, R: Host + Sync> Stage<R> for LockStage<'p, L, R> {
-    type End = LockEnd<'p, L, R>;
+impl<'p, L: Ledger + Send + Sync, R: Host + Sync> TestPool<R> for LockTestPool<'p, L, R> {
+    type TestEnd = LockEnd<'p, L, R>;
 
     fn end(&self, _rt: &R, _user: u8) -> LockEnd<'p, L, R> {
         self.pool.end(self.rt)
@@ -65,24 +65,24 @@ pub struct OverLock {
     pub counts: Counts,
 }
 
-fn play<L: Ledger + Send + Sync, R: Host + Sync>(
+fn run<L: Ledger + Send + Sync, R: Host + Sync>(
     rt: &R,
     blank: Blank,
     workers: u8,
-    scene: Scene,
+    scenario: Scenario,
 ) -> Result<OverLock, AllocError>
     requires name { blank.name ≡ L.name }
     requires parts { blank.parts ≡ L.parts }
     requires one_each { blank.parts ≡ workers }
 {
     let (pool, shares) = LockPool::<L>::new(rt.alloc(), blank, usize::from(workers))?;
-    let stage = LockStage {
+    let test_pool = LockTestPool {
         rt,
         pool: &pool,
         shares: Mutex::new(shares),
     };
-    let seen = play_over(rt, &stage, scene);
-    let shares = stage.shares.into_inner();
+    let seen = run_over(rt, &test_pool, scenario);
+    let shares = test_pool.shares.into_inner();
     assert!(rt; shares.len() == usize::from(workers));
     Ok(OverLock {
         seen,
@@ -91,21 +91,25 @@ fn play<L: Ledger + Send + Sync, R: Host + Sync>(
     })
 }
 
-fn play_once<R: Host + Sync>(rt: &R, workers: u8, scene: Scene) -> Result<OverLock, AllocError> {
-    play::<Brand, R>(rt, Blank::new(u64::from(workers)), workers, scene)
+fn run_once<R: Host + Sync>(
+    rt: &R,
+    workers: u8,
+    scenario: Scenario,
+) -> Result<OverLock, AllocError> {
+    run::<Brand, R>(rt, Blank::new(u64::from(workers)), workers, scenario)
 }
 
-/// Plays a scene over a pool behind a lock for this many workers; once more if memory was refused.
+/// Runs a scenario over a pool behind a lock for this many workers; once more if memory was refused.
 ///
 /// # Errors
 /// Out of memory.
 pub fn over_lock<R: Host + Sync>(
     rt: &R,
     workers: u8,
-    scene: Scene,
+    scenario: Scenario,
 ) -> Result<OverLock, AllocError> {
-    match play_once(rt, workers, scene) {
-        Err(AllocError) => play_once(rt, workers, scene),
-        played => played,
+    match run_once(rt, workers, scenario) {
+        Err(AllocError) => run_once(rt, workers, scenario),
+        done => done,
     }
 }

@@ -1,8 +1,8 @@
-//! Scenes over a pool with a queue.
+//! Scenarios over a pool with a queue.
 ghost use Rattle.std.specs.Prelude.{◌≡◌, ◌+◌};
 
-use super::scene::{Scene, Seen, play_over};
-use super::stage::{Host, Stage, Worked};
+use super::scenario::{Scenario, Seen, run_over};
+use super::test_pool::{Host, TestPool, Worked};
 use super::{next, put_back};
 use lj_book::Counts;
 use lj_pool::{Gate, Share};
@@ -17,15 +17,15 @@ use std::sync::Mutex;
 
 /// A pool with a queue, with its free passes and shares.
 #[derive(Drop)]
-struct QueueStage<'p, L: PoolIdentity, R> {
+struct QueueTestPool<'p, L: PoolIdentity, R> {
     rt: &'p R,
     pool: &'p QueuePool<L>,
     passes: Mutex<Vec<PoolPass<L>>>,
     shares: Mutex<Vec<Share<L>>>,
 }
 
-impl<'p, L: PoolIdentity + Send + Sync, R: Host + Sync> Stage<R> for QueueStage<'p, L, R> {
-    type End = QueueEnd<'p, L, R>;
+impl<'p, L: PoolIdentity + Send + Sync, R: Host + Sync> TestPool<R> for QueueTestPool<'p, L, R> {
+    type TestEnd = QueueEnd<'p, L, R>;
 
     fn end(&self, rt: &R, user: u8) -> QueueEnd<'p, L, R> {
         let pass = next(rt, &mut self.passes.lock(rt));
@@ -74,11 +74,11 @@ pub struct OverQueue {
     pub settled: Settled,
 }
 
-fn play<L: PoolIdentity + Send + Sync, R: Host + Sync>(
+fn run<L: PoolIdentity + Send + Sync, R: Host + Sync>(
     rt: &R,
     blank: QueueBlank,
     workers: u8,
-    scene: Scene,
+    scenario: Scenario,
 ) -> Result<OverQueue, AllocError>
     requires name { blank.name ≡ L.name }
     requires parts { blank.parts ≡ L.parts }
@@ -88,14 +88,14 @@ fn play<L: PoolIdentity + Send + Sync, R: Host + Sync>(
 {
     let count = usize::from(workers);
     let (pool, passes, shares) = QueuePool::<L>::new(rt.alloc(), blank, count)?;
-    let stage = QueueStage {
+    let test_pool = QueueTestPool {
         rt,
         pool: &pool,
         passes: Mutex::new(passes),
         shares: Mutex::new(shares),
     };
-    let seen = play_over(rt, &stage, scene);
-    let QueueStage { passes, shares, .. } = stage;
+    let seen = run_over(rt, &test_pool, scenario);
+    let QueueTestPool { passes, shares, .. } = test_pool;
     let (passes, shares) = (passes.into_inner(), shares.into_inner());
     assert!(rt; passes.len() == count + CONNECTIONS && shares.len() == count);
     Ok(OverQueue {
@@ -105,22 +105,26 @@ fn play<L: PoolIdentity + Send + Sync, R: Host + Sync>(
     })
 }
 
-fn play_once<R: Host + Sync>(rt: &R, workers: u8, scene: Scene) -> Result<OverQueue, AllocError> {
+fn run_once<R: Host + Sync>(
+    rt: &R,
+    workers: u8,
+    scenario: Scenario,
+) -> Result<OverQueue, AllocError> {
     let blank = QueueBlank::new(rt.alloc(), u64::from(workers))?;
-    play::<Brand, R>(rt, blank, workers, scene)
+    run::<Brand, R>(rt, blank, workers, scenario)
 }
 
-/// Plays a scene over a pool with a queue for this many workers; once more if memory was refused.
+/// Runs a scenario over a pool with a queue for this many workers; once more if memory was refused.
 ///
 /// # Errors
 /// Out of memory.
 pub fn over_queue<R: Host + Sync>(
     rt: &R,
     workers: u8,
-    scene: Scene,
+    scenario: Scenario,
 ) -> Result<OverQueue, AllocError> {
-    match play_once(rt, workers, scene) {
-        Err(AllocError) => play_once(rt, workers, scene),
-        played => played,
+    match run_once(rt, workers, scenario) {
+        Err(AllocError) => run_once(rt, workers, scenario),
+        done => done,
     }
 }

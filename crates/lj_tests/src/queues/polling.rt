@@ -3,10 +3,10 @@
 
 use super::over_lock::over_lock;
 use super::over_queue::over_queue;
-use super::scene::{Scene, Seen};
-use super::stage::{Host, Stage, beside_worker};
+use super::scenario::{Scenario, Seen};
+use super::test_pool::{Host, TestPool, beside_worker};
 use super::{post_one, sleep_a_while};
-use crate::tasks::task;
+use crate::sample_task::task;
 use lj_pool::Pool;
 use std::process::Abort;
 use std::rt::Clock;
@@ -67,12 +67,12 @@ fn poll_for_both<P: Pool, R: Clock + Abort>(rt: &R, end: &mut P) -> bool {
 }
 
 /// Does the same beside a worker, and then closes the pool.
-fn poll_beside<S: Stage<R> + Sync, P: Pool, R: Host + Sync>(
+fn poll_beside<S: TestPool<R> + Sync, P: Pool, R: Host + Sync>(
     rt: &R,
-    stage: &S,
+    test_pool: &S,
     end: &mut P,
 ) -> bool {
-    beside_worker(rt, stage, || poll_for_both(rt, end))
+    beside_worker(rt, test_pool, || poll_for_both(rt, end))
 }
 
 /// Polls over a closed pool. Returns whether nothing came, the third task is still owed, and the end has not noted the close.
@@ -81,12 +81,12 @@ fn poll_closed<P: Pool>(end: &mut P) -> bool {
 }
 
 /// Polls by an end while there is no worker, beside one, and once the pool is closed.
-pub fn poll_in_turn<S: Stage<R> + Sync, R: Host + Sync>(rt: &R, stage: &S) -> Polled {
-    let mut end = stage.end(rt, USER);
+pub fn poll_in_turn<S: TestPool<R> + Sync, R: Host + Sync>(rt: &R, test_pool: &S) -> Polled {
+    let mut end = test_pool.end(rt, USER);
     let none_at_first = post_first(rt, &mut end);
-    let both_came = poll_beside(rt, stage, &mut end);
+    let both_came = poll_beside(rt, test_pool, &mut end);
     let none_of_closed = poll_closed(&mut end);
-    stage.leave(rt, end);
+    test_pool.leave(rt, end);
     Polled {
         none_at_first,
         both_came,
@@ -97,7 +97,7 @@ pub fn poll_in_turn<S: Stage<R> + Sync, R: Host + Sync>(rt: &R, stage: &S) -> Po
 #[test]
 fn polls_over_a_pool_behind_a_lock_do_not_wait(rt: HostRuntime) -> Result<(), Fail> {
     assert_eq!(rt;
-        over_lock(&rt, 1, Scene::Polling)?.seen,
+        over_lock(&rt, 1, Scenario::Polling)?.seen,
         Seen::Polled(EXPECTED)
     );
     Ok(())
@@ -106,7 +106,7 @@ fn polls_over_a_pool_behind_a_lock_do_not_wait(rt: HostRuntime) -> Result<(), Fa
 #[test]
 fn polls_over_a_pool_with_a_queue_do_not_wait(rt: HostRuntime) -> Result<(), Fail> {
     assert_eq!(rt;
-        over_queue(&rt, 1, Scene::Polling)?.seen,
+        over_queue(&rt, 1, Scenario::Polling)?.seen,
         Seen::Polled(EXPECTED)
     );
     Ok(())

@@ -3,10 +3,10 @@
 use super::over_lock::{OverLock, over_lock};
 use super::over_queue::{OverQueue, over_queue};
 use super::room::{Answer, ENDS, LAST, fill, post_last};
-use super::scene::{Scene, Seen};
-use super::stage::{Host, Stage};
+use super::scenario::{Scenario, Seen};
+use super::test_pool::{Host, TestPool};
 use super::wait_for;
-use crate::tasks::task;
+use crate::sample_task::task;
 use lj_pool::{Gate, Pool};
 use lj_tile::TaskName;
 use std::alloc::AllocError;
@@ -42,7 +42,7 @@ impl<R: Clock + Wait> Gate for Barrier<'_, R> {
 
 /// What came of the posts.
 #[derive(Clone, Copy, PartialEq, Eq, Debug)]
-pub struct Told {
+pub struct RefusalCounts {
     /// The number of posts that found no room.
     refused: u64,
     /// The answer to one more while a worker had taken a task, and given no result.
@@ -110,22 +110,22 @@ fn post_all<P: Pool, R: Abort>(rt: &R, ends: &mut Vec<P>) -> u64 {
 
 /// Posts one more task while the first one is held, fetches the results of all, posts as many again while at most one of these is
 /// held, and closes the pool.
-fn go_on<S: Stage<R>, P: Pool, R: Host>(
+fn go_on<S: TestPool<R>, P: Pool, R: Host>(
     rt: &R,
-    stage: &S,
+    test_pool: &S,
     barrier: &Barrier<'_, R>,
     ends: &mut Vec<P>,
     last: &mut P,
-) -> Told {
+) -> RefusalCounts {
     wait_for(rt, &barrier.came);
     let beside_taken = post_last(rt, last, false);
     barrier.open.store(1, Ordering::SeqCst);
     let fetched = fetch_all(ends).saturating_add(fetch_owed(last, LAST));
     barrier.open.store(0, Ordering::SeqCst);
     let posted = post_all(rt, ends);
-    stage.close(rt);
+    test_pool.close(rt);
     barrier.open.store(1, Ordering::SeqCst);
-    Told {
+    RefusalCounts {
         refused: 0,
         beside_taken,
         fetched,
@@ -137,12 +137,12 @@ fn go_on<S: Stage<R>, P: Pool, R: Host>(
 ///
 /// # Errors
 /// Out of memory.
-pub fn refuse_many<S: Stage<R> + Sync, R: Host + Sync>(
+pub fn refuse_many<S: TestPool<R> + Sync, R: Host + Sync>(
     rt: &R,
-    stage: &S,
-) -> Result<Told, AllocError> {
-    let mut ends = fill(rt, stage)?;
-    let mut last = stage.end(rt, LAST);
+    test_pool: &S,
+) -> Result<RefusalCounts, AllocError> {
+    let mut ends = fill(rt, test_pool)?;
+    let mut last = test_pool.end(rt, LAST);
     let refused = post_in_vain(rt, &mut last);
     let barrier = Barrier {
         rt,
@@ -152,21 +152,21 @@ pub fn refuse_many<S: Stage<R> + Sync, R: Host + Sync>(
     let keeper = &barrier;
     let (_, told) = thread::join(
         rt,
-        move || stage.work(rt, keeper),
-        || go_on(rt, stage, keeper, &mut ends, &mut last),
+        move || test_pool.work(rt, keeper),
+        || go_on(rt, test_pool, keeper, &mut ends, &mut last),
     );
-    stage.leave(rt, last);
+    test_pool.leave(rt, last);
     for end in ends {
-        stage.leave(rt, end);
+        test_pool.leave(rt, end);
     }
-    Ok(Told { refused, ..told })
+    Ok(RefusalCounts { refused, ..told })
 }
 
 /// A task that is taken keeps its place in the book until its result is fetched.
 #[test]
 fn no_room_of_a_book_is_lost_by_refused_posts(rt: HostRuntime) -> Result<(), Fail> {
-    let OverLock { seen, counts, .. } = over_lock(&rt, 1, Scene::Refused)?;
-    let told = Told {
+    let OverLock { seen, counts, .. } = over_lock(&rt, 1, Scenario::Refused)?;
+    let told = RefusalCounts {
         refused: REFUSED,
         beside_taken: Answer::Full,
         fetched: 1024,
@@ -179,8 +179,8 @@ fn no_room_of_a_book_is_lost_by_refused_posts(rt: HostRuntime) -> Result<(), Fai
 /// A task that is taken frees its place in the queue.
 #[test]
 fn no_room_of_a_queue_is_lost_by_refused_posts(rt: HostRuntime) -> Result<(), Fail> {
-    let OverQueue { seen, settled, .. } = over_queue(&rt, 1, Scene::Refused)?;
-    let told = Told {
+    let OverQueue { seen, settled, .. } = over_queue(&rt, 1, Scenario::Refused)?;
+    let told = RefusalCounts {
         refused: REFUSED,
         beside_taken: Answer::Posted,
         fetched: 1025,

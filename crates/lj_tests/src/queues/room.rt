@@ -3,10 +3,10 @@
 
 use super::over_lock::{OverLock, over_lock};
 use super::over_queue::{OverQueue, over_queue};
-use super::scene::{Scene, Seen};
-use super::stage::{Host, Stage};
+use super::scenario::{Scenario, Seen};
+use super::test_pool::{Host, TestPool};
 use super::{posting_end, put_back, sleep_a_while};
-use crate::tasks::task;
+use crate::sample_task::task;
 use lj_book::Counts;
 use lj_pool::{Pool, Refused};
 use lj_queue::Settled;
@@ -37,15 +37,15 @@ pub enum Answer {
 ///
 /// # Errors
 /// Out of memory.
-pub fn fill_from<S: Stage<R>, R: Host>(
+pub fn fill_from<S: TestPool<R>, R: Host>(
     rt: &R,
-    stage: &S,
+    test_pool: &S,
     first: i64,
-) -> Result<Vec<S::End>, AllocError> {
+) -> Result<Vec<S::TestEnd>, AllocError> {
     let mut ends = Vec::with_capacity(rt.alloc(), usize::from(ENDS))?;
     for user in 0..ENDS {
         let tasks = if user == 0 { first } else { 64 };
-        put_back(rt, &mut ends, posting_end(rt, stage, user, tasks));
+        put_back(rt, &mut ends, posting_end(rt, test_pool, user, tasks));
     }
     Ok(ends)
 }
@@ -54,8 +54,8 @@ pub fn fill_from<S: Stage<R>, R: Host>(
 ///
 /// # Errors
 /// Out of memory.
-pub fn fill<S: Stage<R>, R: Host>(rt: &R, stage: &S) -> Result<Vec<S::End>, AllocError> {
-    fill_from(rt, stage, 64)
+pub fn fill<S: TestPool<R>, R: Host>(rt: &R, test_pool: &S) -> Result<Vec<S::TestEnd>, AllocError> {
+    fill_from(rt, test_pool, 64)
 }
 
 /// Posts a task by an end that is owed nothing.
@@ -73,20 +73,24 @@ pub fn post_last<P: Pool, R: Abort>(rt: &R, end: &mut P, wait: bool) -> Answer {
 }
 
 /// Posts a task that may wait for room, fetches its result, and closes the pool. Returns the answer, and whether the result came.
-fn post_and_fetch<S: Stage<R>, P: Pool, R: Host>(rt: &R, stage: &S, end: &mut P) -> (Answer, bool) {
+fn post_and_fetch<S: TestPool<R>, P: Pool, R: Host>(
+    rt: &R,
+    test_pool: &S,
+    end: &mut P,
+) -> (Answer, bool) {
     let waited = post_last(rt, end, true);
     let fetched = if end.owed() > 0 {
         end.fetch(LAST)
     } else {
         None
     };
-    stage.close(rt);
+    test_pool.close(rt);
     let came = fetched.is_some_and(|done| done.task().is(&task(rt, LAST, 0)));
     (waited, came)
 }
 
 /// The answers to the end that comes last, at once and after it waited, and whether its result came.
-pub type Told = (Answer, Answer, bool);
+pub type WaitAnswers = (Answer, Answer, bool);
 
 /// What happens to a full pool, after a while.
 #[derive(Clone, Copy, PartialEq, Eq)]
@@ -101,33 +105,33 @@ pub enum Relief {
 
 /// A full pool, where the end that comes last is refused, and then waits until there is room or the pool is closed.
 #[derive(Clone, Copy)]
-pub struct Crowd {
+pub struct FullPool {
     relief: Relief,
 }
 
-impl Crowd {
+impl FullPool {
     /// Makes room or closes the pool, and computes tasks until it is closed.
-    fn relieve<S: Stage<R>, R: Host>(&self, rt: &R, stage: &S) {
+    fn relieve<S: TestPool<R>, R: Host>(&self, rt: &R, test_pool: &S) {
         sleep_a_while(rt);
         match self.relief {
             Relief::Worker => {}
-            Relief::Withdrawal => stage.withdraw(rt, 0),
-            Relief::Close => stage.close(rt),
+            Relief::Withdrawal => test_pool.withdraw(rt, 0),
+            Relief::Close => test_pool.close(rt),
         }
-        stage.work(rt, &());
+        test_pool.work(rt, &());
     }
 
     /// Lets the end that comes last wait meanwhile.
-    fn wait<S: Stage<R> + Sync, P: Pool, R: Host + Sync>(
+    fn wait<S: TestPool<R> + Sync, P: Pool, R: Host + Sync>(
         &self,
         rt: &R,
-        stage: &S,
+        test_pool: &S,
         last: &mut P,
     ) -> (Answer, bool) {
         let ((), told) = thread::join(
             rt,
-            move || self.relieve(rt, stage),
-            || post_and_fetch(rt, stage, last),
+            move || self.relieve(rt, test_pool),
+            || post_and_fetch(rt, test_pool, last),
         );
         told
     }
@@ -136,25 +140,25 @@ impl Crowd {
     ///
     /// # Errors
     /// Out of memory.
-    pub fn play<S: Stage<R> + Sync, R: Host + Sync>(
+    pub fn run<S: TestPool<R> + Sync, R: Host + Sync>(
         &self,
         rt: &R,
-        stage: &S,
-    ) -> Result<Told, AllocError> {
-        let ends = fill(rt, stage)?;
-        let mut last = stage.end(rt, LAST);
+        test_pool: &S,
+    ) -> Result<WaitAnswers, AllocError> {
+        let ends = fill(rt, test_pool)?;
+        let mut last = test_pool.end(rt, LAST);
         let at_once = post_last(rt, &mut last, false);
-        let (waited, fetched) = self.wait(rt, stage, &mut last);
-        stage.leave(rt, last);
+        let (waited, fetched) = self.wait(rt, test_pool, &mut last);
+        test_pool.leave(rt, last);
         for end in ends {
-            stage.leave(rt, end);
+            test_pool.leave(rt, end);
         }
         Ok((at_once, waited, fetched))
     }
 }
 
-fn filled_until(relief: Relief) -> Scene {
-    Scene::Crowd(Crowd { relief })
+fn filled_until(relief: Relief) -> Scenario {
+    Scenario::FullPool(FullPool { relief })
 }
 
 #[test]
@@ -172,7 +176,7 @@ fn who_waits_for_room_goes_on(rt: HostRuntime) -> Result<(), Fail> {
     };
     assert_eq!(rt;
         (seen, given, settled),
-        (Seen::Crowd(Ok(told)), 1025, all_popped)
+        (Seen::FullPool(Ok(told)), 1025, all_popped)
     );
     Ok(())
 }
@@ -192,7 +196,7 @@ fn who_waits_for_room_is_told_of_a_closed_pool(rt: HostRuntime) -> Result<(), Fa
     };
     assert_eq!(rt;
         (seen, given, settled),
-        (Seen::Crowd(Ok(told)), 0, all_left)
+        (Seen::FullPool(Ok(told)), 0, all_left)
     );
     Ok(())
 }
@@ -213,7 +217,7 @@ fn who_waits_for_room_in_a_book_goes_on(rt: HostRuntime) -> Result<(), Fail> {
         withdrawn: 64,
         entries: 960,
     };
-    assert_eq!(rt; (seen, counts), (Seen::Crowd(Ok(told)), one_fetched));
+    assert_eq!(rt; (seen, counts), (Seen::FullPool(Ok(told)), one_fetched));
     Ok(())
 }
 
@@ -234,7 +238,7 @@ fn who_waits_for_room_in_a_book_is_told_of_a_closed_pool(rt: HostRuntime) -> Res
     };
     assert_eq!(rt;
         (seen, given, counts),
-        (Seen::Crowd(Ok(told)), 0, none_taken)
+        (Seen::FullPool(Ok(told)), 0, none_taken)
     );
     Ok(())
 }

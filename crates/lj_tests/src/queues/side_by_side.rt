@@ -3,8 +3,8 @@
 
 use super::over_lock::over_lock;
 use super::over_queue::over_queue;
-use super::scene::{Scene, Seen};
-use super::stage::{Host, Stage, work_both};
+use super::scenario::{Scenario, Seen};
+use super::test_pool::{Host, TestPool, work_both};
 use super::wait_for;
 use arrayvec::ArrayVec;
 use lj_pool::{Gate, serve};
@@ -66,13 +66,13 @@ impl<'a, R> HoldFirst<'a, R> {
 
 /// The input of the user: `first`, and `then` once the gate was called for a task of `b`.
 #[derive(Drop)]
-struct Words<'a, R> {
+struct TwoPartInput<'a, R> {
     gate: &'a HoldFirst<'a, R>,
     first: &'a [u8],
     then: &'a [u8],
 }
 
-impl<R: Clock + Wait> Read for Words<'_, R> {
+impl<R: Clock + Wait> Read for TwoPartInput<'_, R> {
     fn read(&mut self, buf: &mut [u8]) -> io::Result<usize> {
         if !self.first.is_empty() {
             return self.first.read(buf);
@@ -85,7 +85,7 @@ impl<R: Clock + Wait> Read for Words<'_, R> {
 }
 
 /// The replies to the user.
-type Output = ArrayVec<u8, 128>;
+type SessionsOutput = ArrayVec<u8, 128>;
 
 /// The commands that start both sessions.
 const STARTS: &str = "LOAD a 256 1 131072 rest 28\n2\ndimer\nAr 0 0 0\nAr 1.5 0 0\n\
@@ -98,10 +98,14 @@ const TOLD: &str =
     "OK LOAD a 0 2\nOK LOAD b 0 2\nOK START a 1\nOK START b 1\nOK SHOW a 1 0 589 0 0\n";
 
 /// Serves the user, and then closes the pool.
-fn serve_starts<S: Stage<R>, R: Host>(rt: &R, stage: &S, gate: &HoldFirst<'_, R>) -> Output {
-    let mut end = stage.end(rt, USER);
-    let mut writer = Writing::new(Output::new());
-    let reader = Reading::new(Words {
+fn serve_starts<S: TestPool<R>, R: Host>(
+    rt: &R,
+    test_pool: &S,
+    gate: &HoldFirst<'_, R>,
+) -> SessionsOutput {
+    let mut end = test_pool.end(rt, USER);
+    let mut writer = Writing::new(SessionsOutput::new());
+    let reader = Reading::new(TwoPartInput {
         gate,
         first: STARTS.as_bytes(),
         then: SHOW.as_bytes(),
@@ -109,33 +113,33 @@ fn serve_starts<S: Stage<R>, R: Host>(rt: &R, stage: &S, gate: &HoldFirst<'_, R>
     let state = UserState::new(rt.alloc(), Quota::USUAL);
     let (state, _, _) = serve(rt.alloc(), state, USER, reader, &mut writer, &mut end);
     drop(state);
-    stage.leave(rt, end);
-    stage.close(rt);
+    test_pool.leave(rt, end);
+    test_pool.close(rt);
     writer.into_inner()
 }
 
 /// Serves a user beside two workers. Returns whether all was right.
-pub fn serve_beside_workers<S: Stage<R> + Sync, R: Host + Sync>(rt: &R, stage: &S) -> bool {
+pub fn serve_beside_workers<S: TestPool<R> + Sync, R: Host + Sync>(rt: &R, test_pool: &S) -> bool {
     let gate = HoldFirst::new(rt);
     let keeper = &gate;
     let (output, _) = thread::join(
         rt,
-        move || serve_starts(rt, stage, keeper),
-        move || work_both(rt, stage, keeper),
+        move || serve_starts(rt, test_pool, keeper),
+        move || work_both(rt, test_pool, keeper),
     );
     is_right(&output, gate.counts())
 }
 
 /// Returns whether the session is shown as it is alone, and its task passed after the gate was called for the other one, while
 /// the user sent nothing.
-fn is_right(told: &Output, counts: [u64; 3]) -> bool {
+fn is_right(told: &SessionsOutput, counts: [u64; 3]) -> bool {
     told.as_slice() == TOLD.as_bytes() && counts == [1, 1, 1]
 }
 
 #[test]
 fn sessions_are_worked_on_at_once_over_a_pool_behind_a_lock(rt: HostRuntime) -> Result<(), Fail> {
     assert_eq!(rt;
-        over_lock(&rt, 2, Scene::SideBySide)?.seen,
+        over_lock(&rt, 2, Scenario::SideBySide)?.seen,
         Seen::Right(true)
     );
     Ok(())
@@ -144,7 +148,7 @@ fn sessions_are_worked_on_at_once_over_a_pool_behind_a_lock(rt: HostRuntime) -> 
 #[test]
 fn sessions_are_worked_on_at_once_over_a_pool_with_a_queue(rt: HostRuntime) -> Result<(), Fail> {
     assert_eq!(rt;
-        over_queue(&rt, 2, Scene::SideBySide)?.seen,
+        over_queue(&rt, 2, Scenario::SideBySide)?.seen,
         Seen::Right(true)
     );
     Ok(())

@@ -4,9 +4,9 @@
 use super::over_lock::{OverLock, over_lock};
 use super::over_queue::{OverQueue, over_queue};
 use super::room::{LAST, fill_from};
-use super::scene::{Scene, Seen};
-use super::stage::{Host, Stage};
-use crate::tasks::task;
+use super::scenario::{Scenario, Seen};
+use super::test_pool::{Host, TestPool};
+use crate::sample_task::task;
 use lj_pool::{MAX_OWED, MAX_POSTS, Pool};
 use std::alloc::AllocError;
 use std::process::Abort;
@@ -14,19 +14,19 @@ use std::test::Fail;
 
 /// The number of tasks posted, the number then owed to the end, and whether it has seen the pool closed.
 #[derive(Clone, Copy, PartialEq, Eq, Debug)]
-pub struct Told {
+pub struct PostsOutcome {
     posted: usize,
     owed: usize,
     closed: bool,
 }
 
 /// Posts four tasks together.
-fn post_four<P: Pool, R: Abort>(rt: &R, end: &mut P) -> Told {
+fn post_four<P: Pool, R: Abort>(rt: &R, end: &mut P) -> PostsOutcome {
     let tasks = [0, 1, 2, 3].map(|step| task(rt, LAST, step));
     let has_room = end.owed() <= MAX_OWED - MAX_POSTS;
     assert!(rt; has_room);
     let posted = end.post_some(&tasks);
-    Told {
+    PostsOutcome {
         posted,
         owed: end.owed(),
         closed: end.closed(),
@@ -37,33 +37,36 @@ fn post_four<P: Pool, R: Abort>(rt: &R, end: &mut P) -> Told {
 ///
 /// # Errors
 /// Out of memory.
-pub fn post_together<S: Stage<R>, R: Host>(rt: &R, stage: &S) -> Result<[Told; 3], AllocError> {
-    let ends = fill_from(rt, stage, 62)?;
-    let mut last = stage.end(rt, LAST);
+pub fn post_together<S: TestPool<R>, R: Host>(
+    rt: &R,
+    test_pool: &S,
+) -> Result<[PostsOutcome; 3], AllocError> {
+    let ends = fill_from(rt, test_pool, 62)?;
+    let mut last = test_pool.end(rt, LAST);
     let some = post_four(rt, &mut last);
     let none = post_four(rt, &mut last);
-    stage.close(rt);
+    test_pool.close(rt);
     let of_closed = post_four(rt, &mut last);
-    stage.leave(rt, last);
+    test_pool.leave(rt, last);
     for end in ends {
-        stage.leave(rt, end);
+        test_pool.leave(rt, end);
     }
     Ok([some, none, of_closed])
 }
 
 /// Two of 1,024 places were left: 62 tasks and 15 times 64 had the others.
-const TOLD: [Told; 3] = [
-    Told {
+const TOLD: [PostsOutcome; 3] = [
+    PostsOutcome {
         posted: 2,
         owed: 2,
         closed: false,
     },
-    Told {
+    PostsOutcome {
         posted: 0,
         owed: 2,
         closed: false,
     },
-    Told {
+    PostsOutcome {
         posted: 0,
         owed: 2,
         closed: true,
@@ -72,14 +75,14 @@ const TOLD: [Told; 3] = [
 
 #[test]
 fn the_first_of_four_tasks_have_the_last_places_of_a_book(rt: HostRuntime) -> Result<(), Fail> {
-    let OverLock { seen, counts, .. } = over_lock(&rt, 1, Scene::Together)?;
+    let OverLock { seen, counts, .. } = over_lock(&rt, 1, Scenario::Together)?;
     assert_eq!(rt; (seen, counts.posted), (Seen::Together(Ok(TOLD)), 1024));
     Ok(())
 }
 
 #[test]
 fn the_first_of_four_tasks_have_the_last_places_of_a_queue(rt: HostRuntime) -> Result<(), Fail> {
-    let OverQueue { seen, settled, .. } = over_queue(&rt, 1, Scene::Together)?;
+    let OverQueue { seen, settled, .. } = over_queue(&rt, 1, Scenario::Together)?;
     assert_eq!(rt; (seen, settled.pushed), (Seen::Together(Ok(TOLD)), 1024));
     Ok(())
 }

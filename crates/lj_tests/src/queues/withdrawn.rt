@@ -2,10 +2,10 @@
 
 use super::over_lock::over_lock;
 use super::over_queue::{OverQueue, over_queue};
-use super::scene::{Scene, Seen};
-use super::stage::{Host, Stage, beside_worker};
+use super::scenario::{Scenario, Seen};
+use super::test_pool::{Host, TestPool, beside_worker};
 use super::{post_one, posting_end};
-use crate::tasks::task;
+use crate::sample_task::task;
 use lj_book::Counts;
 use lj_pool::Pool;
 use std::process::Abort;
@@ -48,10 +48,10 @@ const EXPECTED: Left = Left {
 };
 
 /// Posts the last task, and waits for its result. Returns whether it came.
-pub fn play_last<S: Stage<R>, R: Host>(rt: &R, stage: &S) -> bool {
-    let mut last = posting_end(rt, stage, LAST, 1);
+pub fn await_last<S: TestPool<R>, R: Host>(rt: &R, test_pool: &S) -> bool {
+    let mut last = posting_end(rt, test_pool, LAST, 1);
     let came = last.owed() > 0 && last.fetch(LAST).is_some();
-    stage.leave(rt, last);
+    test_pool.leave(rt, last);
     came
 }
 
@@ -69,21 +69,21 @@ fn count_polled<P: Pool, R: Abort>(rt: &R, end: &mut P, user: u8, steps: (i64, i
 
 /// Withdraws a user once all results were given, when its end has some of them in hand: these are still handed out. The
 /// neighbour's end also posts a task of that user, whose result does not come.
-fn leave_with_end<S: Stage<R>, R: Host>(rt: &R, stage: &S) -> Left {
-    let mut gone = posting_end(rt, stage, GONE, GONE_TASKS);
-    let mut neighbour = posting_end(rt, stage, NEIGHBOUR, NEIGHBOUR_TASKS);
+fn leave_with_end<S: TestPool<R>, R: Host>(rt: &R, test_pool: &S) -> Left {
+    let mut gone = posting_end(rt, test_pool, GONE, GONE_TASKS);
+    let mut neighbour = posting_end(rt, test_pool, NEIGHBOUR, NEIGHBOUR_TASKS);
     post_one(rt, &mut neighbour, task(rt, GONE, GONE_TASKS));
-    let last_came = play_last(rt, stage);
+    let last_came = await_last(rt, test_pool);
     let before = count_polled(rt, &mut gone, GONE, (0, 1));
     for step in GONE_TASKS..GONE_TASKS + MORE_TASKS {
         post_one(rt, &mut gone, task(rt, GONE, step));
     }
-    let all_came = play_last(rt, stage);
-    stage.withdraw(rt, GONE);
+    let all_came = await_last(rt, test_pool);
+    test_pool.withdraw(rt, GONE);
     let after = count_polled(rt, &mut gone, GONE, (1, GONE_TASKS + MORE_TASKS));
     let kept = count_polled(rt, &mut neighbour, NEIGHBOUR, (0, NEIGHBOUR_TASKS + 1));
-    stage.leave(rt, gone);
-    stage.leave(rt, neighbour);
+    test_pool.leave(rt, gone);
+    test_pool.leave(rt, neighbour);
     Left {
         last_came: last_came && all_came,
         before,
@@ -93,15 +93,15 @@ fn leave_with_end<S: Stage<R>, R: Host>(rt: &R, stage: &S) -> Left {
 }
 
 /// Withdraws a user beside a worker, and then closes the pool.
-pub fn withdraw_with_end<S: Stage<R> + Sync, R: Host + Sync>(rt: &R, stage: &S) -> Left {
-    beside_worker(rt, stage, move || leave_with_end(rt, stage))
+pub fn withdraw_with_end<S: TestPool<R> + Sync, R: Host + Sync>(rt: &R, test_pool: &S) -> Left {
+    beside_worker(rt, test_pool, move || leave_with_end(rt, test_pool))
 }
 
 /// All results are kept except that of the task that another user's end posted. Those in hand come, and the two that the pool had
 /// do not.
 #[test]
 fn a_withdrawal_over_a_queue_leaves_the_neighbour(rt: HostRuntime) -> Result<(), Fail> {
-    let OverQueue { seen, given, .. } = over_queue(&rt, 1, Scene::WithEnd)?;
+    let OverQueue { seen, given, .. } = over_queue(&rt, 1, Scenario::WithEnd)?;
     let expected = Left {
         after: GONE_TASKS - 1,
         ..EXPECTED
@@ -113,7 +113,7 @@ fn a_withdrawal_over_a_queue_leaves_the_neighbour(rt: HostRuntime) -> Result<(),
 /// The results in hand come, and those in the book do not.
 #[test]
 fn a_withdrawal_over_a_book_leaves_what_is_in_hand(rt: HostRuntime) -> Result<(), Fail> {
-    let seen = over_lock(&rt, 1, Scene::WithEnd)?.seen;
+    let seen = over_lock(&rt, 1, Scenario::WithEnd)?.seen;
     let expected = Left {
         after: IN_HAND,
         ..EXPECTED
@@ -126,40 +126,40 @@ fn a_withdrawal_over_a_book_leaves_what_is_in_hand(rt: HostRuntime) -> Result<()
 pub type LeftAndCounts = (Left, Option<Counts>, Option<Counts>);
 
 /// Withdraws a user whose end is gone, once all results were given. Those that it had in hand are dropped with it.
-fn leave_without_end<S: Stage<R>, R: Host>(rt: &R, stage: &S) -> LeftAndCounts {
-    let mut gone = posting_end(rt, stage, GONE, GONE_TASKS);
-    let mut neighbour = posting_end(rt, stage, NEIGHBOUR, NEIGHBOUR_TASKS);
-    let last_came = play_last(rt, stage);
+fn leave_without_end<S: TestPool<R>, R: Host>(rt: &R, test_pool: &S) -> LeftAndCounts {
+    let mut gone = posting_end(rt, test_pool, GONE, GONE_TASKS);
+    let mut neighbour = posting_end(rt, test_pool, NEIGHBOUR, NEIGHBOUR_TASKS);
+    let last_came = await_last(rt, test_pool);
     let before = count_polled(rt, &mut gone, GONE, (0, 1));
-    stage.leave(rt, gone);
-    let standing = stage.counts(rt);
-    stage.withdraw(rt, GONE);
-    let withdrawn = stage.counts(rt);
-    let mut next = stage.end(rt, GONE);
+    test_pool.leave(rt, gone);
+    let standing = test_pool.counts(rt);
+    test_pool.withdraw(rt, GONE);
+    let withdrawn = test_pool.counts(rt);
+    let mut next = test_pool.end(rt, GONE);
     let left = Left {
         last_came,
         before,
         after: count_polled(rt, &mut next, GONE, (1, GONE_TASKS)),
         neighbour: count_polled(rt, &mut neighbour, NEIGHBOUR, (0, NEIGHBOUR_TASKS + 1)),
     };
-    stage.leave(rt, next);
-    stage.leave(rt, neighbour);
+    test_pool.leave(rt, next);
+    test_pool.leave(rt, neighbour);
     (left, standing, withdrawn)
 }
 
 /// Withdraws a user whose end is gone beside a worker, and then closes the pool.
-pub fn withdraw_without_end<S: Stage<R> + Sync, R: Host + Sync>(
+pub fn withdraw_without_end<S: TestPool<R> + Sync, R: Host + Sync>(
     rt: &R,
-    stage: &S,
+    test_pool: &S,
 ) -> LeftAndCounts {
-    beside_worker(rt, stage, move || leave_without_end(rt, stage))
+    beside_worker(rt, test_pool, move || leave_without_end(rt, test_pool))
 }
 
 /// An entry stays until it is fetched or withdrawn, also that of an end that is gone. With the first result those that are then
 /// in hand are fetched.
 #[test]
 fn a_withdrawal_over_a_book_leaves_the_neighbour(rt: HostRuntime) -> Result<(), Fail> {
-    let seen = over_lock(&rt, 1, Scene::WithoutEnd)?.seen;
+    let seen = over_lock(&rt, 1, Scenario::WithoutEnd)?.seen;
     let standing = Counts {
         posted: 24,
         given: 24,

@@ -4,7 +4,7 @@ ghost use Rattle.std.specs.Prelude.{OnOk, OnErr};
 ghost use Rattle.std.specs.Io.KnownBytes.{Consumes, Keeps, IsAtEnd};
 ghost use Rattle.lj_wire.specs.Ends.{Rises};
 
-use crate::ends::{ReadFault, Source};
+use crate::source_and_sink::{ReadFault, Source};
 use std::marker::Model;
 
 /// The most bytes that a reader holds ahead.

@@ -4,9 +4,9 @@ ghost use Rattle.lj_wire.specs.Input.{TakesPart};
 ghost use Rattle.lj_wire.specs.Ends.{Rises};
 ghost use Rattle.lj_wire.specs.Greetings.{ReadsHello};
 
-use super::source_input::{Front, Input, Passed};
-use crate::ends::{ReadFault, Source};
+use super::source_input::{Front, Input, SkippedLine};
 use crate::hello::{Hello, parse_hello};
+use crate::source_and_sink::{ReadFault, Source};
 
 /// Reads the first line, whatever its length. `None` where the input ends before a whole line came.
 pub(crate) fn read_hello<S: Source>(input: &mut Input<S>) -> Result<Option<Hello>, ReadFault>
@@ -23,9 +23,9 @@ pub(crate) fn read_hello<S: Source>(input: &mut Input<S>) -> Result<Option<Hello
             input.take(count + 1);
             Ok(Some(hello))
         }
-        Front::Long => match input.pass_line()? {
-            Passed::Line | Passed::Long => Ok(Some(Hello::Other)),
-            Passed::End => Ok(None),
+        Front::Long => match input.skip_line()? {
+            SkippedLine::Line | SkippedLine::Long => Ok(Some(Hello::Other)),
+            SkippedLine::End => Ok(None),
         },
         Front::End => Ok(None),
     }

@@ -5,10 +5,10 @@ ghost use Rattle.lj_wire.specs.Ends.{Rises};
 ghost use Rattle.lj_wire.specs.Steps.{may_take_body, Finishes, ReadsItem, TakesFewer, TakesNoItem};
 
 use super::load_body::{pass, read_body};
-use super::source_input::{Front, Input, Passed};
-use crate::ends::{ReadFault, Source};
+use super::source_input::{Front, Input, SkippedLine};
 use crate::item::{Fault, Item};
 use crate::reading::read_line_in;
+use crate::source_and_sink::{ReadFault, Source};
 use lj_session::Command;
 use std::alloc::Global;
 
@@ -31,16 +31,16 @@ pub(crate) fn read_item<S: Source>(
             input.take(count + 1);
             finish(alloc, input, item, body)
         }
-        Front::Long => match input.pass_line()? {
-            Passed::Line => {
+        Front::Long => match input.skip_line()? {
+            SkippedLine::Line => {
                 *item = Item::Bad(Fault::Line);
                 Ok(true)
             }
-            Passed::Long => {
+            SkippedLine::Long => {
                 *item = Item::Last(Fault::Long);
                 Ok(true)
             }
-            Passed::End => Ok(false),
+            SkippedLine::End => Ok(false),
         },
         Front::End => Ok(false),
     }

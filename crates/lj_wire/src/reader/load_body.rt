@@ -6,7 +6,7 @@ ghost use Rattle.lj_wire.specs.Ends.{Rises};
 ghost use Rattle.lj_wire.specs.Steps.{Fills, TakesFewer, PassesCount, ReadsBody};
 
 use super::source_input::Input;
-use crate::ends::{ReadFault, Source};
+use crate::source_and_sink::{ReadFault, Source};
 use lj_session::{Body, LoadBody};
 use std::alloc::Global;
 
@@ -33,18 +33,18 @@ pub(crate) fn read_body<S: Source>(
     Ok(Some(LoadBody::Read(Body::new(bytes))))
 }
 
-/// Fills `room`. Returns false where the input ends before.
-pub(crate) fn fill<S: Source>(input: &mut Input<S>, room: &mut [u8]) -> Result<bool, ReadFault>
-    ensures filled { IfOk result (λ filled. Fills input.old filled room.new input.new) }
+/// Fills `buf`. Returns false where the input ends before.
+pub(crate) fn fill<S: Source>(input: &mut Input<S>, buf: &mut [u8]) -> Result<bool, ReadFault>
+    ensures filled { IfOk result (λ filled. Fills input.old filled buf.new input.new) }
     ensures counted { OnOk result (input.new.errors ≡ input.old.errors) }
-    ensures part { OnErr result (TakesFewer input.old input.new (length room.new)) }
+    ensures part { OnErr result (TakesFewer input.old input.new (length buf.new)) }
     ensures emptied { OnErr result (input.new.held ≡ []) }
     ensures risen { OnErr result (Rises input.old.errors input.new.errors) }
-    ensures reads_for { ReadsFor input.old input.new (length room.new) }
+    ensures reads_for { ReadsFor input.old input.new (length buf.new) }
 {
-    let mut at = copy_held(input, room);
-    while at < room.len() {
-        let count = input.read_into(&mut room[at..])?;
+    let mut at = copy_held(input, buf);
+    while at < buf.len() {
+        let count = input.read_into(&mut buf[at..])?;
         if count == 0 {
             return Ok(false);
         }
@@ -53,15 +53,15 @@ pub(crate) fn fill<S: Source>(input: &mut Input<S>, room: &mut [u8]) -> Result<b
     Ok(true)
 }
 
-// Copies held bytes into `room` and takes them, and returns how many.
-fn copy_held<S: Source>(input: &mut Input<S>, room: &mut [u8]) -> usize
-    ensures count { result ≡ min (length input.old.held) (length room.new) }
-    ensures copied { take result room.new ≡ take result input.old.held }
+// Copies held bytes into `buf` and takes them, and returns how many.
+fn copy_held<S: Source>(input: &mut Input<S>, buf: &mut [u8]) -> usize
+    ensures count { result ≡ min (length input.old.held) (length buf.new) }
+    ensures copied { take result buf.new ≡ take result input.old.held }
     ensures taken { input.new ≡ record input.old { held = drop result input.old.held } }
 {
-    let count = input.held().len().min(room.len());
+    let count = input.held().len().min(buf.len());
     let (front, _) = input.held().split_at(count);
-    room[..count].copy_from_slice(front);
+    buf[..count].copy_from_slice(front);
     input.take(count);
     count
 }

@@ -3,12 +3,12 @@ ghost use Rattle.std.specs.Prelude.{◌≡◌, ℕ, ◌≤◌, ◌<◌, [], leng
 ghost use Rattle.lj_wire.specs.Input.{bytes_untaken, Grows, Takes, HoldsNoFeed, TakesPart};
 ghost use Rattle.std.specs.Io.KnownBytes.{Keeps, IsAtEnd};
 ghost use Rattle.lj_wire.specs.Ends.{Rises};
-ghost use Rattle.lj_wire.specs.Steps.{Finds, Passes, SearchesFor};
+ghost use Rattle.lj_wire.specs.Steps.{Finds, Skips, SearchesFor};
 
 use super::buffer::{Buffer, MAX_HELD_BYTES};
-use crate::ends::{ReadFault, Source};
-use crate::limits::{LONG_LINE_BYTES, MAX_LINE_BYTES};
 use crate::line::split_line;
+use crate::line_limits::{LONG_LINE_BYTES, MAX_LINE_BYTES};
+use crate::source_and_sink::{ReadFault, Source};
 use std::marker::Model;
 
 /// A source, and the bytes that were read from it and are not yet taken.
@@ -29,7 +29,7 @@ pub(crate) enum Front {
 }
 
 /// What was skipped.
-pub(crate) enum Passed {
+pub(crate) enum SkippedLine {
     /// A line of more than 256 bytes.
     Line,
     /// 65,536 bytes without a line feed.
@@ -106,19 +106,19 @@ impl<S: Source> Input<S> {
         self.buffer.read_from(&mut self.source)
     }
 
-    /// Reads some bytes into `room` and takes them; before this no byte is held. Returns how many: 0 only at the end of the
-    /// input, or where `room` is empty.
-    pub(crate) fn read_into(&mut self, room: &mut [u8]) -> Result<usize, ReadFault>
+    /// Reads some bytes into `buf` and takes them; before this no byte is held. Returns how many: 0 only at the end of the
+    /// input, or where `buf` is empty.
+    pub(crate) fn read_into(&mut self, buf: &mut [u8]) -> Result<usize, ReadFault>
         requires { self.old.held ≡ [] }
         ensures held { self.new.held ≡ [] }
-        ensures bound { IfOk result (λ n. n ≤ length room.new) }
-        ensures taken { IfOk result (λ n. Takes self.old self.new (take n room.new)) }
-        ensures ended { IfOk result (λ n. n ≡ 0 → 0 < length room.new → IsAtEnd (bytes_untaken self.new)) }
+        ensures bound { IfOk result (λ n. n ≤ length buf.new) }
+        ensures taken { IfOk result (λ n. Takes self.old self.new (take n buf.new)) }
+        ensures ended { IfOk result (λ n. n ≡ 0 → 0 < length buf.new → IsAtEnd (bytes_untaken self.new)) }
         ensures counted { OnOk result (self.new.errors ≡ self.old.errors) }
         ensures kept { OnErr result (Keeps (bytes_untaken self.old) (bytes_untaken self.new)) }
         ensures risen { OnErr result (Rises self.old.errors self.new.errors) }
     {
-        self.source.read(room)
+        self.source.read(buf)
     }
 
     #[tactic(auto, using(crate::proofs::Passing::searched_more, crate::proofs::Passing::searched_long))]
@@ -154,9 +154,9 @@ impl<S: Source> Input<S> {
     }
 
     /// Skips an overlong line with its line feed; its bytes are only counted. More of them are held than a command may have.
-    pub(crate) fn pass_line(&mut self) -> Result<Passed, ReadFault>
+    pub(crate) fn skip_line(&mut self) -> Result<SkippedLine, ReadFault>
         requires { HoldsNoFeed self.old }
-        ensures passed { IfOk result (λ passed. Passes self.old passed self.new) }
+        ensures skipped { IfOk result (λ skipped. Skips self.old skipped self.new) }
         ensures counted { OnOk result (self.new.errors ≡ self.old.errors) }
         ensures part { OnErr result (TakesPart self.old self.new) }
         ensures emptied { OnErr result (self.new.held ≡ []) }
@@ -166,18 +166,18 @@ impl<S: Source> Input<S> {
         self.clear();
         while seen < LONG_LINE_BYTES {
             if self.read_more()? == 0 {
-                return Ok(Passed::End);
+                return Ok(SkippedLine::End);
             }
             let wanted = (LONG_LINE_BYTES - seen).min(self.held().len());
             let (front, _) = self.held().split_at(wanted);
             if let Some((line, _)) = split_line(front) {
                 let count = line.len() + 1;
                 self.take(count);
-                return Ok(Passed::Line);
+                return Ok(SkippedLine::Line);
             }
             self.take(wanted);
             seen += wanted;
         }
-        Ok(Passed::Long)
+        Ok(SkippedLine::Long)
     }
 }

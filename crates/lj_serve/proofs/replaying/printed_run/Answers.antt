@@ -13,7 +13,7 @@ returns-clause-run c =
       entries = c.in_ok-transcript.transcript;
       is_run = c.in_ok-transcript.ensures.run;
       headline = c.in_ok-transcript.ensures.headline;
-      printed_so = c.in_ok-told.ensures
+      printed_so = c.in_ok-rendered.ensures
           ∙ ap (λ names. printed names entries)
           (c.as_slice-2.ensures.value ∙ c.in_ok-names.ensures ∙ ap listed.names c.as_slice.ensures.value)
           ∙ ap (printed (listed.names users)) c.entries.ensures;

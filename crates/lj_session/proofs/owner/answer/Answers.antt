@@ -7,8 +7,8 @@ use Rattle.lj_session.proofs.AtWork.{at_work-performed, steps-performed}
 use Rattle.lj_session.proofs.Others.{refused-unchanged, settled-performed}
 use Rattle.lj_session.proofs.owner.answer.Goals as goal
 
-none_owed : (owned : UserState) (command : Command) → turns_before owned command ≡ 0 → steps_before owned command ≡ 0
-none_owed owned command none = omega (arith, none)
+none_owed : (state : UserState) (command : Command) → turns_before state command ≡ 0 → steps_before state command ≡ 0
+none_owed state command none = omega (arith, none)
 
 pub returns-clause-settled : goal.returns-clause-settled
 returns-clause-settled c =

@@ -1,11 +1,11 @@
 use Rattle.std.proofs.Common.{◌≡◌, ℕ, ◌<◌, ◌≤◌, List, Some, None, refl, sym, ap, ◌∙◌, subst, arith}
 use Rattle.lj_session.specs.declared.command.Command.{Command}
 use Rattle.lj_session.specs.declared.command.Command.TheVariants.{Advance, Measure}
-use Rattle.lj_tile.specs.declared.names.Kind.TheVariants.{Energy}
+use Rattle.lj_tile.specs.declared.task_name.Kind.TheVariants.{Energy}
 use Rattle.lj_session.specs.Turns.{turns, waits_for}
 use Rattle.std.specs.Prelude.{IsSome, true}
 use Rattle.lj_session.specs.Answers.{answer, can_advance, session_named}
-use Rattle.lj_session.specs.UserState.{HeldSession, UserState, IsAtWork, user_of, held_session, owed_in, with_more_owed, with_step, session_meant, steps_before, turns_before}
+use Rattle.lj_session.specs.UserState.{LiveSession, UserState, IsAtWork, user_of, live_session, owed_in, with_more_owed, with_step, settled_session, steps_before, turns_before}
 use Rattle.lj_session.specs.Owner.{rest_of, state_taking_up}
 use Rattle.lj_session.proofs.AtWork.{at_work-changed, at_work-measured, at_work-waits, kind-owing}
 use Rattle.lj_session.proofs.Holding.{owed-of}
@@ -26,29 +26,29 @@ none_of : (m k : ℕ) → m ≤ 0 → m ≡ k → k ≡ 0
 none_of m k few is = omega (arith, few, is)
 
 -- so its own turns are left
-own_some : (owned : UserState) (command : Command) → 0 < turns_before owned command → steps_before owned command ≡ 0
-    → 0 < turns (user_of owned) command
-own_some owned command some none = omega (arith, some, none)
+own_some : (state : UserState) (command : Command) → 0 < turns_before state command → steps_before state command ≡ 0
+    → 0 < turns (user_of state) command
+own_some state command some none = omega (arith, some, none)
 
 -- and an ADVANCE can go on
-goes_of : (owned : UserState) (command : Command) (name : List ℕ) (n : ℕ) → 0 < turns_before owned command
-    → steps_before owned command ≡ 0 → command ≡ Advance name n → Goes owned name n
-goes_of owned command name n some none which =
-    goes owned name n (subst (λ (k : Command). 0 < turns (user_of owned) k) which (own_some owned command some none))
+goes_of : (state : UserState) (command : Command) (name : List ℕ) (n : ℕ) → 0 < turns_before state command
+    → steps_before state command ≡ 0 → command ≡ Advance name n → Goes state name n
+goes_of state command name n some none which =
+    goes state name n (subst (λ (k : Command). 0 < turns (user_of state) k) which (own_some state command some none))
 
-none-owed : (owned : UserState) (command : Command) (name : List ℕ) (n : ℕ) → command ≡ Advance name n
-    → steps_before owned command ≡ 0 → owed_in owned name ≡ 0
+none-owed : (state : UserState) (command : Command) (name : List ℕ) (n : ℕ) → command ≡ Advance name n
+    → steps_before state command ≡ 0 → owed_in state name ≡ 0
 unfolding waits_for
-none-owed owned command name n is none = rw is at none
+none-owed state command name n is none = rw is at none
 
-is_there : (owned : UserState) (name : List ℕ) {n : ℕ} → Goes owned name n → IsSome (held_session owned name)
-is_there owned name g = rw g.there refl
+is_there : (state : UserState) (name : List ℕ) {n : ℕ} → Goes state name n → IsSome (live_session state name)
+is_there state name g = rw g.there refl
 
-near_of : (owned : UserState) (name : List ℕ) (n : ℕ) → Goes owned name n → (held : HeldSession) → held_session owned name ≡ Some held
-    → can_advance (session_meant held) n ≡ true
-near_of owned name n g held e = subst (λ (h : HeldSession). can_advance (session_meant h) n ≡ true) (same g.held held (sym g.there ∙ e)) g.near
+near_of : (state : UserState) (name : List ℕ) (n : ℕ) → Goes state name n → (held : LiveSession) → live_session state name ≡ Some held
+    → can_advance (settled_session held) n ≡ true
+near_of state name n g held e = subst (λ (h : LiveSession). can_advance (settled_session h) n ≡ true) (same g.held held (sym g.there ∙ e)) g.near
   where
-    same : (a b : HeldSession) → Some a ≡ Some b → a ≡ b
+    same : (a b : LiveSession) → Some a ≡ Some b → a ≡ b
     same a b k = cc
 
 pub owe-requires-clause-session : goal.owe-requires-clause-session
@@ -101,19 +101,19 @@ returns-in-Advance-clause-turns c =
 
 pub returns-in-Advance-clause-others : goal.returns-in-Advance-clause-others
 returns-in-Advance-clause-others c = λ other apart.
-    ap (λ (o : UserState). held_session o other) c.owe.ensures.owed
+    ap (λ (o : UserState). live_session o other) c.owe.ensures.owed
     ∙ others-changed c.args.state.now c.in-Advance.name (with_more_owed c.in-Advance.steps) other
     (λ same. apart (ap session_named c.in-Advance.is ∙ same))
 
-measured_of : (owned : UserState) (command : Command) (name : List ℕ) → 0 < turns_before owned command
-    → steps_before owned command ≡ 0 → command ≡ Measure name → (held : HeldSession) × (held_session owned name ≡ Some held)
-measured_of owned command name some none which =
-    measured_there owned name (subst (λ (k : Command). 0 < turns (user_of owned) k) which (own_some owned command some none))
+measured_of : (state : UserState) (command : Command) (name : List ℕ) → 0 < turns_before state command
+    → steps_before state command ≡ 0 → command ≡ Measure name → (held : LiveSession) × (live_session state name ≡ Some held)
+measured_of state command name some none which =
+    measured_there state name (subst (λ (k : Command). 0 < turns (user_of state) k) which (own_some state command some none))
 
-none-measured : (owned : UserState) (command : Command) (name : List ℕ) → command ≡ Measure name → steps_before owned command ≡ 0
-    → owed_in owned name ≡ 0
+none-measured : (state : UserState) (command : Command) (name : List ℕ) → command ≡ Measure name → steps_before state command ≡ 0
+    → owed_in state name ≡ 0
 unfolding waits_for
-none-measured owned command name is none = rw is at none
+none-measured state command name is none = rw is at none
 
 pub returns-in-Measure-clause-left : goal.returns-in-Measure-clause-left
 unfolding rest_of
@@ -150,16 +150,16 @@ returns-in-Measure-clause-turns c =
 
 pub returns-in-Measure-clause-others : goal.returns-in-Measure-clause-others
 returns-in-Measure-clause-others c = λ other apart.
-    ap (λ (o : UserState). held_session o other) c.open_step.ensures.opened
+    ap (λ (o : UserState). live_session o other) c.open_step.ensures.opened
     ∙ others-changed c.args.state.now c.in-Measure.name (with_step Energy) other
     (λ same. apart (ap session_named c.in-Measure.is ∙ same))
 
 -- no other command takes a turn
-default-turns : (owned : UserState) (command : Command) → 0 < turns_before owned command → steps_before owned command ≡ 0
+default-turns : (state : UserState) (command : Command) → 0 < turns_before state command → steps_before state command ≡ 0
     → ((name : List ℕ) (n : ℕ) → command ≡ Advance name n → ⊥) → ((name : List ℕ) → command ≡ Measure name → ⊥) → ⊥
-default-turns owned command some none advance measure =
-    let own = own_some owned command some none in
-    let zero_own = no-turns (user_of owned) command advance measure in
+default-turns state command some none advance measure =
+    let own = own_some state command some none in
+    let zero_own = no-turns (user_of state) command advance measure in
     omega (arith, own, zero_own)
 
 nothing : (c : In_default) → ⊥

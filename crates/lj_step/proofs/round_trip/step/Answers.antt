@@ -1,6 +1,6 @@
 use Rattle.std.proofs.Common.{◌≡◌, ◌≤◌, ◌<◌, ◌^◌, ◌+◌, ◌+ℤ◌, unsigned_abs, length, Some, refl, ap, sym, ◌∙◌, subst}
 use Rattle.std.proofs.Common.{arith}
-use Rattle.lj_tile.specs.declared.names.Kind.TheVariants.{Force}
+use Rattle.lj_tile.specs.declared.task_name.Kind.TheVariants.{Force}
 use Rattle.lj_step.specs.Motion.{Simulation}
 use Rattle.lj_step.specs.Sim.{Sim}
 use Rattle.lj_step.specs.OpenSteps.{cover, tiles_of}

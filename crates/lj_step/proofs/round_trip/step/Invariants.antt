@@ -1,5 +1,5 @@
 use Rattle.std.proofs.Common.{◌≡◌, length}
-use Rattle.lj_tile.specs.declared.names.Kind.TheVariants.{Force}
+use Rattle.lj_tile.specs.declared.task_name.Kind.TheVariants.{Force}
 use Rattle.lj_step.specs.OpenSteps.{cover}
 use Rattle.lj_step.specs.InOrder.{AwaitsFrom}
 use Rattle.lj_step.proofs.round_trip.step.Given as goal

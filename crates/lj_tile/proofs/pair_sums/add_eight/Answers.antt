@@ -39,7 +39,7 @@ loop-k-preserved c =
     lane_push c.pushes-eight.result.x c.pushes-eight.result.y c.pushes-eight.result.z c.pushes-eight.result c.loop-k.k (push u p q)
     refl refl refl lane in
     let back : push u q p ≡ opposite_push (push u p q) =
-    push_back_is u p q c.strength-strength.ensures.near (c.requires.first (first_of pair) first)
+    push_back_is u p q c.step_factor-step_factor.ensures.near (c.requires.first (first_of pair) first)
     (c.requires.second (second_of pair) second) in
     record {
       first_room = ap (λ (l : List Push). length l) c.add.ensures.first ∙ length_set c.loop-k.sums.first _ _ ∙ c.loop-k.invariant.first_room;

@@ -16,13 +16,13 @@ returns-then-entry-eq0-clause-value c =
 pub returns-clause-value : goal.returns-clause-value
 returns-clause-value c =
     let e : FitsSigned w64 c.push-entry.result = search rules in
-    let f : FitsSigned w64 c.strengthened-factor.result = search rules in
+    let f : FitsSigned w64 c.multiplied-factor.result = search rules in
     let x : FitsSigned w32 c.image.result = search rules in
     let y : FitsSigned w32 c.image-2.result = search rules in
     let z : FitsSigned w32 c.image-3.result = search rules in
-    push_is _ _ _ c.strengthened-factor.result c.image.result c.image-2.result c.image-3.result _ _ _
-    (rw (to_z-of_z w64 _ e, c.push-entry.ensures.value, c.dist2.ensures.value, c.strength.ensures.value)
-    at c.strengthened-factor.ensures.value)
+    push_is _ _ _ c.multiplied-factor.result c.image.result c.image-2.result c.image-3.result _ _ _
+    (rw (to_z-of_z w64 _ e, c.push-entry.ensures.value, c.dist2.ensures.value, c.step_factor.ensures.value)
+    at c.multiplied-factor.ensures.value)
     c.image.ensures.value
     c.image-2.ensures.value
     c.image-3.ensures.value
@@ -46,6 +46,6 @@ returns-then-entry-eq0-clause-back c =
 
 pub returns-clause-back : goal.returns-clause-back
 returns-clause-back c =
-    push_back_is c.args.scale.now c.args.here.now c.args.there.now c.strength.ensures.near c.dist2.ensures.first
+    push_back_is c.args.scale.now c.args.here.now c.args.there.now c.step_factor.ensures.near c.dist2.ensures.first
     c.dist2.ensures.second
     ∙ ap opposite_push (sym (returns-clause-value c))

@@ -31,8 +31,8 @@ here_is c =
     ap (λ (places : List Place). place_at places c.args.t)
     (c.places.ensures.value ∙ ap (λ (block : Block). block.places) c.first.ensures.value)
 
-seconds_is : (c : goal.After-energy_of_pairs) → c.seconds-seconds.result ≡ c.args.task.now.b.seconds
-seconds_is c = c.seconds-seconds.ensures ∙ ap (λ (block : Block). block.seconds) c.second.ensures.value
+seconds_is : (c : goal.After-energy_of_pairs) → c.species_bits-species_bits.result ≡ c.args.task.now.b.species_bits
+seconds_is c = c.species_bits-species_bits.ensures ∙ ap (λ (block : Block). block.species_bits) c.second.ensures.value
 
 -- a place whose bit is not set is silent
 silent : (c : goal.After-energy_of_pairs) (s : ℕ) → s < length c.args.task.now.b.places → bit_at c.near.result s ≡ 0
@@ -40,14 +40,14 @@ silent : (c : goal.After-energy_of_pairs) (s : ℕ) → s < length c.args.task.n
 silent c s within none =
     let w = c.args.task.now in
     far_silent w c.args.t s (c.requires.first c.args.t c.requires.row) (c.requires.second s within)
-    (cannot_interact w.mix (species_at w.a.seconds c.args.t) (species_at w.b.seconds s) _
+    (cannot_interact w.mix (species_at w.a.species_bits c.args.t) (species_at w.b.species_bits s) _
     (rw (here_is c) at (c.near.ensures (can_interact w.mix) w.b.places c.requires.columns s within none)))
 
 firsts : (c : goal.After-energy_of_pairs) → ℕ
-firsts c = bit_and (bit_and c.near.result c.later.result) (18446744073709551615 - c.seconds-seconds.result)
+firsts c = bit_and (bit_and c.near.result c.later.result) (18446744073709551615 - c.species_bits-species_bits.result)
 
 seconds : (c : goal.After-energy_of_pairs) → ℕ
-seconds c = bit_and (bit_and c.near.result c.later.result) c.seconds-seconds.result
+seconds c = bit_and (bit_and c.near.result c.later.result) c.species_bits-species_bits.result
 
 split : (c : goal.After-energy_of_pairs) (s : ℕ) → s < length c.args.task.now.b.places
     → RowSplit c.args.task.now c.args.t (firsts c) (seconds c) s
@@ -55,11 +55,11 @@ unfolding firsts seconds
 split c s within =
     let w = c.args.task.now in
     subst
-    (λ (here : ℕ). IsSplit (bit_and (bit_and c.near.result c.later.result) (18446744073709551615 - c.seconds-seconds.result))
-    (bit_and (bit_and c.near.result c.later.result) c.seconds-seconds.result) here s (are_in_order w c.args.t s)
+    (λ (here : ℕ). IsSplit (bit_and (bit_and c.near.result c.later.result) (18446744073709551615 - c.species_bits-species_bits.result))
+    (bit_and (bit_and c.near.result c.later.result) c.species_bits-species_bits.result) here s (are_in_order w c.args.t s)
     (IsSilent w c.args.t s))
     (seconds_is c)
-    (split_of c.near.result c.later.result c.seconds-seconds.result s (length w.b.places) (are_in_order w c.args.t s)
+    (split_of c.near.result c.later.result c.species_bits-species_bits.result s (length w.b.places) (are_in_order w c.args.t s)
     (IsSilent w c.args.t s) (omega arith) (omega (arith, within, c.second.ensures.sound.most_second)) within
     (c.later.ensures s) (silent c s within) (not_in_order w c.args.t s))
 

@@ -12,13 +12,13 @@ use Rattle.lj_tile.proofs.sums.energy_sum.Goals as goal
 
 pub energy_of_rows-sum-requires-clause-rows : goal.energy_of_rows-sum-requires-clause-rows
 energy_of_rows-sum-requires-clause-rows c =
-    first_rows c.args.task.now c.near_rows-rows.result c.seconds-seconds.result (omega arith) c.first.ensures.sound.most_first
-    (c.seconds-seconds.ensures ∙ ap (λ (block : Block). block.seconds) c.first-2.ensures.value) c.near_rows-rows.ensures.within
+    first_rows c.args.task.now c.near_rows-rows.result c.species_bits-species_bits.result (omega arith) c.first.ensures.sound.most_first
+    (c.species_bits-species_bits.ensures ∙ ap (λ (block : Block). block.species_bits) c.first-2.ensures.value) c.near_rows-rows.ensures.within
 
 pub energy_of_rows-sum-requires-2-clause-rows : goal.energy_of_rows-sum-requires-2-clause-rows
 energy_of_rows-sum-requires-2-clause-rows c =
-    second_rows c.args.task.now c.near_rows-rows.result c.seconds-seconds.result
-    (c.seconds-seconds.ensures ∙ ap (λ (block : Block). block.seconds) c.first-2.ensures.value) c.near_rows-rows.ensures.within
+    second_rows c.args.task.now c.near_rows-rows.result c.species_bits-species_bits.result
+    (c.species_bits-species_bits.ensures ∙ ap (λ (block : Block). block.species_bits) c.first-2.ensures.value) c.near_rows-rows.ensures.within
 
 firsts_are : (c : goal.After-energy_of_all) → c.places-first.result.now ≡ c.args.task.now.a.places
 firsts_are c = c.places-first.ensures.value ∙ ap (λ (block : Block). block.places) c.first.ensures.value
@@ -31,10 +31,10 @@ class_is : (mix other : Mix) (class : Class) (own of : Species) → class ≡ cl
 class_is mix other class own of e f = e ∙ ap (λ m. class_of m own of) f
 
 either : (c : goal.After-energy_of_all) (t : ℕ) → t < length c.args.task.now.a.places
-    → IsOfOne (bit_and c.near_rows-rows.result (18446744073709551615 - c.seconds-seconds.result))
-    (bit_and c.near_rows-rows.result c.seconds-seconds.result) t (IsSilentRow c.args.task.now t)
+    → IsOfOne (bit_and c.near_rows-rows.result (18446744073709551615 - c.species_bits-species_bits.result))
+    (bit_and c.near_rows-rows.result c.species_bits-species_bits.result) t (IsSilentRow c.args.task.now t)
 either c t within =
-    of_either c.args.task.now c.near_rows-rows.result c.seconds-seconds.result t (omega arith)
+    of_either c.args.task.now c.near_rows-rows.result c.species_bits-species_bits.result t (omega arith)
     (omega (arith, within, c.first.ensures.sound.most_first)) (c.near_rows-rows.ensures.far t within)
 
 pub overflow_add-sum : goal.overflow_add-sum
@@ -62,9 +62,9 @@ overflow_add-result c =
 pub returns : goal.returns
 returns c =
     let w = c.args.task.now in
-    let set : ℕ = c.seconds-seconds.result in
+    let set : ℕ = c.species_bits-species_bits.result in
     let rows : ℕ = c.near_rows-rows.result in
-    let its = c.seconds-seconds.ensures ∙ ap (λ (block : Block). block.seconds) c.first-2.ensures.value in
+    let its = c.species_bits-species_bits.ensures ∙ ap (λ (block : Block). block.species_bits) c.first-2.ensures.value in
     let like = class_is c.mix-mix.result.now w.mix c.class-like_class.result.now First First c.class-like_class.ensures.value c.mix-mix.ensures in
     let unlike = class_is c.mix-mix.result.now w.mix c.class-unlike_class.result.now First Second c.class-unlike_class.ensures.value c.mix-mix.ensures in
     let others = class_is c.mix-mix.result.now w.mix c.class-others_class.result.now Second Second c.class-others_class.ensures.value c.mix-mix.ensures in

@@ -14,13 +14,13 @@ use Rattle.lj_tile.proofs.sums.sum_pairs.Goals as goal
 
 pub add_rows-requires-clause-rows : goal.add_rows-requires-clause-rows
 add_rows-requires-clause-rows c =
-    first_rows c.args.task.now c.near_rows-rows.result c.seconds-seconds.result (omega arith) c.first.ensures.sound.most_first
-    (c.seconds-seconds.ensures ∙ ap (λ (block : Block). block.seconds) c.first-2.ensures.value) c.near_rows-rows.ensures.within
+    first_rows c.args.task.now c.near_rows-rows.result c.species_bits-species_bits.result (omega arith) c.first.ensures.sound.most_first
+    (c.species_bits-species_bits.ensures ∙ ap (λ (block : Block). block.species_bits) c.first-2.ensures.value) c.near_rows-rows.ensures.within
 
 pub add_rows-requires-2-clause-rows : goal.add_rows-requires-2-clause-rows
 add_rows-requires-2-clause-rows c =
-    second_rows c.args.task.now c.near_rows-rows.result c.seconds-seconds.result
-    (c.seconds-seconds.ensures ∙ ap (λ (block : Block). block.seconds) c.first-2.ensures.value) c.near_rows-rows.ensures.within
+    second_rows c.args.task.now c.near_rows-rows.result c.species_bits-species_bits.result
+    (c.species_bits-species_bits.ensures ∙ ap (λ (block : Block). block.species_bits) c.first-2.ensures.value) c.near_rows-rows.ensures.within
 
 scale_is : (mix other : Mix) (class : Class) (own of : Species) → class ≡ class_of mix own of → mix ≡ other
     → class.scale ≡ (class_of other own of).scale
@@ -35,8 +35,8 @@ seconds_are c = c.places-second.ensures.value ∙ ap (λ (block : Block). block.
 all_sums : (c : goal.After-read_sums-2)
     → AreAllSums c.args.task.now (scale_between c.args.task.now First First) (scale_between c.args.task.now First Second)
     (scale_between c.args.task.now Second Second)
-    (bit_and c.near_rows-rows.result (18446744073709551615 - c.seconds-seconds.result))
-    (bit_and c.near_rows-rows.result c.seconds-seconds.result) c.add_rows.new.of_firsts c.add_rows.new.of_seconds
+    (bit_and c.near_rows-rows.result (18446744073709551615 - c.species_bits-species_bits.result))
+    (bit_and c.near_rows-rows.result c.species_bits-species_bits.result) c.add_rows.new.of_firsts c.add_rows.new.of_seconds
     c.add_rows-2.new.of_firsts c.add_rows-2.new.of_seconds c.none.result c.add_rows.new.sums c.add_rows-2.new.sums
     c.add_all.new.sums c.add_all-2.new.sums c.add_all-3.new.sums
 all_sums c =
@@ -59,10 +59,10 @@ all_sums c =
     }
 
 either : (c : goal.After-read_sums-2) (t : ℕ) → t < length c.args.task.now.a.places
-    → IsOfOne (bit_and c.near_rows-rows.result (18446744073709551615 - c.seconds-seconds.result))
-    (bit_and c.near_rows-rows.result c.seconds-seconds.result) t (IsSilentRow c.args.task.now t)
+    → IsOfOne (bit_and c.near_rows-rows.result (18446744073709551615 - c.species_bits-species_bits.result))
+    (bit_and c.near_rows-rows.result c.species_bits-species_bits.result) t (IsSilentRow c.args.task.now t)
 either c t within =
-    of_either c.args.task.now c.near_rows-rows.result c.seconds-seconds.result t (omega arith)
+    of_either c.args.task.now c.near_rows-rows.result c.species_bits-species_bits.result t (omega arith)
     (omega (arith, within, c.first.ensures.sound.most_first)) (c.near_rows-rows.ensures.far t within)
 
 pub returns-clause-first : goal.returns-clause-first
@@ -74,8 +74,8 @@ pub returns-clause-second : goal.returns-clause-second
 returns-clause-second c s within =
     all_seconds c.args.task.now _ _ _ _ _ _ _ _ _ _ _ _ _ _ _ (all_sums c) s within
     c.first.ensures.sound.most_second c.first.ensures.sound.most_first
-    (first_rows c.args.task.now c.near_rows-rows.result c.seconds-seconds.result (omega arith) c.first.ensures.sound.most_first
-    (c.seconds-seconds.ensures ∙ ap (λ (block : Block). block.seconds) c.first-2.ensures.value) c.near_rows-rows.ensures.within).within
-    (second_rows c.args.task.now c.near_rows-rows.result c.seconds-seconds.result
-    (c.seconds-seconds.ensures ∙ ap (λ (block : Block). block.seconds) c.first-2.ensures.value) c.near_rows-rows.ensures.within).within
+    (first_rows c.args.task.now c.near_rows-rows.result c.species_bits-species_bits.result (omega arith) c.first.ensures.sound.most_first
+    (c.species_bits-species_bits.ensures ∙ ap (λ (block : Block). block.species_bits) c.first-2.ensures.value) c.near_rows-rows.ensures.within).within
+    (second_rows c.args.task.now c.near_rows-rows.result c.species_bits-species_bits.result
+    (c.species_bits-species_bits.ensures ∙ ap (λ (block : Block). block.species_bits) c.first-2.ensures.value) c.near_rows-rows.ensures.within).within
     (either c)

@@ -1,6 +1,6 @@
 use Rattle.std.proofs.Common.{◌+◌, ◌≤◌, Option, length, arith}
 use Rattle.std.proofs.lemmas.List.{length-map}
-use Rattle.lj_session.specs.UserState.{held_session_at, user_of, as_entry}
+use Rattle.lj_session.specs.UserState.{live_session_at, user_of, as_entry}
 use Rattle.lj_session.specs.Users.{Session}
 use Rattle.lj_wire.specs.Texts.{reply_lines, dump_lines, branch_lines, session_line}
 use Rattle.lj_wire.proofs.ReplyLines.{under_name, no_name}
@@ -13,7 +13,7 @@ returns-in-Some c =
     rw c.in-Dumped.is
     (under_name c.args.state.now c.in-Dumped.name c.in-Some.i
     (λ (session : Option Session). length (dump_lines c.in-Dumped.name session) ≤ c.count.result + 2 + 1)
-    c.in-Some.ensures (dump-few (held_session_at c.args.state.now c.in-Some.i)
+    c.in-Some.ensures (dump-few (live_session_at c.args.state.now c.in-Some.i)
     c.sim_at.result.now c.in-Dumped.name c.count.result c.sim_at.ensures c.count.ensures.value))
 
 pub returns-in-None : goal.returns-in-None
@@ -39,7 +39,7 @@ returns-in-Some-index_of c =
     (λ (session : Option Session). length (branch_lines c.in-ListedBranches.name session)
     ≤ c.len-in-Some-index_of.result + 1)
     c.in-Some-index_of.ensures
-    (branches-few (held_session_at c.args.state.now c.in-Some-index_of.i)
+    (branches-few (live_session_at c.args.state.now c.in-Some-index_of.i)
     c.branches_at.result.now c.in-ListedBranches.name c.len-in-Some-index_of.result c.branches_at.ensures
     c.len-in-Some-index_of.ensures.value))
 

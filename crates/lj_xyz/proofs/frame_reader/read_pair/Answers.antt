@@ -1,14 +1,14 @@
 use Rattle.std.proofs.Common.{List, [], ◌∷◌}
 use Rattle.std.specs.Option.{option_copied}
 use Rattle.std.proofs.lemmas.Result.{IfOk-weaker}
-use Rattle.lj_xyz.specs.declared.atom_row.Row.{Row}
+use Rattle.lj_xyz.specs.declared.atom_row.AtomRow.{AtomRow}
 use Rattle.lj_xyz.specs.declared.atom_row.FramePair.{FramePair}
 use Rattle.lj_xyz.specs.Lines.{lines_of}
 use Rattle.lj_xyz.specs.Frames.{pair}
 use Rattle.lj_xyz.proofs.ReadLaws.{frames_stand, fault_stands, two_counts}
 use Rattle.lj_xyz.proofs.frame_reader.read_pair.Goals as goal
 
-abbrev view : FramePair → List (List Row)
+abbrev view : FramePair → List (List AtomRow)
 view frames = frames.first ∷ frames.second ∷ []
 
 pub returns-clause-frames : goal.returns-clause-frames

@@ -1,13 +1,13 @@
 use Rattle.std.proofs.Common.{List, [], ◌∷◌}
 use Rattle.std.specs.Option.{option_copied}
 use Rattle.std.proofs.lemmas.Result.{IfOk-weaker}
-use Rattle.lj_xyz.specs.declared.atom_row.Row.{Row}
+use Rattle.lj_xyz.specs.declared.atom_row.AtomRow.{AtomRow}
 use Rattle.lj_xyz.specs.Lines.{lines_of}
 use Rattle.lj_xyz.specs.Frames.{rest}
 use Rattle.lj_xyz.proofs.ReadLaws.{frames_stand, fault_stands, one_count}
 use Rattle.lj_xyz.proofs.frame_reader.read_rest.Goals as goal
 
-abbrev view : List Row → List (List Row)
+abbrev view : List AtomRow → List (List AtomRow)
 view rows = rows ∷ []
 
 pub returns-clause-frame : goal.returns-clause-frame

@@ -2,7 +2,7 @@ use Rattle.std.proofs.Common.{◌≡◌, ◌<◌, ℕ, Option, length, slice_get
 use Rattle.std.specs.Option.{option_map}
 use Rattle.std.proofs.lemmas.List.Quantifiers.{position-Some}
 use Rattle.std.proofs.lemmas.Option.{slice_get_read}
-use Rattle.lj_access.specs.Rows.{Row, is_of, HasTicketLeft, with_ticket}
+use Rattle.lj_access.specs.Rows.{UserRow, is_of, HasTicketLeft, with_ticket}
 use Rattle.lj_access.proofs.RowLemmas.{Writes, changed-written, IsDirectory-written}
 use Rattle.lj_access.proofs.directory.Directory.hello.Goals.{After-grant-number}
 use Rattle.lj_access.proofs.directory.Directory.hello.Goals as goal
@@ -34,7 +34,7 @@ returns-clause-granted c =
     let within : c.in_ok-user.user < length rows = omega (arith, here.0, ap length c.self.view_is) in
     let read = slice_get_read rows (length rows) c.in_ok-user.user row refl within c.index.ensures in
     let found : slice_get c.args.self.now c.in_ok-user.user ≡ Some row = cc in
-    let P : Option Row → Type 0 = λ o. IsSomeAnd o HasTicketLeft in
+    let P : Option UserRow → Type 0 = λ o. IsSomeAnd o HasTicketLeft in
     let Q : Option ℕ → Type 0 = λ o. IsSomeAnd o (λ user. P (slice_get c.args.self.now user)) in
     (λ _. subst Q (sym user_is) (subst P (sym found) (c.has_ticket_left.ensures.0 c.if-not-has_ticket_left.false)), λ _. refl)
 
@@ -46,7 +46,7 @@ returns-clause-number c =
     let read = slice_get_read rows (length rows) c.in_ok-user.user row refl w.within w.read in
     let found : slice_get c.args.self.now c.new.result.user ≡ Some row = cc in
     let number : row.granted ≡ c.new.result.number = cc in
-    ap (option_map (λ (r : Row). r.granted)) found ∙ ap (λ (n : ℕ). Some n) number
+    ap (option_map (λ (r : UserRow). r.granted)) found ∙ ap (λ (n : ℕ). Some n) number
 
 pub returns-clause-counted : goal.returns-clause-counted
 returns-clause-counted c =

@@ -1,6 +1,6 @@
 use Rattle.std.proofs.Common.{◌≡◌, length, slice_get, Some, refl, arith, ap, ◌∙◌}
 use Rattle.std.specs.Option.{option_and_then}
-use Rattle.lj_access.specs.Rows.{Row, CanEnter, without_home}
+use Rattle.lj_access.specs.Rows.{UserRow, CanEnter, without_home}
 use Rattle.lj_access.proofs.RowLemmas.{Writes, user_within, slice_get-read, changed-written, IsDirectory-written}
 use Rattle.lj_access.proofs.directory.Directory.try_enter.Goals.{After-lend}
 use Rattle.lj_access.proofs.directory.Directory.try_enter.Goals as goal
@@ -28,7 +28,7 @@ returns-clause-state c =
     let w = written (goal.at.returns-clause-state c).After-lend in
     let read = slice_get-read rows c.from-user.result row c.lend.new.self without_home w in
     let found : slice_get c.args.self.now c.args.ticket.now.user ≡ Some row = cc in
-    ap (option_and_then (λ (r : Row). r.home)) found ∙ c.lend.ensures.state
+    ap (option_and_then (λ (r : UserRow). r.home)) found ∙ c.lend.ensures.state
 
 pub returns-clause-lent : goal.returns-clause-lent
 returns-clause-lent c =

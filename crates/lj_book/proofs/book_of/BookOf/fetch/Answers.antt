@@ -1,6 +1,6 @@
 use Rattle.std.proofs.Common.{ℕ, ◌+◌, Some, refl, ap, ◌∙◌, subst}
-use Rattle.lj_book.specs.declared.marks.Mark.TheVariants.{ToFetch}
-use Rattle.lj_book.specs.Book.{BookOf, Entry, Fetches, IsDoneAt}
+use Rattle.lj_book.specs.declared.key_states.KeyState.TheVariants.{ToFetch}
+use Rattle.lj_book.specs.Book.{BookOf, BookEntry, Fetches, IsDoneAt}
 use Rattle.lj_book.specs.Picks.{IsPick}
 use Rattle.lj_book.proofs.BookLemmas.{picked}
 use Rattle.lj_book.proofs.book_of.BookOf.fetch.Goals as goal
@@ -19,7 +19,7 @@ returns-clause-some g c =
     × IsPick (IsDoneAt c.args.user old) c.args.pick key) c.self.view_is (
       c.in_ok-key.key,
       record {
-        was = c.remove-was.ensures.value ∙ ap (λ (entry : Entry g.row.P.Denot g.row.K.Denot). Some entry) c.in-Done.is;
+        was = c.remove-was.ensures.value ∙ ap (λ (entry : BookEntry g.row.P.Denot g.row.K.Denot). Some entry) c.in-Done.is;
         puts = record {
           changed = c.remove-was.ensures.updates.changed;
           others = c.remove-was.ensures.updates.others;
@@ -29,6 +29,6 @@ returns-clause-some g c =
         fetched = refl;
         withdrawn = refl;
       },
-      picked s.entries s.marks c.self.invariant.marked (ToFetch c.args.user) c.args.pick c.in_ok-key.key
+      picked s.entries s.key_states c.self.invariant.marked (ToFetch c.args.user) c.args.pick c.in_ok-key.key
           (λ vacant. cc) c.in_ok-key.ensures.some,
     )

@@ -1,20 +1,20 @@
 use Rattle.std.proofs.Common.{◌≡◌, ap, ◌∙◌, arith}
 use Rattle.slab.specs.Slab.{get}
-use Rattle.lj_tile.specs.declared.names.TaskName.{TaskName}
+use Rattle.lj_tile.specs.declared.task_name.TaskName.{TaskName}
 use Rattle.lj_tile.specs.Task.{Task}
-use Rattle.lj_book.specs.declared.marks.Mark.TheVariants.{Vacant, Taken, ToFetch}
-use Rattle.lj_book.specs.Book.{BookOf, entry_at, mark_of}
+use Rattle.lj_book.specs.declared.key_states.KeyState.TheVariants.{Vacant, Taken, ToFetch}
+use Rattle.lj_book.specs.Book.{BookOf, entry_at, key_state_of}
 use Rattle.lj_book.proofs.BookLemmas.{put_book}
 use Rattle.lj_book.proofs.book_of.BookOf.finish.Goals as goal
 
 pub invariant_of-self : goal.invariant_of-self
 invariant_of-self g c =
     let s = c.self.inside in
-    let there : mark_of (get s.entries c.args.key) ≡ Taken =
-    ap (λ (held : BookOf _ _). mark_of (entry_at held c.args.key)) c.self.view_is ∙ c.requires in
+    let there : key_state_of (get s.entries c.args.key) ≡ Taken =
+    ap (λ (held : BookOf _ _). key_state_of (entry_at held c.args.key)) c.self.view_is ∙ c.requires in
     let user = ap (λ (n : TaskName). n.label.user)
     (c.name.ensures.value ∙ ap (λ (w : Task). w.name) (c.task.ensures ∙ c.done.ensures)) in
     rw c.set.ensures
-    (put_book s.entries s.marks s.posted s.given s.fetched s.withdrawn c.self.invariant c.put_for-was.new.entries c.args.key _
+    (put_book s.entries s.key_states s.posted s.given s.fetched s.withdrawn c.self.invariant c.put_for-was.new.entries c.args.key _
     Taken _ there (λ vacant. let e : Taken ≡ Vacant = vacant in cc) (ap ToFetch user) c.put_for-was.ensures.updates
     c.put_for-was.ensures.len c.put_for-was.ensures.capacity _ (omega arith))

@@ -1,16 +1,16 @@
 use Rattle.std.proofs.Common.{◌≡◌, refl, ap, ◌∙◌}
 use Rattle.slab.specs.Slab.{get}
-use Rattle.lj_book.specs.declared.marks.Mark.TheVariants.{Vacant, ToTake}
-use Rattle.lj_book.specs.Book.{BookOf, entry_at, mark_of}
+use Rattle.lj_book.specs.declared.key_states.KeyState.TheVariants.{Vacant, ToTake}
+use Rattle.lj_book.specs.Book.{BookOf, entry_at, key_state_of}
 use Rattle.lj_book.proofs.BookLemmas.{put_book}
 use Rattle.lj_book.proofs.book_of.BookOf.let_out.Goals as goal
 
 pub invariant_of-self : goal.invariant_of-self
 invariant_of-self g c =
     let s = c.self.inside in
-    let there : mark_of (get s.entries c.args.key) ≡ ToTake =
-    ap (λ (held : BookOf _ _). mark_of (entry_at held c.args.key)) c.self.view_is ∙ c.requires in
+    let there : key_state_of (get s.entries c.args.key) ≡ ToTake =
+    ap (λ (held : BookOf _ _). key_state_of (entry_at held c.args.key)) c.self.view_is ∙ c.requires in
     rw c.set.ensures
-    (put_book s.entries s.marks s.posted s.given s.fetched s.withdrawn c.self.invariant c.put_for-was.new.entries c.args.key _
+    (put_book s.entries s.key_states s.posted s.given s.fetched s.withdrawn c.self.invariant c.put_for-was.new.entries c.args.key _
     ToTake _ there (λ vacant. let e : ToTake ≡ Vacant = vacant in cc) refl c.put_for-was.ensures.updates
     c.put_for-was.ensures.len c.put_for-was.ensures.capacity _ refl)

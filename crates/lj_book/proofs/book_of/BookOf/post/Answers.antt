@@ -12,7 +12,7 @@ invariant_of-self g c =
     let waits = sum_changed weight refl s.entries.slots c.insert_reserved-key.new.self.slots c.insert_reserved-key.result
     c.insert_reserved-key.ensures.updates.others in
     rw c.set.ensures
-    (changed_book s.entries s.marks held.marked c.insert_reserved-key.new.self c.insert_reserved-key.result _ _
+    (changed_book s.entries s.key_states held.marked c.insert_reserved-key.new.self c.insert_reserved-key.result _ _
     (omega (arith, held.keys, c.insert_reserved-key.ensures.key_in_range, c.insert_reserved-key.ensures.capacity))
     c.insert_reserved-key.ensures.updates refl held.keys held.room c.insert_reserved-key.ensures.capacity _ _ _ _
     (omega (arith, held.balance, c.insert_reserved-key.ensures.len))

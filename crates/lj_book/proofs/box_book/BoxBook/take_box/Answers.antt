@@ -1,7 +1,7 @@
 use Rattle.std.proofs.Common.{◌≡◌, ◌<◌, Some, sym, ap, subst, ◌∙◌, arith}
 use Rattle.std.specs.Prelude.{vec_len}
 use Rattle.lj_book.specs.Book.{Open, LetsOut}
-use Rattle.lj_book.specs.Boxes.{BoxBook, IsBelow, Lent, Numbered, Slip, TakesBox, slip_for, slip_of}
+use Rattle.lj_book.specs.Boxes.{BoxBook, IsBelow, LentTask, Numbered, Slip, TakesBox, slip_for, slip_of}
 use Rattle.lj_book.proofs.BookLemmas.{entries_put}
 use Rattle.lj_book.proofs.BoxLemmas.{older_put, takes_box, with_held}
 use Rattle.lj_book.proofs.box_book.BoxBook.take_box.Goals as goal
@@ -24,7 +24,7 @@ pub returns-clause-some : goal.returns-clause-some
 returns-clause-some c =
     let s = c.self.inside in
     let book : BoxBook = record { held = s.held; spare = vec_len s.spare; made = s.made } in
-    let lent : Lent = record { key = c.in_ok-key.key; number = c.number.inside.number; work = c.number.inside.task } in
+    let lent : LentTask = record { key = c.in_ok-key.key; number = c.number.inside.number; work = c.number.inside.task } in
     let both : Some (Open c.open_at.result.now) ≡ Some (Open c.let_out.result) = sym c.open_at.ensures ∙ c.let_out.ensures.was in
     let same : c.open_at.result.now ≡ c.let_out.result = cc in
     let slip : c.slip-slip.result ≡ slip_of lent = c.slip-slip.ensures ∙ ap slip_for (same ∙ sym c.number.view_is) in

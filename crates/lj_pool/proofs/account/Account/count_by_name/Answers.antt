@@ -7,4 +7,4 @@ returns-in-Some-clause-handed_out c =
     let counted = c.count_owed.ensures in
     inl (taken_off c.args.task.now c.args.self.now _ c.in-Some.here
     (first_named c.args.self.now.owed c.args.task.now c.in-Some.here c.requires c.in-Some.ensures.some)
-    counted.owed counted.good counted.strays)
+    counted.owed counted.expected counted.strays)

@@ -41,6 +41,6 @@ returns-clause-posted c =
           ≡ tasks_owed tasks (take owed places) ++ c.args.task.now ∷ []) (sym is)
           (works_posted tasks places owed c.args.task.now kept room)
           ∙ ap (λ s. s.owed ++ c.args.task.now ∷ []) c.self.view_is;
-      good = ap (λ s. s.good) c.self.view_is;
+      expected = ap (λ s. s.expected) c.self.view_is;
       strays = ap (λ s. s.strays) c.self.view_is;
     }

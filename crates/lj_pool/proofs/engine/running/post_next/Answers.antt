@@ -21,15 +21,15 @@ returns-in-Ok-clause-goes_on g c =
     subst (λ (o : Owner). GoesOn c.args.owner.now (g.P.Pool.seen c.args.pool.now) o (g.P.Pool.seen c.post_from.new.self))
     (sym c.posted.ensures.noted)
     (goes_posted c.args.owner.now (g.P.Pool.seen c.args.pool.now) (g.P.Pool.seen c.post_from.new.self) c.requires.gathers
-    c.next_task_in.new.room (c.if-not-next_task_in.ensures.some refl) c.in-Ok.ensures.posted)
+    c.next_task_in.new.out (c.if-not-next_task_in.ensures.some refl) c.in-Ok.ensures.posted)
 
 pub returns-in-Ok-clause-fewer : goal.returns-in-Ok-clause-fewer
 returns-in-Ok-clause-fewer g c _ =
     subst (λ (o : Owner). posts_coming o < posts_coming c.args.owner.now) (sym c.posted.ensures.noted)
     (fewer_posts c.args.owner.now (g.P.Pool.seen c.args.pool.now) (g.P.Pool.seen c.post_from.new.self) c.requires.gathers
-    c.next_task_in.new.room (c.if-not-next_task_in.ensures.some refl))
+    c.next_task_in.new.out (c.if-not-next_task_in.ensures.some refl))
 
 pub returns-in-Err-Closed-clause-awaits : goal.returns-in-Err-Closed-clause-awaits
 returns-in-Err-Closed-clause-awaits g c =
     post-coming c.args.owner.now (g.P.Pool.seen c.args.pool.now) c.requires.gathers
-    c.next_task_in.new.room (c.if-not-next_task_in.ensures.some refl)
+    c.next_task_in.new.out (c.if-not-next_task_in.ensures.some refl)

@@ -8,10 +8,10 @@ pub returns-clause-goes_on : goal.returns-clause-goes_on
 returns-clause-goes_on g c =
     let owner = c.args.owner.now in
     let before = g.P.Pool.seen c.args.pool.now in
-    let rooms = c.write_next-written.new.rooms in
+    let slots = c.write_next-written.new.slots in
     let written = c.write_next-written.result in
     subst (λ (o : Owner). GoesOn owner before o (g.P.Pool.seen c.post_some-posted.new.self)) (sym c.note_posted.ensures)
-    (goes_front owner before c.requires.gathers rooms written (omega arith) c.write_next-written.ensures.next
+    (goes_front owner before c.requires.gathers slots written (omega arith) c.write_next-written.ensures.next
     c.post_some-posted.result c.post_some-posted.ensures.most
     (g.P.Pool.seen c.post_some-posted.new.self) c.post_some-posted.ensures.posted)
 
@@ -19,10 +19,10 @@ pub returns-clause-fewer : goal.returns-clause-fewer
 returns-clause-fewer g c = λ all.
     let owner = c.args.owner.now in
     let before = g.P.Pool.seen c.args.pool.now in
-    let rooms = c.write_next-written.new.rooms in
+    let slots = c.write_next-written.new.slots in
     let written = c.write_next-written.result in
     subst (λ (o : Owner). posts_coming o < posts_coming owner) (sym c.note_posted.ensures)
-    (fewer_front owner before c.requires.gathers rooms written (omega arith) c.write_next-written.ensures.next
+    (fewer_front owner before c.requires.gathers slots written (omega arith) c.write_next-written.ensures.next
     c.post_some-posted.result c.post_some-posted.ensures.most
     (g.P.Pool.seen c.post_some-posted.new.self) c.post_some-posted.ensures.posted all c.if-written-eq0.false)
 
@@ -30,7 +30,7 @@ pub returns-clause-own : goal.returns-clause-own
 returns-clause-own g c =
     let owner = c.args.owner.now in
     let before = g.P.Pool.seen c.args.pool.now in
-    let rooms = c.write_next-written.new.rooms in
+    let slots = c.write_next-written.new.slots in
     let written = c.write_next-written.result in
     c.post_some-posted.ensures.own owner.number
-    (users_front owner before c.requires.gathers rooms written (omega arith) c.write_next-written.ensures.next)
+    (users_front owner before c.requires.gathers slots written (omega arith) c.write_next-written.ensures.next)

@@ -6,7 +6,7 @@ use Rattle.lj_pool.proofs.engine.running.write_next.Given as goal
 
 abbrev pub invariant-loop-here : goal.invariant-loop-here
 invariant-loop-here l = record {
-  next : AreNext l.here l.rooms l.owner;
-  places : length l.rooms ≡ MAX_POSTS;
+  next : AreNext l.here l.slots l.owner;
+  places : length l.slots ≡ MAX_POSTS;
   at : IsPostedTo l.cursor l.owner (after_posts l.here l.owner);
 }

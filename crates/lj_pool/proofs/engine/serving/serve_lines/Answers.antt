@@ -24,8 +24,8 @@ items-init g c = record {
   quota = ap (λ (o : Owner). o.state.quota) c.new-owner.ensures.value;
 }
 
-pub returns-in-Err-clause-told : goal.returns-in-Err-clause-told
-returns-in-Err-clause-told g c =
+pub returns-in-Err-clause-dialogue : goal.returns-in-Err-clause-dialogue
+returns-in-Err-clause-dialogue g c =
     let s = ahead_serving c.items.invariant.idle c.work_ahead.ensures.goes_on c.items.invariant.serving in
     let stops = serving-stops c.args.state c.args.lines.now c.items.lines (g.W.Sink.contents c.args.writer.now)
     (g.W.Sink.contents c.items.writer) (g.P.Pool.seen c.args.pool.now) (g.P.Pool.seen c.work_ahead.new.pool)
@@ -38,8 +38,8 @@ returns-in-Err-clause-told g c =
     (g.W.Sink.contents c.args.writer.now) (g.W.Sink.contents c.items.writer) (g.P.Pool.seen c.args.pool.now)
     (g.P.Pool.seen c.work_ahead.new.pool) state) (sym c.given_up.ensures.none) stops)
 
-pub returns-in-Ok-false-clause-told : goal.returns-in-Ok-false-clause-told
-returns-in-Ok-false-clause-told g c =
+pub returns-in-Ok-false-clause-dialogue : goal.returns-in-Ok-false-clause-dialogue
+returns-in-Ok-false-clause-dialogue g c =
     let none = c.in-Ok-false.ensures.none c.in-Ok-false.field-0-test in
     let s = ahead_serving c.items.invariant.idle c.work_ahead.ensures.goes_on c.items.invariant.serving in
     let idle = ahead_idle c.items.invariant.idle c.work_ahead.ensures.goes_on in
@@ -56,8 +56,8 @@ returns-in-Ok-false-clause-none_owed g c =
     (ahead_idle c.items.invariant.idle c.work_ahead.ensures.goes_on)
     c.into_state.result c.into_state.ensures.state
 
-pub returns-in-Err-next_in-clause-told : goal.returns-in-Err-next_in-clause-told
-returns-in-Err-next_in-clause-told g c =
+pub returns-in-Err-next_in-clause-dialogue : goal.returns-in-Err-next_in-clause-dialogue
+returns-in-Err-next_in-clause-dialogue g c =
     let s = ahead_serving c.items.invariant.idle c.work_ahead.ensures.goes_on c.items.invariant.serving in
     let idle = ahead_idle c.items.invariant.idle c.work_ahead.ensures.goes_on in
     serving-fails c.args.state c.args.lines.now c.items.lines (g.W.Sink.contents c.args.writer.now)
@@ -73,8 +73,8 @@ returns-in-Err-next_in-clause-none_owed g c =
     (ahead_idle c.items.invariant.idle c.work_ahead.ensures.goes_on)
     c.into_state-in-Err-next_in.result c.into_state-in-Err-next_in.ensures.state
 
-pub returns-in-Err-answer-clause-told : goal.returns-in-Err-answer-clause-told
-returns-in-Err-answer-clause-told g c =
+pub returns-in-Err-answer-clause-dialogue : goal.returns-in-Err-answer-clause-dialogue
+returns-in-Err-answer-clause-dialogue g c =
     let item = c.in-Ok-true.ensures.item c.in-Ok-true.field-0-test in
     let s = ahead_serving c.items.invariant.idle c.work_ahead.ensures.goes_on c.items.invariant.serving in
     let halts = serving-halts c.args.state c.args.lines.now c.items.lines (g.W.Sink.contents c.args.writer.now)
@@ -88,8 +88,8 @@ returns-in-Err-answer-clause-told g c =
     (g.W.Sink.contents c.args.writer.now) (g.W.Sink.contents c.items.writer) (g.P.Pool.seen c.args.pool.now)
     (g.P.Pool.seen c.answer.new.pool) state) (sym c.given_up-in-Err-answer.ensures.none) halts)
 
-pub returns-in-Err-put_reply-clause-told : goal.returns-in-Err-put_reply-clause-told
-returns-in-Err-put_reply-clause-told g c =
+pub returns-in-Err-put_reply-clause-dialogue : goal.returns-in-Err-put_reply-clause-dialogue
+returns-in-Err-put_reply-clause-dialogue g c =
     let item = c.in-Ok-true.ensures.item c.in-Ok-true.field-0-test in
     let begun = rw c.state.ensures at c.in-Err-put_reply.ensures.begun in
     let s = ahead_serving c.items.invariant.idle c.work_ahead.ensures.goes_on c.items.invariant.serving in
@@ -105,8 +105,8 @@ returns-in-Err-put_reply-clause-none_owed g c =
     back_none c.answer.new.owner (g.P.Pool.seen c.answer.new.pool) c.in-Ok-answer.ensures.gathers c.in-Ok-answer.ensures.idle
     c.into_state-in-Err-put_reply.result c.into_state-in-Err-put_reply.ensures.state
 
-pub returns-in-Some-clause-told : goal.returns-in-Some-clause-told
-returns-in-Some-clause-told g c =
+pub returns-in-Some-clause-dialogue : goal.returns-in-Some-clause-dialogue
+returns-in-Some-clause-dialogue g c =
     let item = c.in-Ok-true.ensures.item c.in-Ok-true.field-0-test in
     let written = rw c.state.ensures at c.in_default-put_reply.ensures.written in
     let s = ahead_serving c.items.invariant.idle c.work_ahead.ensures.goes_on c.items.invariant.serving in

@@ -1,5 +1,5 @@
 use Rattle.std.proofs.Common.{◌≡◌, ◌+◌, ◌-◌, None}
-use Rattle.lj_wire.specs.declared.limits.TheConstants.{MAX_ITEMS}
+use Rattle.lj_wire.specs.declared.line_limits.TheConstants.{MAX_ITEMS}
 use Rattle.lj_pool.specs.Gathering.{Gathers}
 use Rattle.lj_pool.specs.Serving.{Serving}
 use Rattle.lj_pool.proofs.engine.serving.serve_lines.Given as goal

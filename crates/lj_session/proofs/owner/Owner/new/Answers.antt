@@ -5,6 +5,6 @@ use Rattle.lj_session.proofs.owner.Owner.new.Goals as goal
 
 pub invariant_of-result : goal.invariant_of-result
 invariant_of-result c = record {
-  at_work = subst (λ (owned : UserState). IsAtWork None owned) (sym c.rest.ensures.rested) (at_work-rested c.args.state);
+  at_work = subst (λ (state : UserState). IsAtWork None state) (sym c.restart_steps.ensures.rested) (at_work-rested c.args.state);
   some = tt;
 }

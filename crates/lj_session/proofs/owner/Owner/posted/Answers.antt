@@ -12,10 +12,10 @@ invariant_of-self c =
     let waiting = c.self.inside.waiting in
     let next = c.in-Some.ensures.some in
     let posted = c.post.ensures.posted next.name next.named in record {
-      at_work = subst (λ (owned : UserState). IsAtWork waiting owned) (sym posted)
+      at_work = subst (λ (state : UserState). IsAtWork waiting state) (sym posted)
           (at_work-posted waiting old next.name c.self.invariant.at_work);
       some = turns-some waiting old c.post.new.self (λ command is. turns-kept old c.post.new.self command c.post.ensures.user
-          (λ name waits. ap (λ (owned : UserState). owed_in owned name) posted
+          (λ name waits. ap (λ (state : UserState). owed_in state name) posted
           ∙ owed-changed old next.name with_posted owed-posted name)) c.self.invariant.some;
     }
 
@@ -23,7 +23,7 @@ pub returns-in-Some-clause-noted : goal.returns-in-Some-clause-noted
 returns-in-Some-clause-noted c =
     let old = c.self.inside in
     let next = c.in-Some.ensures.some in
-    ap (λ (owned : UserState). with_state owned (owner_of_kept old)) (c.post.ensures.posted next.name next.named
+    ap (λ (state : UserState). with_state state (owner_of_kept old)) (c.post.ensures.posted next.name next.named
     ∙ sym (ap (λ o. state_changed_in o with_posted old.state) (next.first old.user)))
     ∙ ap with_task_posted c.self.view_is
 

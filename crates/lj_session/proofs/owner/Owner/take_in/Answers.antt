@@ -1,6 +1,6 @@
 use Rattle.std.proofs.Common.{◌≡◌, Option, ◌∙◌, ap, refl, subst, sym}
 use Rattle.lj_step.specs.OpenSteps.{tile_number_of}
-use Rattle.lj_session.specs.UserState.{HeldSession, UserState, IsAtWork, owed_in, with_session_changed, with_tile_in}
+use Rattle.lj_session.specs.UserState.{LiveSession, UserState, IsAtWork, owed_in, with_session_changed, with_tile_in}
 use Rattle.lj_session.specs.declared.command.Command.{Command}
 use Rattle.lj_session.specs.KeptOwners.{IsOwner}
 use Rattle.lj_session.proofs.AtWork.{at_work-taken}
@@ -16,7 +16,7 @@ invariant_of-self c = either-way c.take_in.result c.take_in.ensures.taken c.take
     waiting : Option Command
     waiting = c.self.inside.waiting
 
-    tile : HeldSession → HeldSession
+    tile : LiveSession → LiveSession
     tile = with_tile_in (tile_number_of c.args.done.now)
 
     taken : c.take_in.new.self ≡ with_session_changed c.name.result.now.label.session tile old

@@ -5,18 +5,18 @@ use Rattle.lj_tile.specs.Task.{Task}
 use Rattle.lj_session.specs.declared.tile_cursor.TileCursor.{TileCursor}
 use Rattle.lj_session.specs.Cursors.{IsPostedTo}
 use Rattle.lj_session.specs.Owner.{Owner, label_of}
-use Rattle.lj_session.specs.UserState.{HeldSession, UserState, held_session_at, names, next_of}
+use Rattle.lj_session.specs.UserState.{LiveSession, UserState, live_session_at, names, next_of}
 use Rattle.lj_session.proofs.Cursors.{cursor-behind, task-at}
 use Rattle.lj_session.proofs.owner.Owner.task_from_in.Goals as goal
 
 module _ (state : UserState) (owner : Owner) (view : state ≡ owner.state) (cursor : TileCursor) (later : Owner)
     (p : IsPostedTo cursor owner later) where
   -- what is found in the session that stands there is found in the cursor's
-  at_cursor : held_session_at state cursor.session ≡ Some p.held
-  at_cursor = ap (λ (o : UserState). held_session_at o cursor.session) view ∙ p.at
+  at_cursor : live_session_at state cursor.session ≡ Some p.held
+  at_cursor = ap (λ (o : UserState). live_session_at o cursor.session) view ∙ p.at
 
   of_label : (name : List ℕ) → slice_get (names state) cursor.session ≡ Some name → (label : Label) → label ≡ label_of owner name
-      → (work : Task) → ((held : HeldSession) → held_session_at state cursor.session ≡ Some held
+      → (work : Task) → ((held : LiveSession) → live_session_at state cursor.session ≡ Some held
       → next_of label (Some (record held { passed = cursor.from })) ≡ Some work)
       → next_of (label_of owner p.name) (Some (record p.held { passed = cursor.from })) ≡ Some work
   of_label name named label is work found =
@@ -30,9 +30,9 @@ returns-clause-task c = λ _ later p.
     let owner = c.args.self.now in
     let state = c.self.inside.state in
     let view = ap (λ (o : Owner). o.state) c.self.view_is in
-    task-at cursor owner later p c.task_from_in.new.room
+    task-at cursor owner later p c.task_from_in.new.out
     (of_label state owner view cursor later p c.name_at.result.now c.name_at.ensures c.label-label.result
-    (c.label-label.ensures ∙ ap (label_of owner) c.copy.ensures) c.task_from_in.new.room c.in-Some.ensures.task)
+    (c.label-label.ensures ∙ ap (label_of owner) c.copy.ensures) c.task_from_in.new.out c.in-Some.ensures.task)
 
 pub returns-clause-moved : goal.returns-clause-moved
 returns-clause-moved c = λ _ later p.
@@ -40,7 +40,7 @@ returns-clause-moved c = λ _ later p.
     let owner = c.args.self.now in
     let state = c.self.inside.state in
     let view = ap (λ (o : Owner). o.state) c.self.view_is in
-    cursor-behind cursor owner later p c.task_from_in.new.room
+    cursor-behind cursor owner later p c.task_from_in.new.out
     (of_label state owner view cursor later p c.name_at.result.now c.name_at.ensures c.label-label.result
-    (c.label-label.ensures ∙ ap (label_of owner) c.copy.ensures) c.task_from_in.new.room c.in-Some.ensures.task)
+    (c.label-label.ensures ∙ ap (label_of owner) c.copy.ensures) c.task_from_in.new.out c.in-Some.ensures.task)
     c.in-Some.next (c.in-Some.ensures.passes p.held (at_cursor state owner view cursor later p))

@@ -4,7 +4,7 @@ use Rattle.std.specs.Prelude.{IfSome}
 use Rattle.lj_session.specs.declared.command.Command.{Command}
 use Rattle.lj_session.specs.KeptOwners.{owner_of_kept}
 use Rattle.lj_session.specs.Owner.{Owner, IsLastTurn, IsReplied, is_waited_for, state_turned}
-use Rattle.lj_session.specs.UserState.{UserState, IsAtWork, IsIdleIn, OtherSessionsKept, is_whole_in, held_session, owed_in, with_step_passed, turns_before, user_of}
+use Rattle.lj_session.specs.UserState.{UserState, IsAtWork, IsIdleIn, OtherSessionsKept, is_whole_in, live_session, owed_in, with_step_finished, turns_before, user_of}
 use Rattle.lj_session.proofs.Others.{others-changed, settled-measured, measured-unrefused, on_refusal}
 use Rattle.lj_session.proofs.Passing.{forces, others-closed, rests-closed}
 use Rattle.lj_session.proofs.Owing.{turns-kept, turns-some, unwaited-owed, unwaited-work, unwaited-apart, owed-apart}
@@ -17,21 +17,21 @@ same_Some : (a b : List ℕ) → Some a ≡ Some b → a ≡ b
 same_Some a b e = cc
 
 -- the step is whole, and nothing waits for the session
-whole : (c : goal.After-pass_step-arg-1) → is_whole_in c.self.inside.state c.args.name.now ≡ true
+whole : (c : goal.After-finish_step-arg-1) → is_whole_in c.self.inside.state c.args.name.now ≡ true
 whole c = ap (λ (owner : Owner). is_whole_in owner.state c.args.name.now) c.self.view_is ∙ c.requires
 
-unwaited : (c : goal.After-pass_step-arg-1) → is_waited_for c.self.inside.waiting c.args.name.now ≡ false
+unwaited : (c : goal.After-finish_step-arg-1) → is_waited_for c.self.inside.waiting c.args.name.now ≡ false
 unwaited c = ap (λ (owner : Owner). is_waited_for owner.waiting c.args.name.now) c.self.view_is
     ∙ sym c.is_waited_for.ensures ∙ c.if-not-is_waited_for.true
 
-pub pass_step-requires-clause-owed : goal.pass_step-requires-clause-owed
-pass_step-requires-clause-owed c =
+pub finish_step-requires-clause-owed : goal.finish_step-requires-clause-owed
+finish_step-requires-clause-owed c =
     unwaited-owed c.self.inside.waiting c.self.inside.state c.args.name.now (unwaited c) (whole c) c.self.invariant.at_work
 
-pub pass_step-requires-clause-whole : goal.pass_step-requires-clause-whole
-pass_step-requires-clause-whole c = λ held there.
+pub finish_step-requires-clause-whole : goal.finish_step-requires-clause-whole
+finish_step-requires-clause-whole c = λ held there.
     forces c.self.inside.waiting c.self.inside.state c.args.name.now (whole c) c.self.invariant.at_work
-    (pass_step-requires-clause-owed c) held there
+    (finish_step-requires-clause-owed c) held there
 
 pub invariant_of-self : goal.invariant_of-self
 invariant_of-self c =
@@ -39,20 +39,20 @@ invariant_of-self c =
     let waiting = c.self.inside.waiting in
     let not = ap (λ (owner : Owner). is_waited_for owner.waiting c.args.name.now) c.self.view_is
     ∙ sym c.is_waited_for.ensures ∙ c.if-not-is_waited_for.true in record {
-      at_work = subst (λ (owned : UserState). IsAtWork waiting owned) (sym c.pass_step.ensures.passed)
+      at_work = subst (λ (state : UserState). IsAtWork waiting state) (sym c.finish_step.ensures.passed)
           (unwaited-work waiting old c.args.name.now not c.self.invariant.at_work);
-      some = turns-some waiting old c.pass_step.new.self (λ command is. turns-kept old c.pass_step.new.self command
-          c.pass_step.ensures.user (λ other waits. ap (λ (owned : UserState). owed_in owned other) c.pass_step.ensures.passed
-          ∙ owed-apart old c.args.name.now other with_step_passed (unwaited-apart command c.args.name.now other waits
+      some = turns-some waiting old c.finish_step.new.self (λ command is. turns-kept old c.finish_step.new.self command
+          c.finish_step.ensures.user (λ other waits. ap (λ (state : UserState). owed_in state other) c.finish_step.ensures.passed
+          ∙ owed-apart old c.args.name.now other with_step_finished (unwaited-apart command c.args.name.now other waits
           (subst (λ (w : Option Command). is_waited_for w c.args.name.now ≡ false) is not)))) c.self.invariant.some;
     }
 
 pub returns-then-not-is_waited_for-clause-others :
     goal.returns-then-not-is_waited_for-clause-others
 returns-then-not-is_waited_for-clause-others c = λ other apart.
-    ap (λ (owned : UserState). held_session owned other) c.pass_step.ensures.passed
-    ∙ others-changed c.self.inside.state c.args.name.now with_step_passed other (λ e. apart (same_Some c.args.name.now other e))
-    ∙ ap (λ (owner : Owner). held_session owner.state other) c.self.view_is
+    ap (λ (state : UserState). live_session state other) c.finish_step.ensures.passed
+    ∙ others-changed c.self.inside.state c.args.name.now with_step_finished other (λ e. apart (same_Some c.args.name.now other e))
+    ∙ ap (λ (owner : Owner). live_session owner.state other) c.self.view_is
 
 -- the step is whole, and a command waits for the session
 whole_for : (c : After-owed) → is_whole_in c.self.inside.state c.args.name.now ≡ true
@@ -73,7 +73,7 @@ measured-reply-requires-clause-whole c = λ held there.
     let p = goal.at.measured-reply-requires-clause-whole c in
     measured-whole (owner_of_kept c.self.inside) c.args.name.now c.in_ok-command.command c.in_ok-command.ensures.value
     (waited_for p.After-owed) c.self.invariant.at_work (whole_for p.After-owed) (none p.Then-owed-eq0) held
-    (ap (held_session c.self.inside.state) (sym c.copy.ensures) ∙ there)
+    (ap (live_session c.self.inside.state) (sym c.copy.ensures) ∙ there)
 
 pub invariant_of-self-then-owed-eq0 : goal.invariant_of-self-then-owed-eq0
 invariant_of-self-then-owed-eq0 c =
@@ -123,20 +123,20 @@ returns-then-owed-eq0-clause-others c =
     (subst (λ (o : UserState). OtherSessionsKept c.args.name.now c.self.inside.state o) (sym c.close_step.ensures.closed)
     (others-closed c.self.inside.state c.args.name.now))
 
-pub pass_step-requires-2-clause-whole : goal.pass_step-requires-2-clause-whole
-pass_step-requires-2-clause-whole c =
-    let p = goal.at.pass_step-requires-2-clause-whole c in
+pub finish_step-requires-2-clause-whole : goal.finish_step-requires-2-clause-whole
+finish_step-requires-2-clause-whole c =
+    let p = goal.at.finish_step-requires-2-clause-whole c in
     passed-whole (owner_of_kept c.self.inside) c.args.name.now c.in_ok-command.command c.in_ok-command.ensures.value
     (waited_for p.After-owed) c.self.invariant.at_work (whole_for p.After-owed) (some_of _ _ c.if-owed-eq0.false c.owed.ensures)
 
 pub invariant_of-self-2 : goal.invariant_of-self-2
 invariant_of-self-2 c =
     let p = goal.at.invariant_of-self-2 c in record {
-      at_work = subst (λ (w : Option Command). IsAtWork w c.pass_step-2.new.self) (sym c.take.ensures.after)
+      at_work = subst (λ (w : Option Command). IsAtWork w c.finish_step-2.new.self) (sym c.take.ensures.after)
           (passed-work (owner_of_kept c.self.inside) c.args.name.now c.in_ok-command.command c.in_ok-command.ensures.value
           (waited_for p.After-owed) c.self.invariant.at_work (whole_for p.After-owed) (some_of _ _ c.if-owed-eq0.false c.owed.ensures)
-          c.pass_step-2.new.self c.pass_step-2.ensures.passed);
-      some = subst (λ (w : Option Command). IfSome w (λ command. 0 < turns_before c.pass_step-2.new.self command))
+          c.finish_step-2.new.self c.finish_step-2.ensures.passed);
+      some = subst (λ (w : Option Command). IfSome w (λ command. 0 < turns_before c.finish_step-2.new.self command))
           (sym c.take.ensures.after) tt;
     }
 
@@ -146,7 +146,7 @@ returns-in-Answered-clause-last c =
       λ _. subst (λ (owner : Owner). IsLastTurn c.args.name.now owner) c.self.view_is
           (passed-last (owner_of_kept c.self.inside) c.args.name.now c.in_ok-command.command c.in_ok-command.ensures.value
           (waited_for p.After-owed) c.self.invariant.at_work (whole_for p.After-owed) (some_of _ _ c.if-owed-eq0.false c.owed.ensures)
-          c.pass_step-2.new.self c.pass_step-2.ensures.passed c.in-Answered.ensures.at_once),
+          c.finish_step-2.new.self c.finish_step-2.ensures.passed c.in-Answered.ensures.at_once),
       λ _. refl,
     )
 
@@ -155,12 +155,12 @@ returns-in-Answered-clause-rests c =
     let p = goal.at.returns-in-Answered-clause-rests c in
     passed-rests (owner_of_kept c.self.inside) c.args.name.now c.in_ok-command.command c.in_ok-command.ensures.value
     (waited_for p.After-owed) c.self.invariant.at_work (whole_for p.After-owed) (some_of _ _ c.if-owed-eq0.false c.owed.ensures)
-    c.pass_step-2.new.self c.pass_step-2.ensures.passed c.begin.new.self.state c.in-Answered.ensures.at_once
+    c.finish_step-2.new.self c.finish_step-2.ensures.passed c.begin.new.self.state c.in-Answered.ensures.at_once
     c.in-Answered.ensures.steps
 
 pub returns-in-Answered-clause-refused : goal.returns-in-Answered-clause-refused
 returns-in-Answered-clause-refused c =
-    on_refusal c.in-Answered.reply (λ same. ap (λ (owner : Owner). owner.state) same ∙ c.pass_step-2.ensures.passed
+    on_refusal c.in-Answered.reply (λ same. ap (λ (owner : Owner). owner.state) same ∙ c.finish_step-2.ensures.passed
     ∙ ap (λ (owner : Owner). state_turned c.args.name.now owner.state) c.self.view_is) c.in-Answered.ensures.unchanged
 
 pub returns-in-Answered-clause-others : goal.returns-in-Answered-clause-others
@@ -169,7 +169,7 @@ returns-in-Answered-clause-others c =
     subst (λ (owner : Owner). OtherSessionsKept c.args.name.now owner.state c.begin.new.self.state) c.self.view_is
     (passed-others (owner_of_kept c.self.inside) c.args.name.now c.in_ok-command.command c.in_ok-command.ensures.value
     (waited_for p.After-owed) c.self.invariant.at_work (whole_for p.After-owed) (some_of _ _ c.if-owed-eq0.false c.owed.ensures)
-    c.pass_step-2.new.self c.pass_step-2.ensures.passed c.begin.new.self.state c.begin.ensures.others)
+    c.finish_step-2.new.self c.finish_step-2.ensures.passed c.begin.new.self.state c.begin.ensures.others)
 
 pub returns-in-Running-clause-last : goal.returns-in-Running-clause-last
 returns-in-Running-clause-last c =
@@ -178,7 +178,7 @@ returns-in-Running-clause-last c =
       λ last.
           absurd (passed-more (owner_of_kept c.self.inside) c.args.name.now c.in_ok-command.command c.in_ok-command.ensures.value
           (waited_for p.After-owed) c.self.invariant.at_work (whole_for p.After-owed) (some_of _ _ c.if-owed-eq0.false c.owed.ensures)
-          c.pass_step-2.new.self c.pass_step-2.ensures.passed c.in-Running.ensures.takes_turns
+          c.finish_step-2.new.self c.finish_step-2.ensures.passed c.in-Running.ensures.takes_turns
           (subst (λ (owner : Owner). IsLastTurn c.args.name.now owner) (sym c.self.view_is) last)),
     )
 
@@ -188,4 +188,4 @@ returns-in-Running-clause-others c =
     subst (λ (owner : Owner). OtherSessionsKept c.args.name.now owner.state c.begin.new.self.state) c.self.view_is
     (passed-others (owner_of_kept c.self.inside) c.args.name.now c.in_ok-command.command c.in_ok-command.ensures.value
     (waited_for p.After-owed) c.self.invariant.at_work (whole_for p.After-owed) (some_of _ _ c.if-owed-eq0.false c.owed.ensures)
-    c.pass_step-2.new.self c.pass_step-2.ensures.passed c.begin.new.self.state c.begin.ensures.others)
+    c.finish_step-2.new.self c.finish_step-2.ensures.passed c.begin.new.self.state c.begin.ensures.others)

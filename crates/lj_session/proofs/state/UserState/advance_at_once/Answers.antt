@@ -7,7 +7,7 @@ use Rattle.lj_session.proofs.Performing as performing
 use Rattle.lj_session.proofs.Outcomes as outcomes
 use Rattle.lj_session.proofs.Outcomes.{read-step}
 use Rattle.lj_session.proofs.Turning.{advance-turns-near}
-use Rattle.lj_session.specs.UserState.{session_meant, user_of}
+use Rattle.lj_session.specs.UserState.{settled_session, user_of}
 use Rattle.lj_session.proofs.state.UserState.advance_at_once.Goals as goal
 
 pub returns-in_default : goal.returns-in_default
@@ -19,7 +19,7 @@ pub returns-then-not-can_advance : goal.returns-then-not-can_advance
 returns-then-not-can_advance c = λ mark.
     let old = c.args.self.now in
     let held = c.in-Some.session.now in
-    performing.advance-far (user_of old) c.args.name mark (session_meant held)
+    performing.advance-far (user_of old) c.args.name mark (settled_session held)
     (named-held old c.args.name held (sym c.in-Some.ensures)) c.args.steps
     (sym c.can_advance.ensures ∙ c.if-not-can_advance.true)
 
@@ -30,9 +30,9 @@ returns c = λ mark.
     let found = sym c.in-Some.ensures in
     let near = sym c.can_advance.ensures ∙ c.if-not-can_advance.false in
     let none =
-    sym (advance-turns-near (user_of old) c.args.name c.args.steps (session_meant held)
+    sym (advance-turns-near (user_of old) c.args.name c.args.steps (settled_session held)
     (named-held old c.args.name held found) near) ∙ c.requires.turns in
     ap (λ n. command_result (user_of old) (Advance c.args.name n) mark) none
-    ∙ outcomes.advance-nothing old c.args.name held found (ap (can_advance (session_meant held)) (sym none) ∙ near) mark
+    ∙ outcomes.advance-nothing old c.args.name held found (ap (can_advance (settled_session held)) (sym none) ∙ near) mark
     ∙ ap (λ s. Ok (reply.Advanced c.args.name s, user_of old))
     (sym (read-step c.target-step.result c.target-step.ensures.most ∙ c.target-step.ensures.value))

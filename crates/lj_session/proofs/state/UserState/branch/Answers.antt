@@ -5,7 +5,7 @@ use Rattle.lj_branch.specs.Named.{value_named, with_value}
 use Rattle.lj_quota.specs.declared.Over.TheVariants.{Branches}
 use Rattle.lj_session.specs.Faults.{quota_refusal}
 use Rattle.lj_session.specs.declared.reply.Reply.TheVariants as reply
-use Rattle.lj_session.specs.UserState.{HeldSession, with_saved, as_session, user_of}
+use Rattle.lj_session.specs.UserState.{LiveSession, with_saved, as_session, user_of}
 use Rattle.lj_session.proofs.Entries.{length-new}
 use Rattle.lj_session.proofs.Limits.{over-limit, same_over, branches-over, branches-room}
 use Rattle.lj_session.proofs.Performing as performing
@@ -115,8 +115,8 @@ invariant_of-self-2 c =
     let new = is_new (goal.at.invariant_of-self-2 c).After-may_branch in
     let saved = c.in_ok-save.ensures.saved ∙ ap (λ b. with_saved held (with_value b held.live.sim held.saved)) c.copy.ensures in
     let wrote = written (goal.at.invariant_of-self-2 c).After-save in record {
-      counted = totals_saved wrote (ap (λ (h : HeldSession). length h.live.sim.cur) saved)
-          (ap (λ (h : HeldSession). length h.saved) saved
+      counted = totals_saved wrote (ap (λ (h : LiveSession). length h.live.sim.cur) saved)
+          (ap (λ (h : LiveSession). length h.saved) saved
           ∙ length-new c.args.branch held.saved held.live.sim (none-of (value_named c.args.branch held.saved) new));
       reached = reached_as wrote _ _ _
           (outcomes.branch c.args.self.now c.args.name held wrote.found
@@ -138,4 +138,4 @@ returns-clause-performs c =
     (c.in_ok-may_branch.ensures.may.0 refl)))
     (read-step c.step-step.result c.step-step.ensures.most
     ∙ (c.step-step.ensures.value ∙ ap (λ (l : Sim). l.sim.step) c.sim.ensures
-    ∙ ap (λ (h : HeldSession). h.live.sim.step) saved)) saved
+    ∙ ap (λ (h : LiveSession). h.live.sim.step) saved)) saved

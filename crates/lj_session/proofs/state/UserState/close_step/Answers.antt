@@ -1,5 +1,5 @@
 use Rattle.std.proofs.Common.{length, ap}
-use Rattle.lj_session.specs.UserState.{HeldSession, session_meant, with_no_step}
+use Rattle.lj_session.specs.UserState.{LiveSession, settled_session, with_no_step}
 use Rattle.lj_session.proofs.Writing.{Writes, writes, changed_by, user_kept, totals_kept, reached_kept}
 use Rattle.lj_session.proofs.state.UserState.close_step.Goals.{After-close_step}
 use Rattle.lj_session.proofs.state.UserState.close_step.Goals as goal
@@ -14,9 +14,9 @@ written c = writes c.self.inside c.args.self.now c.self.view_is c.self.invariant
 pub invariant_of-self-2 : goal.invariant_of-self-2
 invariant_of-self-2 c =
     let wrote = written (goal.at.invariant_of-self-2 c).After-close_step in record {
-      counted = totals_kept wrote (ap (λ (h : HeldSession). length h.live.sim.cur) c.close_step.ensures)
-          (ap (λ (h : HeldSession). length h.saved) c.close_step.ensures);
-      reached = reached_kept wrote (ap session_meant c.close_step.ensures);
+      counted = totals_kept wrote (ap (λ (h : LiveSession). length h.live.sim.cur) c.close_step.ensures)
+          (ap (λ (h : LiveSession). length h.saved) c.close_step.ensures);
+      reached = reached_kept wrote (ap settled_session c.close_step.ensures);
     }
 
 pub returns-clause-closed : goal.returns-clause-closed
@@ -25,4 +25,4 @@ returns-clause-closed c =
 
 pub returns-clause-user : goal.returns-clause-user
 returns-clause-user c =
-    user_kept (written (goal.at.returns-clause-user c).After-close_step) (ap session_meant c.close_step.ensures)
+    user_kept (written (goal.at.returns-clause-user c).After-close_step) (ap settled_session c.close_step.ensures)

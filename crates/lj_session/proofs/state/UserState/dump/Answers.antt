@@ -1,7 +1,7 @@
 use Rattle.std.proofs.Common.{sym}
 use Rattle.lj_session.proofs.Holding.{named-absent, named-held}
 use Rattle.lj_session.proofs.Performing as performing
-use Rattle.lj_session.specs.UserState.{session_meant, user_of}
+use Rattle.lj_session.specs.UserState.{settled_session, user_of}
 use Rattle.lj_session.proofs.state.UserState.dump.Goals as goal
 
 pub returns-in_default : goal.returns-in_default
@@ -13,5 +13,5 @@ pub returns : goal.returns
 returns c = λ mark.
     let old = c.args.self.now in
     let held = c.in-Some._session.now in
-    performing.dump-done (user_of old) c.args.name mark (session_meant held)
+    performing.dump-done (user_of old) c.args.name mark (settled_session held)
     (named-held old c.args.name held (sym c.in-Some.ensures))

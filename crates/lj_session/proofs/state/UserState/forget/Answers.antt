@@ -1,6 +1,6 @@
 use Rattle.std.proofs.Common.{◌+◌, false, length, refl, ap, ◌∙◌}
 use Rattle.lj_branch.specs.Named.{value_named}
-use Rattle.lj_session.specs.UserState.{HeldSession, session_meant, user_of}
+use Rattle.lj_session.specs.UserState.{LiveSession, settled_session, user_of}
 use Rattle.lj_session.proofs.Entries.{length-taken}
 use Rattle.lj_session.proofs.Performing as performing
 use Rattle.lj_session.proofs.Outcomes as outcomes
@@ -32,7 +32,7 @@ returns-in_err-forget-clause-performs c =
     let held = c.in-Some.session.now in
     performs-refused c.args.self.now _ _ c.from_residual.result _ c.from_residual.ensures.1
     (performing.refused c.args.self.now _ _ _ (performing.forget-no_branch (user_of c.args.self.now)
-    c.args.name false (session_meant held)
+    c.args.name false (settled_session held)
     (is_there c.self.inside c.args.self.now c.self.view_is c.args.name held c.in-Some.ensures.value)
     c.args.branch (none-if (value_named c.args.branch held.saved) c.in_err-forget.ensures.found.1)))
 
@@ -46,8 +46,8 @@ overflow_sub-self c =
     let held = c.in-Some.session.now in
     let saved = some-of (value_named c.args.branch held.saved) (c.in_ok-forget.ensures.found.0 refl) in
     one_saved (written (goal.at.overflow_sub-self c).After-forget)
-    (ap (λ (h : HeldSession). length h.live.sim.cur) c.in_ok-forget.ensures.taken)
-    (ap (λ (h : HeldSession). length h.saved + 1) c.in_ok-forget.ensures.taken
+    (ap (λ (h : LiveSession). length h.live.sim.cur) c.in_ok-forget.ensures.taken)
+    (ap (λ (h : LiveSession). length h.saved + 1) c.in_ok-forget.ensures.taken
     ∙ length-taken c.args.branch held.saved saved.0 saved.1)
 
 pub invariant_of-self-2 : goal.invariant_of-self-2
@@ -55,8 +55,8 @@ invariant_of-self-2 c =
     let held = c.in-Some.session.now in
     let saved = some-of (value_named c.args.branch held.saved) (c.in_ok-forget.ensures.found.0 refl) in
     let wrote = written (goal.at.invariant_of-self-2 c).After-forget in record {
-      counted = totals_forgotten wrote (ap (λ (h : HeldSession). length h.live.sim.cur) c.in_ok-forget.ensures.taken)
-          (ap (λ (h : HeldSession). length h.saved + 1) c.in_ok-forget.ensures.taken
+      counted = totals_forgotten wrote (ap (λ (h : LiveSession). length h.live.sim.cur) c.in_ok-forget.ensures.taken)
+          (ap (λ (h : LiveSession). length h.saved + 1) c.in_ok-forget.ensures.taken
           ∙ length-taken c.args.branch held.saved saved.0 saved.1);
       reached = reached_as wrote _ _ _
           (outcomes.forget c.args.self.now c.args.name held wrote.found c.args.branch saved.0 saved.1)

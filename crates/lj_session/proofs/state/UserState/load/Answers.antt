@@ -6,7 +6,7 @@ use Rattle.lj_quota.specs.declared.Over.TheVariants.{Atoms}
 use Rattle.lj_session.specs.declared.refusal.Refusal.TheVariants.{Memory}
 use Rattle.lj_session.specs.Faults.{quota_refusal, xyz_refusal}
 use Rattle.lj_session.specs.Loads.{reading_mode}
-use Rattle.lj_session.specs.Openings.{frames_of, last_of, held_from}
+use Rattle.lj_session.specs.ParsedLoads.{frames_of, last_of, held_from}
 use Rattle.lj_session.proofs.Holding.{inserted}
 use Rattle.lj_session.proofs.Performing.{refused}
 use Rattle.lj_session.proofs.Loading as loading
@@ -16,26 +16,26 @@ use Rattle.lj_session.proofs.Limits.{over-limit, same_over, sessions-within, ato
 use Rattle.lj_session.proofs.Reaching.{reached-done}
 use Rattle.lj_session.specs.declared.command.Command.TheVariants.{Load}
 use Rattle.lj_session.specs.UserState.{UserState, Performs, user_of}
-use Rattle.lj_session.specs.Substances.{load_reply, symbols_of}
-use Rattle.lj_session.proofs.state.UserState.load.Goals.{In_ok-opening, In_ok-insert}
+use Rattle.lj_session.specs.Interactions.{load_reply, symbols_of}
+use Rattle.lj_session.proofs.state.UserState.load.Goals.{In_ok-parsed, In_ok-insert}
 use Rattle.lj_session.proofs.state.UserState.load.Goals as goal
 
 -- the frames that were read are those of the species that the load asks for
-was_read : (c : In_ok-opening)
-    → reading (symbols_of c.args.load.substance) (reading_mode c.args.load.mode) (lines_of c.in-Read.body)
-    ≡ Ok (frames_of c.in_ok-opening.opening.first c.in_ok-opening.opening.second)
+was_read : (c : In_ok-parsed)
+    → reading (symbols_of c.args.load.interactions) (reading_mode c.args.load.mode) (lines_of c.in-Read.body)
+    ≡ Ok (frames_of c.in_ok-parsed.parsed.first c.in_ok-parsed.parsed.second)
 was_read c =
     ap (λ symbols. reading symbols (reading_mode c.args.load.mode) (lines_of c.in-Read.body)) (sym c.symbols-symbols.ensures)
-    ∙ c.in_ok-opening.ensures
+    ∙ c.in_ok-parsed.ensures
 
 -- and so is the session that was made
 made_is : (c : In_ok-insert)
-    → c.in_ok-session.session ≡ held_from c.in_ok-mix.mix (symbols_of c.args.load.substance)
-    c.in_ok-opening.opening.first (last_of c.in_ok-opening.opening.first c.in_ok-opening.opening.second)
+    → c.in_ok-session.session ≡ held_from c.in_ok-mix.mix (symbols_of c.args.load.interactions)
+    c.in_ok-parsed.parsed.first (last_of c.in_ok-parsed.parsed.first c.in_ok-parsed.parsed.second)
 made_is c =
-    let opening = c.in_ok-opening.opening in
+    let parsed = c.in_ok-parsed.parsed in
     c.in_ok-session.ensures
-    ∙ ap (λ symbols. held_from c.in_ok-mix.mix symbols opening.first (last_of opening.first opening.second))
+    ∙ ap (λ symbols. held_from c.in_ok-mix.mix symbols parsed.first (last_of parsed.first parsed.second))
     c.symbols-symbols.ensures
 
 pub returns-in_err-mix-clause-performs : goal.returns-in_err-mix-clause-performs
@@ -50,21 +50,21 @@ returns-in_default-clause-performs c =
     let old = c.args.self.now in
     loading.load-starved old old c.args.load c.in_ok-mix.mix (sym c.in_ok-mix.ensures)
 
-pub returns-in_err-opening-clause-performs : goal.returns-in_err-opening-clause-performs
-returns-in_err-opening-clause-performs c =
+pub returns-in_err-parsed-clause-performs : goal.returns-in_err-parsed-clause-performs
+returns-in_err-parsed-clause-performs c =
     let old = c.args.self.now in
-    (performs-refused old _ _ c.from_residual-in_err-opening.result (xyz_refusal c.in_err-opening.field-0.0)
-    c.from_residual-in_err-opening.ensures.1
+    (performs-refused old _ _ c.from_residual-in_err-parsed.result (xyz_refusal c.in_err-parsed.field-0.0)
+    c.from_residual-in_err-parsed.ensures.1
     (loading.not-read old old c.args.load c.in_ok-mix.mix (sym c.in_ok-mix.ensures)
-    c.in-Read.body c.in-Read.is c.in_err-opening.field-0.0
-    (subst (λ symbols. Fails c.in_err-opening.field-0.0
+    c.in-Read.body c.in-Read.is c.in_err-parsed.field-0.0
+    (subst (λ symbols. Fails c.in_err-parsed.field-0.0
     (reading symbols (reading_mode c.args.load.mode) (lines_of c.in-Read.body)))
-    c.symbols-symbols.ensures c.in_err-opening.ensures)))
+    c.symbols-symbols.ensures c.in_err-parsed.ensures)))
 
 pub returns-in_err-may_load-clause-performs : goal.returns-in_err-may_load-clause-performs
 returns-in_err-may_load-clause-performs c =
     let old = c.args.self.now in
-    let opening = c.in_ok-opening.opening in
+    let parsed = c.in_ok-parsed.parsed in
     let is_mix = sym c.in_ok-mix.ensures in
     let room = sessions-within c.self.inside old c.self.view_is c.self.invariant.counted
     (loading.new-admitted (user_of old) c.args.load c.in_ok-mix.mix is_mix).1 in
@@ -74,9 +74,9 @@ returns-in_err-may_load-clause-performs c =
     let which = same_over c.in_err-may_load.field-0.0 Atoms (c.in_err-may_load.ensures.atoms.1 (room, over)) in
     (performs-refused old _ _ c.from_residual-in_err-may_load.result (quota_refusal c.in_err-may_load.field-0.0)
     c.from_residual-in_err-may_load.ensures.1
-    (rw which (loading.too-many old old c.args.load c.in_ok-mix.mix is_mix c.in-Read.body c.in-Read.is opening.first
-    opening.second (was_read (goal.at.returns-in_err-may_load-clause-performs c).In_ok-opening) opening.same
-    (atoms-over c.self.inside old c.self.view_is c.self.invariant.counted c.count-atoms.result (length opening.first)
+    (rw which (loading.too-many old old c.args.load c.in_ok-mix.mix is_mix c.in-Read.body c.in-Read.is parsed.first
+    parsed.second (was_read (goal.at.returns-in_err-may_load-clause-performs c).In_ok-parsed) parsed.same
+    (atoms-over c.self.inside old c.self.view_is c.self.invariant.counted c.count-atoms.result (length parsed.first)
     c.count-atoms.ensures.value over))))
 
 pub returns-in_err-session-clause-performs : goal.returns-in_err-session-clause-performs
@@ -93,19 +93,19 @@ returns-in_err-insert-clause-performs c =
 
 -- the session is loaded
 was_loaded : (c : In_ok-insert)
-    → reading (symbols_of c.args.load.substance) (reading_mode c.args.load.mode) (lines_of c.in-Read.body)
-    ≡ Ok (frames_of c.in_ok-opening.opening.first c.in_ok-opening.opening.second)
+    → reading (symbols_of c.args.load.interactions) (reading_mode c.args.load.mode) (lines_of c.in-Read.body)
+    ≡ Ok (frames_of c.in_ok-parsed.parsed.first c.in_ok-parsed.parsed.second)
     → Performs c.args.self.now (Load c.args.load)
-    (Ok (load_reply c.args.load.substance c.args.load.name c.count-atoms.result))
+    (Ok (load_reply c.args.load.interactions c.args.load.name c.count-atoms.result))
     (record { quota = c.self.inside.quota; sessions = c.insert.new.self.entries })
 was_loaded c read =
     let old = c.args.self.now in
-    let opening = c.in_ok-opening.opening in
-    let made = held_from c.in_ok-mix.mix (symbols_of c.args.load.substance) opening.first (last_of opening.first opening.second) in
+    let parsed = c.in_ok-parsed.parsed in
+    let made = held_from c.in_ok-mix.mix (symbols_of c.args.load.interactions) parsed.first (last_of parsed.first parsed.second) in
     loading.load-loads old _ c.args.load c.in_ok-mix.mix (sym c.in_ok-mix.ensures)
-    c.in-Read.body c.in-Read.is opening.first opening.second read opening.same
+    c.in-Read.body c.in-Read.is parsed.first parsed.second read parsed.same
     c.count-atoms.result c.count-atoms.ensures.value
-    (atoms-room c.self.inside old c.self.view_is c.self.invariant.counted c.count-atoms.result (length opening.first)
+    (atoms-room c.self.inside old c.self.view_is c.self.invariant.counted c.count-atoms.result (length parsed.first)
     c.count-atoms.ensures.value (c.in_ok-may_load.ensures.may.0 refl).1)
     (inserted c.self.inside old c.self.view_is c.args.load.name c.copy.result c.copy.ensures _ c.in_ok-session.session
     made (made_is c) c.in_ok-insert.ensures.entries)
@@ -113,25 +113,25 @@ was_loaded c read =
 pub invariant_of-self-2 : goal.invariant_of-self-2
 invariant_of-self-2 c =
     let old = c.args.self.now in
-    let opening = c.in_ok-opening.opening in
-    let made = held_from c.in_ok-mix.mix (symbols_of c.args.load.substance) opening.first (last_of opening.first opening.second) in
+    let parsed = c.in_ok-parsed.parsed in
+    let made = held_from c.in_ok-mix.mix (symbols_of c.args.load.interactions) parsed.first (last_of parsed.first parsed.second) in
     let is_in =
     inserted c.self.inside old c.self.view_is c.args.load.name c.copy.result c.copy.ensures _ c.in_ok-session.session
     made (made_is (goal.at.invariant_of-self-2 c).In_ok-insert) c.in_ok-insert.ensures.entries in record {
       counted = used-more c.self.inside old c.self.view_is c.self.invariant.counted c.args.load.name
           (loading.absent-admitted old old c.args.load c.in_ok-mix.mix (sym c.in_ok-mix.ensures)) _ made is_in
           c.count-atoms.result (c.count-atoms.ensures.value
-          ∙ sym (loading.atoms-opened c.in_ok-mix.mix (symbols_of c.args.load.substance) opening.first
-          (last_of opening.first opening.second) opening.same)) refl;
+          ∙ sym (loading.atoms-opened c.in_ok-mix.mix (symbols_of c.args.load.interactions) parsed.first
+          (last_of parsed.first parsed.second) parsed.same)) refl;
       reached = reached-done c.self.inside old _ c.self.view_is c.self.invariant (Load c.args.load) _
           (was_loaded (goal.at.invariant_of-self-2 c).In_ok-insert
-          (was_read (goal.at.invariant_of-self-2 c).In_ok-opening)) (ap (λ (o : UserState). o.quota) is_in);
+          (was_read (goal.at.invariant_of-self-2 c).In_ok-parsed)) (ap (λ (o : UserState). o.quota) is_in);
     }
 
 pub returns-clause-performs : goal.returns-clause-performs
 returns-clause-performs c =
     let p = goal.at.returns-clause-performs c in
-    rw c.loaded.ensures (was_loaded p.In_ok-insert (was_read p.In_ok-opening))
+    rw c.loaded.ensures (was_loaded p.In_ok-insert (was_read p.In_ok-parsed))
 
 -- what holds at all holds if there is an error
 if_refused : {T E P : Type 0} (r : Result T E) → P → OnErr r P

@@ -1,5 +1,5 @@
 use Rattle.std.proofs.Common.{length, ap}
-use Rattle.lj_session.specs.UserState.{HeldSession, session_meant, with_step}
+use Rattle.lj_session.specs.UserState.{LiveSession, settled_session, with_step}
 use Rattle.lj_session.proofs.Writing.{Writes, writes, changed_by, user_kept, totals_kept, reached_kept}
 use Rattle.lj_session.proofs.state.UserState.open_step.Goals.{After-open_step}
 use Rattle.lj_session.proofs.state.UserState.open_step.Goals as goal
@@ -14,9 +14,9 @@ written c = writes c.self.inside c.args.self.now c.self.view_is c.self.invariant
 pub invariant_of-self-2 : goal.invariant_of-self-2
 invariant_of-self-2 c =
     let wrote = written (goal.at.invariant_of-self-2 c).After-open_step in record {
-      counted = totals_kept wrote (ap (λ (h : HeldSession). length h.live.sim.cur) c.open_step.ensures)
-          (ap (λ (h : HeldSession). length h.saved) c.open_step.ensures);
-      reached = reached_kept wrote (ap session_meant c.open_step.ensures);
+      counted = totals_kept wrote (ap (λ (h : LiveSession). length h.live.sim.cur) c.open_step.ensures)
+          (ap (λ (h : LiveSession). length h.saved) c.open_step.ensures);
+      reached = reached_kept wrote (ap settled_session c.open_step.ensures);
     }
 
 pub returns-clause-opened : goal.returns-clause-opened
@@ -27,4 +27,4 @@ returns-clause-opened c =
 pub returns-clause-user : goal.returns-clause-user
 returns-clause-user c =
     user_kept (written (goal.at.returns-clause-user c).After-open_step)
-    (ap session_meant c.open_step.ensures)
+    (ap settled_session c.open_step.ensures)

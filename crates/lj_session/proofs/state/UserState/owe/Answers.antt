@@ -1,7 +1,7 @@
 use Rattle.std.proofs.Common.{◌≡◌, false, length, ap, ◌∙◌}
 use Rattle.lj_session.specs.declared.command.Command.TheVariants.{Advance}
 use Rattle.lj_session.specs.Answers.{answer}
-use Rattle.lj_session.specs.UserState.{HeldSession, user_of, with_held_session, with_more_owed}
+use Rattle.lj_session.specs.UserState.{LiveSession, user_of, with_live_session, with_more_owed}
 use Rattle.lj_session.proofs.Outcomes.{owed-user}
 use Rattle.lj_session.proofs.Owed.{count-owing, saved-owing}
 use Rattle.lj_session.proofs.Writing.{Writes, writes, changed_by, totals_kept, reached_answered}
@@ -21,7 +21,7 @@ advanced : (c : After-owe)
     ≡ (answer (user_of c.args.self.now) (Advance c.args.name.now c.args.steps) false).1
 advanced c =
     let wrote = written c in
-    ap user_of (wrote.is ∙ ap (λ (h : HeldSession). with_held_session c.args.name.now h c.args.self.now) c.owe.ensures)
+    ap user_of (wrote.is ∙ ap (λ (h : LiveSession). with_live_session c.args.name.now h c.args.self.now) c.owe.ensures)
     ∙ owed-user c.args.self.now c.args.name.now c.in-Some.session.now wrote.found c.args.steps
     (c.requires.near c.in-Some.session.now wrote.found)
 
@@ -29,8 +29,8 @@ pub invariant_of-self-2 : goal.invariant_of-self-2
 invariant_of-self-2 c =
     let held = c.in-Some.session.now in
     let wrote = written (goal.at.invariant_of-self-2 c).After-owe in record {
-      counted = totals_kept wrote (ap (λ (h : HeldSession). length h.live.sim.cur) c.owe.ensures ∙ count-owing c.args.steps held)
-          (ap (λ (h : HeldSession). length h.saved) c.owe.ensures ∙ saved-owing c.args.steps held);
+      counted = totals_kept wrote (ap (λ (h : LiveSession). length h.live.sim.cur) c.owe.ensures ∙ count-owing c.args.steps held)
+          (ap (λ (h : LiveSession). length h.saved) c.owe.ensures ∙ saved-owing c.args.steps held);
       reached = reached_answered wrote (Advance c.args.name.now c.args.steps)
           (advanced (goal.at.invariant_of-self-2 c).After-owe);
     }

@@ -2,7 +2,7 @@ use Rattle.std.proofs.Common.{◌≡◌, Some, length, slice_get, sym, ap, ◌�
 use Rattle.std.proofs.lemmas.Option.{slice_get-map}
 use Rattle.indexmap.specs.IndexMap.{set_value_at}
 use Rattle.lj_session.specs.Users.{Session}
-use Rattle.lj_session.specs.UserState.{HeldSession, UserState, as_session, with_session_changed, held_session_at, held_session, names, session_meant, with_posted}
+use Rattle.lj_session.specs.UserState.{LiveSession, UserState, as_session, with_session_changed, live_session_at, live_session, names, settled_session, with_posted}
 use Rattle.lj_session.proofs.Entries.{set_at-name}
 use Rattle.lj_session.proofs.NextTiles.{next-held, next-name}
 use Rattle.lj_session.proofs.Owed.{meant-posted}
@@ -15,7 +15,7 @@ use Rattle.lj_session.proofs.state.UserState.post.Goals as goal
 is_held : (c : After-post) → c.in-Some.session.now ≡ c.requires.held
 is_held c = next-held c.requires c.in-Some.session.now
     (sym (c.in-Some.ensures.value ∙ slice_get-map (λ entry. entry.1) c.self.inside.sessions.entries c.args.i
-    ∙ ap (λ (o : UserState). held_session_at o c.args.i) c.self.view_is))
+    ∙ ap (λ (o : UserState). live_session_at o c.args.i) c.self.view_is))
 
 -- what is written in it
 written : (c : After-post)
@@ -25,8 +25,8 @@ written : (c : After-post)
       sessions = set_value_at c.self.inside.sessions.entries c.args.i c.post.new.self;
     })
 written c = writes c.self.inside c.args.self.now c.self.view_is c.self.invariant c.requires.name _
-    (sym (ap (λ (o : UserState). held_session o c.requires.name) c.self.view_is ∙ c.requires.there
-    ∙ ap (λ (h : HeldSession). Some h) (sym (is_held c)))) _ c.post.new.self
+    (sym (ap (λ (o : UserState). live_session o c.requires.name) c.self.view_is ∙ c.requires.there
+    ∙ ap (λ (h : LiveSession). Some h) (sym (is_held c)))) _ c.post.new.self
     (set_at-name c.self.inside.sessions.entries c.args.i c.requires.name c.post.new.self c.get_index_mut.ensures.unique
     (ap (λ (o : UserState). slice_get (names o) c.args.i) c.self.view_is ∙ c.requires.named))
 
@@ -35,7 +35,7 @@ invariant_of-self-2 c =
     let same = ap as_session c.post.ensures ∙ posted-session c.in-Some.session.now in
     let wrote = written (goal.at.invariant_of-self-2 c).After-post in record {
       counted = totals_kept wrote (ap (λ (s : Session). length s.sim.cur) same) (ap (λ (s : Session). length s.saved) same);
-      reached = reached_kept wrote (ap session_meant c.post.ensures ∙ meant-posted c.in-Some.session.now);
+      reached = reached_kept wrote (ap settled_session c.post.ensures ∙ meant-posted c.in-Some.session.now);
     }
 
 pub returns-clause-posted : goal.returns-clause-posted
@@ -46,4 +46,4 @@ returns-clause-posted c = λ name named.
 pub returns-clause-user : goal.returns-clause-user
 returns-clause-user c =
     user_kept (written (goal.at.returns-clause-user c).After-post)
-    (ap session_meant c.post.ensures ∙ meant-posted c.in-Some.session.now)
+    (ap settled_session c.post.ensures ∙ meant-posted c.in-Some.session.now)

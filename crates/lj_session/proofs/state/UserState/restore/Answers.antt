@@ -2,7 +2,7 @@ use Rattle.std.proofs.Common.{◌≡◌, false, length, refl, ap, ◌∙◌}
 use Rattle.lj_step.specs.Sim.{Sim}
 use Rattle.lj_branch.specs.Named.{value_named}
 use Rattle.lj_session.specs.declared.reply.Reply.TheVariants as reply
-use Rattle.lj_session.specs.UserState.{HeldSession, with_simulation, as_session, user_of}
+use Rattle.lj_session.specs.UserState.{LiveSession, with_simulation, as_session, user_of}
 use Rattle.lj_session.proofs.Performing as performing
 use Rattle.lj_session.proofs.Outcomes as outcomes
 use Rattle.lj_session.proofs.Outcomes.{read-step}
@@ -53,7 +53,7 @@ invariant_of-self-2 c =
     some-with (λ sim. c.restore.new.self ≡ with_simulation held sim) (value_named c.args.branch held.saved)
     (c.in_ok-restore.ensures.found.0 refl) c.in_ok-restore.ensures.restored in
     let wrote = written (goal.at.invariant_of-self-2 c).After-restore in record {
-      counted = totals_kept wrote c.in_ok-restore.ensures.count (ap (λ (h : HeldSession). length h.saved) saved.2);
+      counted = totals_kept wrote c.in_ok-restore.ensures.count (ap (λ (h : LiveSession). length h.saved) saved.2);
       reached = reached_as wrote _ _ _
           (outcomes.restore c.args.self.now c.args.name held wrote.found
           (none_owed c.self.inside c.args.self.now c.self.view_is c.args.name held c.in-Some.ensures.value c.requires)
@@ -72,4 +72,4 @@ returns-clause-performs c =
     (none_owed c.self.inside c.args.self.now c.self.view_is c.args.name held c.in-Some.ensures.value c.requires) c.args.branch saved.0 saved.1)
     (read-step c.step-step.result c.step-step.ensures.most
     ∙ (c.step-step.ensures.value ∙ ap (λ (l : Sim). l.sim.step) c.sim.ensures
-    ∙ ap (λ (h : HeldSession). h.live.sim.step) saved.2)) saved.2
+    ∙ ap (λ (h : LiveSession). h.live.sim.step) saved.2)) saved.2

@@ -1,7 +1,7 @@
 use Rattle.std.proofs.Common.{false, length, ap, ◌∙◌}
 use Rattle.lj_step.specs.Sim.{Sim}
 use Rattle.lj_session.specs.declared.reply.Reply.TheVariants as reply
-use Rattle.lj_session.specs.UserState.{HeldSession, user_of}
+use Rattle.lj_session.specs.UserState.{LiveSession, user_of}
 use Rattle.lj_session.proofs.Performing as performing
 use Rattle.lj_session.proofs.Outcomes as outcomes
 use Rattle.lj_session.proofs.Outcomes.{read-step}
@@ -28,7 +28,7 @@ pub invariant_of-self-2 : goal.invariant_of-self-2
 invariant_of-self-2 c =
     let held = c.in-Some.session.now in
     let wrote = written (goal.at.invariant_of-self-2 c).After-reverse in record {
-      counted = totals_kept wrote c.reverse.ensures.count (ap (λ (h : HeldSession). length h.saved) c.reverse.ensures.value);
+      counted = totals_kept wrote c.reverse.ensures.count (ap (λ (h : LiveSession). length h.saved) c.reverse.ensures.value);
       reached = reached_as wrote _ _ _ (outcomes.reverse c.args.self.now c.args.name held wrote.found
           (none_owed c.self.inside c.args.self.now c.self.view_is c.args.name held c.in-Some.ensures.value c.requires))
           c.reverse.ensures.value;
@@ -42,4 +42,4 @@ returns-clause-performs c =
     (none_owed c.self.inside c.args.self.now c.self.view_is c.args.name c.in-Some.session.now c.in-Some.ensures.value c.requires))
     (read-step c.step-step.result c.step-step.ensures.most
     ∙ (c.step-step.ensures.value ∙ ap (λ (l : Sim). l.sim.step) c.sim.ensures
-    ∙ ap (λ (h : HeldSession). h.live.sim.step) c.reverse.ensures.value)) c.reverse.ensures.value
+    ∙ ap (λ (h : LiveSession). h.live.sim.step) c.reverse.ensures.value)) c.reverse.ensures.value

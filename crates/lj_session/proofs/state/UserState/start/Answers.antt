@@ -1,6 +1,6 @@
 use Rattle.std.proofs.Common.{◌∙◌, false, length, refl, sym, ap}
 use Rattle.lj_session.specs.declared.reply.Reply.TheVariants as reply
-use Rattle.lj_session.specs.UserState.{HeldSession, session_meant, user_of}
+use Rattle.lj_session.specs.UserState.{LiveSession, settled_session, user_of}
 use Rattle.lj_session.proofs.Owed.{count-owing, saved-owing}
 use Rattle.lj_session.proofs.Performing as performing
 use Rattle.lj_session.proofs.Outcomes as outcomes
@@ -37,7 +37,7 @@ invariant_of-self-then-not-can_advance c =
 pub returns-then-not-can_advance-clause-performs : goal.returns-then-not-can_advance-clause-performs
 returns-then-not-can_advance-clause-performs c =
     performing.refused c.args.self.now _ _ _ (performing.start-far (user_of c.args.self.now)
-    c.args.name false (session_meant c.in-Some.session.now)
+    c.args.name false (settled_session c.in-Some.session.now)
     (is_there c.self.inside c.args.self.now c.self.view_is c.args.name c.in-Some.session.now c.in-Some.ensures.value)
     c.args.steps (sym c.can_advance.ensures ∙ c.if-not-can_advance.true))
 
@@ -49,8 +49,8 @@ pub invariant_of-self-2 : goal.invariant_of-self-2
 invariant_of-self-2 c =
     let held = c.in-Some.session.now in
     let wrote = written (goal.at.invariant_of-self-2 c).After-owe in record {
-      counted = totals_kept wrote (ap (λ (h : HeldSession). length h.live.sim.cur) c.owe.ensures ∙ count-owing c.args.steps held)
-          (ap (λ (h : HeldSession). length h.saved) c.owe.ensures ∙ saved-owing c.args.steps held);
+      counted = totals_kept wrote (ap (λ (h : LiveSession). length h.live.sim.cur) c.owe.ensures ∙ count-owing c.args.steps held)
+          (ap (λ (h : LiveSession). length h.saved) c.owe.ensures ∙ saved-owing c.args.steps held);
       reached = reached_as wrote _ _ _ (outcomes.start c.args.self.now c.args.name held wrote.found c.args.steps
           (sym c.can_advance.ensures ∙ c.if-not-can_advance.false)) c.owe.ensures;
     }
@@ -63,4 +63,4 @@ returns-clause-performs c =
     (outcomes.start c.args.self.now c.args.name held wrote.found c.args.steps
     (sym c.can_advance.ensures ∙ c.if-not-can_advance.false))
     (read-step c.target-step.result c.target-step.ensures.most
-    ∙ (c.target-step.ensures.value ∙ ap (λ (h : HeldSession). (session_meant h).sim.step) c.owe.ensures)) c.owe.ensures
+    ∙ (c.target-step.ensures.value ∙ ap (λ (h : LiveSession). (settled_session h).sim.step) c.owe.ensures)) c.owe.ensures

@@ -1,6 +1,6 @@
 use Rattle.std.proofs.Common.{ℕ, length, refl, ap}
 use Rattle.lj_step.specs.OpenSteps.{tile_number_of}
-use Rattle.lj_session.specs.UserState.{HeldSession, session_meant, with_tile_in}
+use Rattle.lj_session.specs.UserState.{LiveSession, settled_session, with_tile_in}
 use Rattle.lj_session.proofs.Results.{on_ok-then, on_err-then, same-either}
 use Rattle.lj_session.proofs.Writing.{Writes, writes, changed_by, unchanged, user_kept, totals_kept, reached_kept}
 use Rattle.lj_session.proofs.state.UserState.take_in.Goals.{After-take_in}
@@ -16,14 +16,14 @@ written c = writes c.self.inside c.args.self.now c.self.view_is c.self.invariant
 pub invariant_of-self-2 : goal.invariant_of-self-2
 invariant_of-self-2 c =
     let kept =
-    same-either {C = ℕ × ℕ} c.take_in.result (λ (h : HeldSession). (length h.live.sim.cur, length h.saved))
+    same-either {C = ℕ × ℕ} c.take_in.result (λ (h : LiveSession). (length h.live.sim.cur, length h.saved))
     c.take_in.new.self c.in-Some.session.now
     (with_tile_in (tile_number_of c.args.done.now) c.in-Some.session.now)
     c.take_in.ensures.taken c.take_in.ensures.unchanged refl in
     let wrote = written (goal.at.invariant_of-self-2 c).After-take_in in record {
       counted = totals_kept wrote (ap (λ p. p.0) kept) (ap (λ p. p.1) kept);
       reached = reached_kept wrote
-          (same-either c.take_in.result session_meant c.take_in.new.self c.in-Some.session.now
+          (same-either c.take_in.result settled_session c.take_in.new.self c.in-Some.session.now
           (with_tile_in (tile_number_of c.args.done.now) c.in-Some.session.now)
           c.take_in.ensures.taken c.take_in.ensures.unchanged refl);
     }
@@ -37,7 +37,7 @@ returns-clause-taken c = on_ok-then c.take_in.result
 pub returns-clause-user : goal.returns-clause-user
 returns-clause-user c =
     user_kept (written (goal.at.returns-clause-user c).After-take_in)
-    (same-either c.take_in.result session_meant c.take_in.new.self c.in-Some.session.now
+    (same-either c.take_in.result settled_session c.take_in.new.self c.in-Some.session.now
     (with_tile_in (tile_number_of c.args.done.now) c.in-Some.session.now)
     c.take_in.ensures.taken c.take_in.ensures.unchanged refl)
 

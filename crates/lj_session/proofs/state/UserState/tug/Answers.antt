@@ -1,7 +1,7 @@
 use Rattle.std.proofs.Common.{false, length, refl, ap, ◌∙◌, arith}
 use Rattle.lj_step.specs.Sim.{Sim}
 use Rattle.lj_session.specs.declared.reply.Reply.TheVariants as reply
-use Rattle.lj_session.specs.UserState.{HeldSession, as_session, user_of}
+use Rattle.lj_session.specs.UserState.{LiveSession, as_session, user_of}
 use Rattle.lj_session.proofs.Performing as performing
 use Rattle.lj_session.proofs.Outcomes as outcomes
 use Rattle.lj_session.proofs.Outcomes.{read-step}
@@ -53,8 +53,8 @@ pub invariant_of-self-2 : goal.invariant_of-self-2
 invariant_of-self-2 c =
     let held = c.in-Some.session.now in
     let wrote = written (goal.at.invariant_of-self-2 c).After-tug in record {
-      counted = totals_kept wrote (ap (λ (h : HeldSession). length h.live.sim.cur) c.tug.ensures)
-          (ap (λ (h : HeldSession). length h.saved) c.tug.ensures);
+      counted = totals_kept wrote (ap (λ (h : LiveSession). length h.live.sim.cur) c.tug.ensures)
+          (ap (λ (h : LiveSession). length h.saved) c.tug.ensures);
       reached = reached_as wrote _ _ _
           (outcomes.tug c.args.self.now c.args.name held wrote.found
           (none_owed c.self.inside c.args.self.now c.self.view_is c.args.name held c.in-Some.ensures.value c.requires)
@@ -76,4 +76,4 @@ returns-clause-performs c =
     c.sim.ensures in let t = c.if-atom-count.false in omega (arith, n, t))))
     (read-step c.step-step.result c.step-step.ensures.most
     ∙ (c.step-step.ensures.value ∙ ap (λ (l : Sim). l.sim.step) c.sim-2.ensures
-    ∙ ap (λ (h : HeldSession). h.live.sim.step) c.tug.ensures)) c.tug.ensures
+    ∙ ap (λ (h : LiveSession). h.live.sim.step) c.tug.ensures)) c.tug.ensures

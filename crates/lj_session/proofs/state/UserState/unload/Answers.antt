@@ -10,12 +10,12 @@ use Rattle.lj_session.proofs.Totals.{used-less, atoms-within, saved-within}
 use Rattle.lj_session.proofs.Reaching.{reached-done}
 use Rattle.lj_session.specs.declared.command.Command.TheVariants.{Unload}
 use Rattle.lj_session.specs.declared.reply.Reply.TheVariants.{Unloaded}
-use Rattle.lj_session.specs.UserState.{UserState, Performs, user_of, held_session}
+use Rattle.lj_session.specs.UserState.{UserState, Performs, user_of, live_session}
 use Rattle.lj_session.proofs.state.UserState.unload.Goals.{In-Some}
 use Rattle.lj_session.proofs.state.UserState.unload.Goals as goal
 
 -- the session that is taken out was held
-found : (c : In-Some) → held_session c.args.self.now c.args.name ≡ Some c.in-Some.session
+found : (c : In-Some) → live_session c.args.self.now c.args.name ≡ Some c.in-Some.session
 found c =
     looked_up c.self.inside c.args.self.now c.self.view_is c.args.name (Some c.in-Some.session) c.in-Some.ensures.value
 

@@ -46,5 +46,5 @@ returns-clause-tile c = λ _.
     let part =
     step_part (sim_of a) c.args.self.now a.partial.kind a.partial.awaited.items c.in-Some.kind
     c.self.view_is refl c.in-Some.is in
-    open_value c.args.self.now c.args.label.now open_step c.args.i c.from.result c.write_task.new.room
+    open_value c.args.self.now c.args.label.now open_step c.args.i c.from.result c.write_task.new.out
     part (found at).2 c.write_task.ensures

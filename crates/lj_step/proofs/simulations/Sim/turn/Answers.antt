@@ -1,6 +1,6 @@
 use Rattle.std.proofs.Common.{ℕ, ◌≡◌, ◌≤◌, ◌<◌, ◌^◌, ◌+ℤ◌, unsigned_abs, length, slice_index_or, rules, refl, ap, ◌∙◌}
 use Rattle.std.proofs.Common.{subst, sym, to_z, of_z, w64}
-use Rattle.lj_tile.specs.declared.names.Kind.TheVariants.{Force}
+use Rattle.lj_tile.specs.declared.task_name.Kind.TheVariants.{Force}
 use Rattle.lj_tile.specs.Pushes.{no_push}
 use Rattle.lj_step.specs.Motion.{next_frame, force, next_simulation}
 use Rattle.lj_step.specs.Sim.{Sim}

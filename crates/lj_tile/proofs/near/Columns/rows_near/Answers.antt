@@ -1,6 +1,6 @@
 use Rattle.std.proofs.Common.{◌≡◌, arith}
 use Rattle.std.proofs.lemmas.Nat.Bits.{bit_at_ones}
-use Rattle.lj_ring.specs.Ring.{distance, place_at}
+use Rattle.lj_ring.specs.Ring.{squared_distance, place_at}
 use Rattle.lj_tile.specs.Near.{IsLane}
 use Rattle.lj_tile.proofs.near.Columns.rows_near.Goals as goal
 
@@ -19,5 +19,5 @@ returns c u places columns t l none k m =
     let coarsest : c.args.self.now.grain ≡ 16 = omega (arith, c.if-self-ne-COARSEST.false) in
     let lane : IsLane 16 c.args.self.now.fine k there = rw coarsest at (columns.fine k m) in
     let inside = c.bounds-bounds.ensures k there (omega (arith, m, columns.most)) lane in
-    columns.reach (distance here there)
+    columns.reach (squared_distance here there)
     (rw coarsest (c.near_bounds.ensures t here there (omega (arith, l, c.requires)) none (c.new.ensures t l) inside))

@@ -1,5 +1,5 @@
 use Rattle.std.proofs.Common.{◌≡◌, ◌+◌, refl, sym, ap, ◌∙◌, arith}
-use Rattle.lj_wire.specs.declared.limits.TheConstants.{MAX_ITEMS}
+use Rattle.lj_wire.specs.declared.line_limits.TheConstants.{MAX_ITEMS}
 use Rattle.lj_wire.specs.declared.reader.phase.Phase.TheVariants.{Open}
 use Rattle.lj_wire.proofs.Wholes.{enough}
 use Rattle.lj_wire.proofs.reader.LineReader.next_in.Goals as goal

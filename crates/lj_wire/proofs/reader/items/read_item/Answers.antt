@@ -2,8 +2,8 @@ use Rattle.std.proofs.Common.{◌≡◌, ◌≤◌, length, take, Some, None, if
 use Rattle.std.proofs.lemmas.Result.{IfOk-weaker, IfErr-weaker}
 use Rattle.lj_wire.specs.declared.reader.buffer.TheConstants.{MAX_HELD_BYTES}
 use Rattle.lj_wire.specs.declared.reader.source_input.Front.TheVariants as front
-use Rattle.lj_wire.specs.declared.reader.source_input.Passed.TheVariants as passed
-use Rattle.lj_wire.specs.Steps.{Finds, SearchesFor, Passes}
+use Rattle.lj_wire.specs.declared.reader.source_input.SkippedLine.TheVariants as skipped
+use Rattle.lj_wire.specs.Steps.{Finds, SearchesFor, Skips}
 use Rattle.lj_wire.proofs.Wholes.{LineTaken, line_taken, goes_onward, finished, open_body, long_line, too_long}
 use Rattle.lj_wire.proofs.reader.items.read_item.Given.{Over}
 use Rattle.lj_wire.proofs.reader.items.read_item.Goals as goal
@@ -44,16 +44,16 @@ pub returns-in-Line-2-clause-item : goal.returns-in-Line-2-clause-item
 returns-in-Line-2-clause-item g c =
     let mid = c.find_line.new.self in
     let found : Finds c.args.input.now front.Long mid = rw c.in-Long.is at c.in_ok-count.ensures.found in
-    let passes : Passes mid passed.Line c.pass_line.new.self =
-    rw c.in-Line-2.is at c.in_ok-pass_line-in-Long.ensures.passed in
+    let passes : Skips mid skipped.Line c.skip_line.new.self =
+    rw c.in-Line-2.is at c.in_ok-skip_line-in-Long.ensures.skipped in
     let searched : SearchesFor c.args.input.now front.Long mid = rw c.in-Long.is at c.in_ok-count.ensures.searched in
-    long_line c.args.input.now mid c.pass_line.new.self found.0 searched passes
+    long_line c.args.input.now mid c.skip_line.new.self found.0 searched passes
 
 pub returns-in-Long-2-clause-item : goal.returns-in-Long-2-clause-item
 returns-in-Long-2-clause-item g c =
     let mid = c.find_line.new.self in
     let found : Finds c.args.input.now front.Long mid = rw c.in-Long.is at c.in_ok-count.ensures.found in
-    let passes : Passes mid passed.Long c.pass_line.new.self =
-    rw c.in-Long-2.is at c.in_ok-pass_line-in-Long.ensures.passed in
+    let passes : Skips mid skipped.Long c.skip_line.new.self =
+    rw c.in-Long-2.is at c.in_ok-skip_line-in-Long.ensures.skipped in
     let searched : SearchesFor c.args.input.now front.Long mid = rw c.in-Long.is at c.in_ok-count.ensures.searched in
-    too_long c.args.input.now mid c.pass_line.new.self found.0 searched found.1.bounded passes
+    too_long c.args.input.now mid c.skip_line.new.self found.0 searched found.1.bounded passes

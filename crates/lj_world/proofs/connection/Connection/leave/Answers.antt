@@ -1,5 +1,5 @@
 use Rattle.std.proofs.Common.{◌≡◌, sym, ap, ◌∙◌, subst, None, IsSomeAnd, slice_get}
-use Rattle.lj_session.specs.UserState.{UserState, state_at_rest}
+use Rattle.lj_session.specs.UserState.{UserState, with_steps_restarted}
 use Rattle.lj_session.specs.Owner.{Owner}
 use Rattle.lj_access.specs.Rows.{Ticket, HasEntered, with_row_changed, with_home}
 use Rattle.lj_world.specs.Machine.{inside}
@@ -24,12 +24,12 @@ returns c =
     subst P (sym ticket) (has_entered connection c.args.directory.now c.in-Inside.owner owns row) in
     let home = at_ok c.leave-refused.result _ (c.leave-refused.ensures.entered.1 entered) c.leave-refused.ensures.home in
     let owner : c.in-Inside-replace.owner ≡ c.in-Inside.owner = cc in
-    let state : c.into_state.result ≡ state_at_rest c.in-Inside.owner.state =
-    c.into_state.ensures.state ∙ ap (λ (o : Owner). state_at_rest o.state) owner in
+    let state : c.into_state.result ≡ with_steps_restarted c.in-Inside.owner.state =
+    c.into_state.ensures.state ∙ ap (λ (o : Owner). with_steps_restarted o.state) owner in
     let Q : Ticket → UserState → Type 0 =
     λ t s. c.leave-refused.new.self ≡ with_row_changed t.user (with_home s) c.args.directory.now in
-    let now : Q (record { user = c.self.inside.user; number = c.self.inside.number }) (state_at_rest c.in-Inside.owner.state) =
-    subst (λ t. Q t (state_at_rest c.in-Inside.owner.state)) ticket (subst (Q c.in-Some.ticket) state home) in
+    let now : Q (record { user = c.self.inside.user; number = c.self.inside.number }) (with_steps_restarted c.in-Inside.owner.state) =
+    subst (λ t. Q t (with_steps_restarted c.in-Inside.owner.state)) ticket (subst (Q c.in-Some.ticket) state home) in
     rw (← c.self.view_is, now, c.replace.ensures.after)
     (leaves connection c.args.directory.now c.args.book.now c.withdraw.new.self c.in-Inside.owner owns idle
     (subst IsDone (sym c.self.view_is) (c.is_done.ensures.0 c.if-not-is_done.false)) c.withdraw.ensures)

@@ -1,5 +1,5 @@
 use Rattle.std.proofs.Common.{◌≡◌, List, None, arith, refl, subst, sym, ◌∙◌}
-use Rattle.lj_access.specs.Rows.{Row}
+use Rattle.lj_access.specs.Rows.{UserRow}
 use Rattle.lj_world.specs.contracts.machine.Machine.{the_view}
 use Rattle.lj_world.specs.declared.event.Event.TheVariants.{Hello}
 use Rattle.lj_world.specs.Machine.{IsConnection}
@@ -58,6 +58,6 @@ returns-in_default c =
     let h = c.in_default.ensures in
     let s = the_view c.self.inside in
     rw (← c.self.view_is)
-    (subst (λ (rows : List Row). Step s (Hello c.args.id c.args.name.now c.args.token.now) None (record s { rows = rows })) (sym h.unchanged)
+    (subst (λ (rows : List UserRow). Step s (Hello c.args.id c.args.name.now c.args.token.now) None (record s { rows = rows })) (sym h.unchanged)
     (denied s c.args.id c.args.name.now c.args.token.now
     (λ some. let k = h.granted.1 (rw (c.as_bytes.ensures.value, c.as_bytes-2.ensures) some) in cc)))

@@ -1,0 +1,162 @@
+//! Tasks that are out of a book in their boxes.
+ghost use Rattle.std.specs.Prelude.{◌≡◌, ℕ, Bool, is_some, true, false};
+ghost use Rattle.lj_book.specs.Book.{user_of};
+ghost use Rattle.lj_book.specs.Boxes.{slip_for};
+
+use crate::book_entry::Keeps;
+use crate::task_box::{DoneBox, TaskBox};
+use lj_table::Table;
+use lj_tile::{DoneRef, Task};
+use std::marker::Model;
+
+/// An open task in its box, with the number of its post. The user is stored beside the box, so that a take under a lock does not
+/// read the box, whose cache lines another processor has written.
+#[derive(Drop)]
+pub(crate) struct Numbered {
+    pub(crate) number: u64,
+    user: u8,
+    pub(crate) task: TaskBox,
+    ghost whose: { user ≡ user_of task },
+}
+
+impl Model for Numbered {
+    ghost use Rattle.lj_book.specs.Boxes.{Numbered};
+
+    ghost Value = { Numbered };
+
+    ghost view = { λ n. record { number = n.number; work = n.task } };
+}
+
+impl Numbered {
+    /// Returns a task in its box as posted under this number.
+    pub(crate) fn new(number: u64, task: TaskBox) -> Numbered
+        ensures { result ≡ record { number = number; work = task } }
+    {
+        let user = task.task().name().label.user;
+        Numbered { number, user, task }
+    }
+
+    /// Returns what the book stores for the task while its box is out.
+    pub(crate) fn slip(&self) -> Slip
+        ensures { result ≡ slip_for self.now }
+    {
+        Slip {
+            number: self.number,
+            user: self.user,
+        }
+    }
+}
+
+impl Keeps for Numbered {
+    ghost whose = { λ n. user_of n.work };
+
+    ghost boxed = { λ n. true };
+
+    fn user(&self) -> u8 {
+        self.user
+    }
+
+    fn into_box(self) -> Option<TaskBox> {
+        Some(self.task)
+    }
+}
+
+/// What the book stores for a task while its box is out: the number of its post, and its user.
+#[derive(Drop)]
+pub(crate) struct Slip {
+    pub(crate) number: u64,
+    pub(crate) user: u8,
+}
+
+impl Model for Slip {
+    ghost use Rattle.lj_book.specs.Boxes.{Slip};
+
+    ghost Value = { Slip };
+
+    ghost view = { λ s. record { number = s.number; user = s.user } };
+}
+
+impl Keeps for Slip {
+    ghost whose = { λ s. s.user };
+
+    ghost boxed = { λ s. false };
+
+    fn user(&self) -> u8 {
+        self.user
+    }
+
+    fn into_box(self) -> Option<TaskBox> {
+        None
+    }
+}
+
+/// A task that is out in its box, with its key and the number of its post. Only a book makes one, and nothing changes
+/// its task.
+#[derive(Drop)]
+pub struct LentTask {
+    pub(crate) key: usize,
+    pub(crate) number: u64,
+    pub(crate) task: TaskBox,
+}
+
+impl Model for LentTask {
+    ghost use Rattle.lj_book.specs.Boxes.{LentTask};
+
+    ghost Value = { LentTask };
+
+    ghost view = { λ l. record { key = l.key; number = l.number; work = l.task } };
+}
+
+impl LentTask {
+    /// Returns its key.
+    pub fn key(&self) -> usize
+        ensures { result ≡ self.now.key }
+    {
+        self.key
+    }
+
+    /// Returns the task.
+    pub fn task(&self) -> &Task
+        ensures { result.now ≡ self.now.work }
+    {
+        self.task.task()
+    }
+
+    /// Computes the task, in its box.
+    ///
+    /// Promise: the result is of that very task, under that key and number.
+    pub fn compute(self, table: &Table) -> LentDone
+        ensures { result ≡ self }
+    {
+        LentDone {
+            key: self.key,
+            number: self.number,
+            done: self.task.compute(table),
+        }
+    }
+}
+
+/// The result of a task that is out, in its box.
+#[derive(Drop)]
+pub struct LentDone {
+    pub(crate) key: usize,
+    pub(crate) number: u64,
+    pub(crate) done: DoneBox,
+}
+
+impl Model for LentDone {
+    ghost use Rattle.lj_book.specs.Boxes.{LentTask};
+
+    ghost Value = { LentTask };
+
+    ghost view = { λ l. record { key = l.key; number = l.number; work = l.done } };
+}
+
+impl LentDone {
+    /// Returns the result.
+    pub fn done(&self) -> DoneRef<'_>
+        ensures { result ≡ self.now.work }
+    {
+        self.done.done()
+    }
+}

@@ -1,0 +1,143 @@
+//! Boxes: each holds a task and its sums, so that only the box moves.
+ghost use Rattle.std.specs.Prelude.{◌≡◌, ◌+◌, ◌≤◌, ◌<◌, ℕ, Bool, is_some, vec_len, IfOk};
+ghost use Rattle.std.specs.Vec.{vec_capacity};
+
+use lj_table::Table;
+use lj_tile::{Done, DoneRef, Sums, Task, compute_sums};
+use std::alloc::{AllocError, Global};
+use std::marker::Model;
+
+/// A task and its sums. A worker reads the task and writes the sums; the connection that wrote the task reads it again
+/// in place.
+#[derive(Drop)]
+struct BoxContents {
+    task: Task,
+    sums: Sums,
+}
+
+/// A task in a box, with memory for its sums.
+#[derive(Drop)]
+pub struct TaskBox {
+    contents: Box<BoxContents>,
+}
+
+impl Model for TaskBox {
+    ghost use Rattle.lj_tile.specs.Task.{Task};
+
+    ghost Value = { Task };
+
+    ghost view = { λ b. b.contents.value.task };
+}
+
+impl TaskBox {
+    /// Makes a box of a task of one atom, to be overwritten.
+    ///
+    /// # Errors
+    /// Out of memory.
+    pub fn new(alloc: Global) -> Result<TaskBox, AllocError> {
+        let contents = BoxContents {
+            task: Task::blank(),
+            sums: Sums::blank(),
+        };
+        Ok(TaskBox {
+            contents: Box::new(alloc, contents)?,
+        })
+    }
+
+    /// Returns the task.
+    pub fn task(&self) -> &Task
+        ensures { result.now ≡ self.now }
+    {
+        &self.contents.task
+    }
+
+    /// Makes its task equal to another.
+    pub fn copy_from(&mut self, task: &Task)
+        ensures { self.new ≡ task.now }
+    {
+        self.contents.task.copy_from(task);
+    }
+
+    /// Computes the task, in its box.
+    pub fn compute(self, table: &Table) -> DoneBox
+        ensures { result ≡ self }
+    {
+        let mut contents = self.contents;
+        let BoxContents { task, sums } = contents.as_mut();
+        compute_sums(task, table, sums);
+        DoneBox { contents }
+    }
+
+    /// Copies a result to this box.
+    pub(crate) fn filled(self, done: &Done) -> DoneBox
+        ensures { result ≡ done.now }
+    {
+        let mut contents = self.contents;
+        let BoxContents { task, sums } = contents.as_mut();
+        done.by_ref().copy_to(task, sums);
+        DoneBox { contents }
+    }
+}
+
+/// The result of a task, in the box of the task.
+#[derive(Drop)]
+pub struct DoneBox {
+    contents: Box<BoxContents>,
+}
+
+impl Model for DoneBox {
+    ghost use Rattle.lj_tile.specs.Task.{Task};
+
+    ghost Value = { Task };
+
+    ghost view = { λ b. b.contents.value.task };
+
+    ghost use Rattle.lj_tile.specs.Results.{AreSums};
+
+    ghost invariant = { λ b. AreSums b.contents.value.task b.contents.value.sums };
+}
+
+impl DoneBox {
+    /// Makes a box of the result of a task of one atom, to be overwritten.
+    ///
+    /// # Errors
+    /// Out of memory.
+    pub fn new(alloc: Global) -> Result<DoneBox, AllocError> {
+        Ok(TaskBox::new(alloc)?.filled(&Done::blank()))
+    }
+
+    /// Returns the result.
+    pub fn done(&self) -> DoneRef<'_>
+        ensures { result ≡ self.now }
+    {
+        DoneRef::new(&self.contents.task, &self.contents.sums)
+    }
+
+    /// Returns the box, for another task.
+    pub fn into_task(self) -> TaskBox {
+        TaskBox {
+            contents: self.contents,
+        }
+    }
+}
+
+/// Makes `count` boxes.
+pub(crate) fn boxes(alloc: Global, count: usize) -> Result<Vec<TaskBox>, AllocError>
+    ensures count { IfOk result (λ made. vec_len made ≡ count) }
+    ensures places { IfOk result (λ made. count ≤ vec_capacity made) }
+{
+    let mut made = Vec::with_capacity(alloc, count)?;
+    for _ in 0..count {
+        made.push_reserved(TaskBox::new(alloc)?);
+    }
+    Ok(made)
+}
+
+/// Takes a spare box.
+pub(crate) fn spare_box(spare: &mut Vec<TaskBox>) -> TaskBox
+    requires { 0 < vec_len spare.old }
+    ensures len { vec_len spare.new + 1 ≡ vec_len spare.old }
+    ensures capacity { vec_capacity spare.new ≡ vec_capacity spare.old }
+{
+    spare.pop().unwrap()
+}

@@ -1,5 +1,0 @@
-use Rattle.lj_session.proofs.Waiting.{taken_user}
-use Rattle.lj_session.proofs.laws.accept_keeps_user.Goals as goal
-
-pub returns : goal.returns
-returns c = taken_user

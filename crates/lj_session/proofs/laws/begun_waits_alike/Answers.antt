@@ -1,5 +1,0 @@
-use Rattle.lj_session.proofs.Waiting.{begins_alike}
-use Rattle.lj_session.proofs.laws.begun_waits_alike.Goals as goal
-
-pub returns : goal.returns
-returns c = begins_alike

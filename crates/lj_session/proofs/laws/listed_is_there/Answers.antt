@@ -1,5 +1,0 @@
-use Rattle.lj_session.proofs.Listing.{listed}
-use Rattle.lj_session.proofs.laws.listed_is_there.Goals as goal
-
-pub returns : goal.returns
-returns c = listed

@@ -1,5 +1,0 @@
-use Rattle.lj_session.proofs.Waiting.{posted_user}
-use Rattle.lj_session.proofs.laws.posted_keeps_user.Goals as goal
-
-pub returns : goal.returns
-returns c = posted_user

@@ -1,8 +1,0 @@
-use Rattle.std.proofs.Common.{◌≡◌, refl, ap, ◌∙◌, subst}
-use Rattle.lj_session.specs.UserState.{HeldSession, next_tile}
-use Rattle.lj_session.proofs.session.HeldSession.next_tile.Goals as goal
-
-pub returns-clause-value : goal.returns-clause-value
-returns-clause-value c =
-    let same = subst (λ (h : HeldSession). record h { passed = c.self.inside.passed } ≡ h) c.self.view_is refl in
-    c.next_tile_from.ensures.value ∙ ap next_tile same

@@ -1,0 +1,321 @@
+//! A session in the code.
+ghost use Rattle.std.specs.Prelude.{◌≡◌, ◌↔◌, ◌<◌, ◌+◌, ◌^◌, [], length, slice_get, Some, None, IsOk, IsSome};
+ghost use Rattle.std.specs.Prelude.{IsErrOf};
+ghost use Rattle.std.specs.Prelude.{IfNone, IfSome, OnOk, OnErr, ◌≤◌, unsigned_abs, IfOk, true, false, is_some};
+ghost use Rattle.std.specs.Prelude.{nat_le, pos, ◌&&◌, ◌+ℤ◌, ◌*ℤ◌};
+ghost use Rattle.lj_tile.specs.declared.task_name.Kind.TheVariants.{Force};
+ghost use Rattle.lj_branch.specs.declared.branch_faults.SaveFault.TheVariants.{Exists};
+ghost use Rattle.lj_step.specs.Motion as motion;
+ghost use Rattle.lj_step.specs.OpenSteps as steps;
+ghost use Rattle.lj_branch.specs.Named.{value_named, with_value, without_value};
+ghost use Rattle.lj_session.specs.Users.{atoms_of};
+ghost use Rattle.lj_session.specs.Answers.{can_advance};
+ghost use Rattle.lj_session.specs.UserState as states;
+ghost use Rattle.lj_session.specs.UserState.{settled_session, with_simulation, with_saved, IsWhole};
+
+use lj_base::{Label, Name};
+use lj_branch::{Branches, NoBranch, SaveFault};
+use lj_step::{Displacement, MAX_STEP, NotAwaited, Sim};
+use lj_tile::{DoneRef, Kind, Task};
+use lj_xyz::Symbol;
+use std::marker::Model;
+
+/// The most steps of one ADVANCE or START.
+const MAX_STEPS: u64 = 1_000_000;
+
+/// The symbols of some atoms, their simulation, its saved copies, and the number of pending steps.
+#[derive(Drop)]
+pub(crate) struct LiveSession {
+    symbols: Vec<Symbol>,
+    sim: Sim,
+    passed: usize,
+    branches: Branches,
+    owed: u64,
+}
+
+impl Model for LiveSession {
+    ghost use Rattle.lj_session.specs.UserState.{LiveSession};
+
+    ghost Value = { LiveSession };
+
+    ghost use Rattle.lj_session.specs.Kept.{session_of_kept, IsHeld};
+
+    ghost view = { session_of_kept };
+
+    ghost invariant = { IsHeld };
+}
+
+impl LiveSession {
+    /// Makes a session without saved simulations and pending steps.
+    pub(crate) fn new(symbols: Vec<Symbol>, sim: Sim, branches: Branches) -> LiveSession
+        requires symbols { length symbols.items ≡ length sim.sim.cur }
+        requires branches { branches ≡ [] }
+        ensures { result ≡ record { symbols = symbols.items; live = sim; passed = 0; saved = []; owed = 0 } }
+    {
+        let _most = sim.step();
+        LiveSession {
+            symbols,
+            sim,
+            passed: 0,
+            branches,
+            owed: 0,
+        }
+    }
+
+    /// Returns the simulation.
+    pub(crate) fn sim(&self) -> &Sim
+        ensures { result.now ≡ self.now.live }
+    {
+        &self.sim
+    }
+
+    /// Returns the saved simulations.
+    pub(crate) fn branches(&self) -> &Branches
+        ensures { result.now ≡ self.now.saved }
+    {
+        &self.branches
+    }
+
+    /// Returns the symbol of an atom.
+    pub(crate) fn symbol(&self, atom: usize) -> &Symbol
+        requires { atom < length self.now.live.sim.cur }
+        ensures { slice_get self.now.symbols atom ≡ Some result.now }
+    {
+        &self.symbols[atom]
+    }
+
+    /// Returns the number of pending steps.
+    pub(crate) fn owed(&self) -> u64
+        ensures { result ≡ self.now.owed }
+    {
+        self.owed
+    }
+
+    /// Returns the step number after all pending steps.
+    #[tactic(auto, using(crate::proofs::Owed::target_is))]
+    pub(crate) fn target(&self) -> i64
+        ensures value { result ≡ (settled_session self.now).sim.step }
+        ensures most { unsigned_abs result ≤ MAX_STEP }
+    {
+        self.sim.step() + self.sim.dir() * self.owed as i64
+    }
+
+    /// Returns whether it may advance by `steps` after the pending steps.
+    #[tactic(auto, using(crate::proofs::Owed::dir_is))]
+    pub(crate) fn can_advance(&self, steps: u64) -> bool
+        ensures { result ≡ can_advance (settled_session self.now) steps }
+    {
+        leads_in_range(self.target(), self.sim.dir(), steps)
+    }
+
+    /// Adds pending steps. If none were pending, the first of them is open then.
+    pub(crate) fn owe(&mut self, steps: u64)
+        requires { can_advance (settled_session self.old) steps ≡ true }
+        ensures { self.new ≡ states.with_more_owed steps self.old }
+    {
+        let _dir = self.sim.dir();
+        let _step = self.sim.step();
+        let first = steps > 0 && self.owed == 0;
+        self.owed += steps;
+        if first {
+            self.sim.open_step(Kind::Force);
+            self.passed = 0;
+        }
+    }
+
+    /// Reverses the motion. No step is open then.
+    pub(crate) fn reverse(&mut self)
+        requires { self.old.owed ≡ 0 }
+        ensures value { self.new ≡ with_simulation self.old (motion.reversal self.old.live.sim) }
+        ensures count { length self.new.live.sim.cur ≡ length self.old.live.sim.cur }
+    {
+        self.sim.reverse();
+        let _most = self.sim.step();
+    }
+
+    /// Adds a displacement per step to an atom. No step is open then.
+    pub(crate) fn tug(&mut self, atom: usize, by: Displacement)
+        requires { atom < length self.old.live.sim.cur }
+        ensures { let sim = motion.with_tug atom
+            (record { x = by.x; y = by.y; z = by.z }) self.old.live.sim in
+            self.new ≡ with_simulation self.old sim }
+    {
+        self.sim.tug(atom, by);
+    }
+
+    /// Saves a copy of the simulation under a new name.
+    ///
+    /// # Errors
+    /// `Exists` if the name is taken, else `Memory`. Nothing has changed then.
+    pub(crate) fn save(&mut self, branch: Name) -> Result<(), SaveFault>
+        ensures exists { IsErrOf result Exists ↔ IsSome (value_named branch self.old.saved) }
+        ensures saved { OnOk result
+            (self.new ≡ with_saved self.old (with_value branch self.old.live.sim self.old.saved)) }
+        ensures unchanged { OnErr result (self.new ≡ self.old) }
+    {
+        self.branches.save(branch, &self.sim)
+    }
+
+    /// Restores the simulation saved under a name, which stays saved. No step is open then.
+    ///
+    /// # Errors
+    /// `NoBranch` if nothing is saved under it. Nothing has changed then.
+    pub(crate) fn restore(&mut self, branch: &Name) -> Result<(), NoBranch>
+        requires { self.old.owed ≡ 0 }
+        ensures found { IsOk result ↔ IsSome (value_named branch.now self.old.saved) }
+        ensures restored { let saved = value_named branch.now self.old.saved in
+            OnOk result (IfSome saved (λ sim. self.new ≡ with_simulation self.old sim)) }
+        ensures count { length self.new.live.sim.cur ≡ length self.old.live.sim.cur }
+        ensures unchanged { OnErr result (self.new ≡ self.old) }
+    {
+        let restored = self.branches.restore_into(branch, &mut self.sim);
+        let _most = self.sim.step();
+        restored
+    }
+
+    /// Removes the simulation saved under a name.
+    ///
+    /// # Errors
+    /// `NoBranch` if nothing is saved under it. Nothing has changed then.
+    pub(crate) fn forget(&mut self, branch: &Name) -> Result<(), NoBranch>
+        ensures found { IsOk result ↔ IsSome (value_named branch.now self.old.saved) }
+        ensures taken { OnOk result
+            (self.new ≡ with_saved self.old (without_value branch.now self.old.saved)) }
+        ensures unchanged { OnErr result (self.new ≡ self.old) }
+    {
+        self.branches.forget(branch)
+    }
+
+    /// Opens a step of a kind. No tile of it is posted or in.
+    pub(crate) fn open_step(&mut self, kind: Kind)
+        ensures { self.new ≡ states.with_step kind self.old }
+    {
+        self.sim.open_step(kind);
+        self.passed = 0;
+    }
+
+    /// Closes the open step. The frames stay.
+    pub(crate) fn close_step(&mut self)
+        ensures { self.new ≡ states.with_no_step self.old }
+    {
+        self.sim.close_step();
+        self.passed = 0;
+    }
+
+    /// Restarts its step if one is pending, so that no tile is posted or in; else no step is open then.
+    pub(crate) fn restart_step(&mut self)
+        ensures { self.new ≡ states.with_step_restarted self.old }
+    {
+        if self.owed > 0 {
+            self.open_step(Kind::Force);
+        } else {
+            self.close_step();
+        }
+    }
+
+    /// Returns how many tiles of the open step's cover were posted, or skipped because they were in.
+    pub(crate) fn passed(&self) -> usize
+        ensures { result ≡ self.now.passed }
+    {
+        self.passed
+    }
+
+    /// Returns the position in the cover of the first tile that is neither posted nor in.
+    pub(crate) fn next_tile(&self) -> Option<usize>
+        ensures value { result ≡ states.next_tile self.now }
+        ensures below { IfSome result (λ i. i < steps.tiles_of self.now.live) }
+    {
+        self.next_tile_from(self.passed)
+    }
+
+    /// Returns the position in the cover of the first awaited tile from `from` on.
+    fn next_tile_from(&self, from: usize) -> Option<usize>
+        ensures value { result ≡ states.next_tile (record self.now { passed = from }) }
+        ensures below { IfSome result (λ i. i < steps.tiles_of self.now.live) }
+    {
+        for i in from..self.sim.tiles() {
+            if self.sim.is_tile_awaited(i) {
+                return Some(i);
+            }
+        }
+        None
+    }
+
+    /// Writes the task of the first awaited tile from `from` on to `out`. Returns the position after it.
+    pub(crate) fn task_from_in(&self, from: usize, label: &Label, out: &mut Task) -> Option<usize>
+        ensures task { let held = record self.now { passed = from } in
+            IfSome result (λ _. states.next_of label.now (Some held) ≡ Some out.new) }
+        ensures passes { let held = record self.now { passed = from } in
+            IfSome result (λ next. states.with_posted held ≡ record held { passed = next }) }
+        ensures unchanged { IfNone result (out.new ≡ out.old) }
+    {
+        let i = self.next_tile_from(from)?;
+        let _tiles = self.sim.tiles();
+        if self.sim.task_in(i, label, out) {
+            Some(i + 1)
+        } else {
+            None
+        }
+    }
+
+    /// Writes the task of the first tile that is neither posted nor in, the i-th of the cover, to `out`.
+    pub(crate) fn task_in(&self, i: usize, label: &Label, out: &mut Task) -> bool
+        requires { states.next_tile self.now ≡ Some i }
+        ensures some { result ≡ true → states.next_of label.now (Some self.now) ≡ Some out.new }
+        ensures none { result ≡ false → states.next_of label.now (Some self.now) ≡ None }
+        ensures unchanged { result ≡ false → out.new ≡ out.old }
+    {
+        self.sim.task_in(i, label, out)
+    }
+
+    /// Notes the first tile that is neither posted nor in, the i-th of the cover, as posted.
+    pub(crate) fn post(&mut self, i: usize)
+        requires next { states.next_tile self.old ≡ Some i }
+        requires below { i < steps.tiles_of self.old.live }
+        ensures { self.new ≡ states.with_posted self.old }
+    {
+        let _tiles = self.sim.tiles();
+        self.passed = i + 1;
+    }
+
+    /// Accepts the result of a tile that the open step awaits. Any other changes nothing.
+    pub(crate) fn take_in(&mut self, label: &Label, done: &DoneRef<'_>) -> Result<(), NotAwaited>
+        ensures accepted { IsOk result ↔ steps.IsAwaitedTask self.old.live label.now done.now }
+        ensures taken { OnOk result
+            (self.new ≡ states.with_tile_in (steps.tile_number_of done.now) self.old) }
+        ensures unchanged { OnErr result (self.new ≡ self.old) }
+    {
+        self.sim.take_in(label, done)
+    }
+
+    /// Turns a whole force step: the motion advances by one step, one fewer is pending, and the next one is open if
+    /// there is one.
+    pub(crate) fn finish_step(&mut self)
+        requires whole { IsWhole Force self.old }
+        requires owed { 0 < self.old.owed }
+        ensures { self.new ≡ states.with_step_finished self.old }
+    {
+        let _dir = self.sim.dir();
+        let _step = self.sim.step();
+        self.sim.turn();
+        self.owed -= 1;
+        if self.owed > 0 {
+            self.sim.open_step(Kind::Force);
+            self.passed = 0;
+        }
+    }
+}
+
+/// Returns whether a million steps or fewer lead from a step number in a direction to one in range.
+fn leads_in_range(step: i64, dir: i64, steps: u64) -> bool
+    requires here { unsigned_abs step ≤ MAX_STEP }
+    requires dir { unsigned_abs dir ≡ 1 }
+    ensures { result ≡ (nat_le steps MAX_STEPS
+        && nat_le (unsigned_abs (step +ℤ dir *ℤ pos steps)) MAX_STEP) }
+{
+    if steps > MAX_STEPS {
+        return false;
+    }
+    let target = step + dir * steps as i64;
+    target.unsigned_abs() <= MAX_STEP
+}

@@ -1,5 +1,0 @@
-use Rattle.lj_step.proofs.Undone.{undone}
-use Rattle.lj_step.proofs.laws.steps_are_undone.Goals as goal
-
-pub returns : goal.returns
-returns c = undone

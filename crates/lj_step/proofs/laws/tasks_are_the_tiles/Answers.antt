@@ -1,6 +1,0 @@
-use Rattle.lj_tile.specs.declared.names.Kind.TheVariants.{Force, Energy}
-use Rattle.lj_step.proofs.TileValues.{tile_value}
-use Rattle.lj_step.proofs.laws.tasks_are_the_tiles.Goals as goal
-
-pub returns : goal.returns
-returns c = record { force = tile_value Force; energy = tile_value Energy }

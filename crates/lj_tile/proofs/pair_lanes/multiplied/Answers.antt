@@ -1,0 +1,18 @@
+use Rattle.std.proofs.Common.{slice_index}
+use Rattle.lj_tile.proofs.LanePushes.{by_halves}
+use Rattle.lj_tile.proofs.pair_lanes.multiplied.Goals as goal
+
+pub returns-clause-value : goal.returns-clause-value
+returns-clause-value c k l =
+    rw (
+      c.sums.ensures k l,
+      c.products.ensures k l,
+      c.raised.ensures k l,
+      c.products-2.ensures k l,
+      c.low.ensures k l,
+      c.high.ensures k l,
+      c.low-step_factor.ensures k l,
+      c.splat.ensures k l,
+      c.from.ensures,
+    )
+    (by_halves (slice_index c.args.sizes k) c.args.step_factor (c.requires.small k l) c.requires.few)

@@ -1,0 +1,53 @@
+use Rattle.std.proofs.Common.{◌≡◌, [], ◌∷◌, ◌++◌, ap, ◌∙◌, subst}
+use Rattle.lj_pool.specs.declared.pool.TheConstants.{MAX_STRAYS}
+use Rattle.lj_pool.specs.Counting.{StraysRise}
+use Rattle.lj_pool.specs.Seen.{Seen}
+use Rattle.lj_pool.specs.Served.{Serves}
+use Rattle.lj_visit.specs.Events.{Happens}
+use Rattle.lj_visit.specs.Events.Event.{opened, withdrawn}
+use Rattle.lj_visit.specs.Visits.{events_closing, events_leaving}
+use Rattle.lj_visit.proofs.Happening.{Happens-more}
+use Rattle.lj_visit.proofs.visiting.serve_user.Goals as goal
+
+pub returns : goal.returns
+returns g c =
+    let served = c.serve_lines-state.result.1 in
+    let next = c.serve_lines-state.result.0 in
+    let ticket = c.args.lent.ticket in
+    let seen = g.B.End.Pool.seen c.serve_lines-state.new.pool in
+    let others = g.B.End.Pool.for_others in
+    let was = g.B.Backend.events c.args.backend.now in
+    let made = g.B.Backend.events c.open-end.new.self in
+    let dropped = g.B.Backend.events c.finish.new.self in
+    let home = g.B.Backend.events c.bring_home.new.backend in
+    let is = g.B.Backend.events c.close_after.new.backend in
+    let user : c.open-end.result.user ≡ ticket.user = c.open-end.ensures.user ∙ c.user.ensures in
+    let none : others c.serve_lines-state.new.pool c.open-end.result.user ≡ 0 =
+    c.serve_lines-state.ensures.own ∙ ap (others c.open-end.result.pool) c.open-end.ensures.user ∙ c.open-end.ensures.own in
+    let opens : Happens was made (opened ticket.user ∷ []) =
+    subst (λ n. Happens was made (opened n ∷ [])) c.user.ensures c.open-end.ensures.opened in
+    let drops : Happens made dropped (withdrawn ticket.user seen 0 ∷ []) =
+    subst (λ n. Happens made dropped (withdrawn n seen 0 ∷ [])) user
+    (subst (λ n. Happens made dropped (withdrawn c.open-end.result.user seen n ∷ [])) none c.finish.ensures) in
+    let leaving = events_leaving ticket next in
+    let closing = events_closing served in
+    let ends = Happens-more dropped home is leaving closing c.bring_home.ensures c.close_after.ensures in
+    record {
+      seen = seen;
+      next = next;
+      serves =
+          subst (λ (s : Seen). Serves served c.args.lent.state c.args.lines.now.left c.serve_lines-state.new.lines.left
+          (g.W.Sink.contents c.args.writer.now) (g.W.Sink.contents c.serve_lines-state.new.writer) s seen next)
+          c.open-end.ensures.seen c.serve_lines-state.ensures.dialogue;
+      at_end = c.serve_lines-state.ensures.end;
+      read_fault = c.serve_lines-state.ensures.read_fault;
+      write_fault = c.serve_lines-state.ensures.write_fault;
+      pool_closed = c.serve_lines-state.ensures.closed;
+      strays = λ e. subst (λ (s : Seen). StraysRise MAX_STRAYS s seen) c.open-end.ensures.seen (c.serve_lines-state.ensures.strays e);
+      all_read = c.serve_lines-state.ensures.all_read;
+      none_owed = c.serve_lines-state.ensures.none_owed;
+      quota = c.serve_lines-state.ensures.quota;
+      happens =
+          Happens-more was made is (opened ticket.user ∷ []) (withdrawn ticket.user seen 0 ∷ (leaving ++ closing)) opens
+          (Happens-more made dropped is (withdrawn ticket.user seen 0 ∷ []) (leaving ++ closing) drops ends);
+    }

@@ -1,5 +1,0 @@
-use Rattle.lj_wire.proofs.Turns.{told_alike}
-use Rattle.lj_wire.proofs.laws.alike_is_told.Goals as goal
-
-pub returns : goal.returns
-returns c = told_alike

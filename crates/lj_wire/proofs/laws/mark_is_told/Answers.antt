@@ -1,5 +1,0 @@
-use Rattle.lj_wire.proofs.Marks.{marked}
-use Rattle.lj_wire.proofs.laws.mark_is_told.Goals as goal
-
-pub returns : goal.returns
-returns c = marked

@@ -1,5 +1,0 @@
-use Rattle.lj_wire.proofs.Splitting.{splits_once}
-use Rattle.lj_wire.proofs.laws.one_splitting.Goals as goal
-
-pub returns : goal.returns
-returns c = splits_once

@@ -1,5 +1,0 @@
-use Rattle.lj_wire.proofs.Existence.{some_splitting}
-use Rattle.lj_wire.proofs.laws.some_splitting.Goals as goal
-
-pub returns : goal.returns
-returns c = some_splitting

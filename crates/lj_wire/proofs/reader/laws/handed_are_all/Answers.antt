@@ -1,5 +1,0 @@
-use Rattle.lj_wire.proofs.Handed.{are_all}
-use Rattle.lj_wire.proofs.reader.laws.handed_are_all.Goals as goal
-
-pub returns : goal.returns
-returns c = are_all

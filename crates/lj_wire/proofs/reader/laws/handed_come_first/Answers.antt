@@ -1,5 +1,0 @@
-use Rattle.lj_wire.proofs.Handed.{come_first}
-use Rattle.lj_wire.proofs.reader.laws.handed_come_first.Goals as goal
-
-pub returns : goal.returns
-returns c = come_first

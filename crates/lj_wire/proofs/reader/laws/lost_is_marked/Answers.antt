@@ -1,5 +1,0 @@
-use Rattle.lj_wire.proofs.Handed.{lost_answered}
-use Rattle.lj_wire.proofs.reader.laws.lost_is_marked.Goals as goal
-
-pub returns : goal.returns
-returns c = lost_answered

@@ -1,5 +1,0 @@
-use Rattle.lj_world.proofs.AgreeingScripts.{scripts_agree}
-use Rattle.lj_world.proofs.laws.agreeing_scripts_agree_in_texts.Goals as goal
-
-pub returns : goal.returns
-returns c = scripts_agree

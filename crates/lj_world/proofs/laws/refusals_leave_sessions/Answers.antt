@@ -1,5 +1,0 @@
-use Rattle.lj_world.proofs.Refusals.{sessions_left}
-use Rattle.lj_world.proofs.laws.refusals_leave_sessions.Goals as goal
-
-pub returns : goal.returns
-returns c = sessions_left

@@ -1,5 +1,0 @@
-use Rattle.lj_world.proofs.RunReplies.{are_first_texts}
-use Rattle.lj_world.proofs.laws.replies_are_first_texts.Goals as goal
-
-pub returns : goal.returns
-returns c = are_first_texts c.mark_is_told.ensures c.pending_command_laws.ensures

@@ -1,0 +1,73 @@
+//! The laws of runs. Each is the contract of a function that computes nothing.
+ghost use Rattle.lj_world.specs.Laws.{PendingCommandLaws, RepliesAreFirstTexts, AgreeingScriptsAgreeInTexts, Headline};
+ghost use Rattle.lj_world.specs.Laws.{ValueIsThatOfScript, TicketsAreInOrder, OthersChangeNothing, EachListHasARun};
+ghost use Rattle.lj_world.specs.Laws.{RefusalsLeaveSessions};
+
+use lj_session::{accept_keeps_user, begun_waits_alike, posted_keeps_user, restart_keeps_user};
+use lj_wire::{alike_is_told, mark_is_told, waiting_goes_on};
+
+/// Gathers the laws of pending commands: each is answered at its last turn as it would be answered now, and nothing that
+/// is done until then changes the value of the user.
+fn pending_command_laws()
+    ensures { PendingCommandLaws }
+{
+    restart_keeps_user();
+    posted_keeps_user();
+    accept_keeps_user();
+    begun_waits_alike();
+    alike_is_told();
+    waiting_goes_on();
+}
+
+/// Promise: in every run a user's replies are the first texts of its script answered alone, one for each mark.
+pub fn replies_are_first_texts()
+    ensures { RepliesAreFirstTexts }
+{
+    mark_is_told();
+    pending_command_laws();
+}
+
+/// Promise: if two scripts agree, one of their lists of texts is a prefix of the other.
+pub fn agreeing_scripts_agree_in_texts()
+    ensures { AgreeingScriptsAgreeInTexts }
+{}
+
+/// Promise: for every two lists of events in which a user's scripts agree, one list of the replies to this user is a
+/// prefix of the other, and each is a prefix of the replies that this user's commands get when they are answered alone.
+pub fn headline()
+    ensures { Headline }
+{
+    replies_are_first_texts();
+    agreeing_scripts_agree_in_texts();
+}
+
+/// Promise: in every run the value of a user is that of its script so far; a pending command is the script's next item.
+pub fn value_is_that_of_script()
+    ensures { ValueIsThatOfScript }
+{
+    mark_is_told();
+    pending_command_laws();
+}
+
+/// Promise: in every run a user's n-th granted HELLO, counted from 0, gets its ticket n.
+pub fn tickets_are_in_order()
+    ensures { TicketsAreInOrder }
+{
+    pending_command_laws();
+}
+
+/// Promise: an event that is not a user's own changes nothing for that user, and sends it no reply.
+pub fn others_change_nothing()
+    ensures { OthersChangeNothing }
+{}
+
+/// Promise: a refusal replied at a NEXT leaves every session as it was, with its pending steps and its open step. A
+/// refusal replied at a TURN completes the step of its session, and changes nothing else.
+pub fn refusals_leave_sessions()
+    ensures { RefusalsLeaveSessions }
+{}
+
+/// Promise: no list of events is without a run, whatever the state in which it begins.
+pub fn each_list_has_a_run()
+    ensures { EachListHasARun }
+{}

@@ -1,0 +1,16 @@
+//! Laws of reading.
+ghost use Rattle.std.specs.Prelude.{◌≡◌, ℕ, List, Option, Result};
+ghost use Rattle.lj_xyz.specs.declared.xyz_fault.XyzFault.{XyzFault};
+ghost use Rattle.lj_xyz.specs.declared.atom_row.AtomRow.{AtomRow};
+ghost use Rattle.lj_xyz.specs.Frames.{Mode, IsReading};
+ghost use Rattle.lj_xyz.specs.Reading.{reading};
+ghost use Rattle.lj_xyz.specs.Symbols.{SymbolPair};
+
+/// Promise: for each body, species and mode there is one answer, and reading from the first line to the last gives it.
+pub fn one_reading()
+    ensures one { (symbols : Option SymbolPair) (mode : Mode) (lines : List (List ℕ))
+        (a b : Result (List (List AtomRow)) XyzFault) →
+        IsReading symbols mode lines a → IsReading symbols mode lines b → a ≡ b }
+    ensures given { (symbols : Option SymbolPair) (mode : Mode) (lines : List (List ℕ)) →
+        IsReading symbols mode lines (reading symbols mode lines) }
+{}
