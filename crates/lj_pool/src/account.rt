@@ -1,4 +1,4 @@
-//! What an end of a pool is owed, and what it has counted.
+//! The tasks that an end of a pool has in flight, and the results that it has counted.
 ghost use Rattle.std.specs.Prelude.{◌≡◌, ◌<◌, ◌≤◌, ◌+◌, ◌-◌, ◌↔◌, ℕ, Some, cond, length, nat_lt, option_copied, take, slice_get, slice_index_or, true, false, IfErr, IfSome, IfNone, IsTrue, OnErr, OnOk};
 ghost use Rattle.std.specs.List.{Contains, remove};
 ghost use Rattle.lj_pool.specs.declared.pool.NotPosted.TheVariants.{Closed, Full};
@@ -12,7 +12,7 @@ use lj_tile::Task;
 use std::array;
 use std::marker::Model;
 
-/// The tasks that an end is owed, of which it keeps copies, and what it has counted. It takes no memory.
+/// Copies of the tasks that are owed to an end, and its counts of results. It allocates no memory.
 #[derive(Drop)]
 pub struct Account {
     tasks: [Option<Task>; MAX_OWED],
@@ -41,7 +41,7 @@ impl Model for Account {
 }
 
 impl Account {
-    /// Nothing is owed and nothing is counted.
+    /// Returns an account to which nothing is owed and in which nothing is counted.
     pub fn new() -> Account
         ensures { result ≡ nothing_seen }
     {
@@ -55,7 +55,7 @@ impl Account {
         }
     }
 
-    /// Notes that a task was posted.
+    /// Records that a task was posted.
     fn post(&mut self, task: &Task)
         requires { length self.old.owed < MAX_OWED }
         ensures posted { IsPosted task.now self.old self.new }
@@ -66,7 +66,7 @@ impl Account {
         self.owed += 1;
     }
 
-    /// Notes that a task was posted, or why it was not.
+    /// Records that a task was posted, or why it was not.
     pub fn note_post(&mut self, task: &Task, posted: Result<(), NotPosted>)
         requires { length self.old.owed < MAX_OWED }
         ensures posted { OnOk posted (IsPosted task.now self.old self.new) }
@@ -82,7 +82,7 @@ impl Account {
         }
     }
 
-    /// Notes that the first so many of some tasks were posted.
+    /// Records that the first `posted` of these tasks were posted.
     pub fn note_posts(&mut self, tasks: &[Task], posted: usize)
         requires most { posted ≤ length tasks.now }
         requires room { length self.old.owed + length tasks.now ≤ MAX_OWED }
@@ -94,7 +94,7 @@ impl Account {
         }
     }
 
-    /// Counts a result of this task, which is then owed no more if it was.
+    /// Counts a result of this task. A task that was owed is owed no more.
     pub fn count(&mut self, task: &Task)
         ensures handed_out { IsHandedOut task.now self.old self.new }
         ensures closed { self.new.closed ≡ self.old.closed }
@@ -105,7 +105,7 @@ impl Account {
         }
     }
 
-    /// Counts a result of this task as `count` does, but finds it by its name alone.
+    /// Counts a result of this task as `count` does, but finds the task by its name alone.
     pub fn count_by_name(&mut self, task: &Task)
         requires { IsKnownByName self.old.owed task.now }
         ensures handed_out { IsHandedOut task.now self.old self.new }
@@ -117,7 +117,7 @@ impl Account {
         }
     }
 
-    /// Counts a result of the task that stands here, which is then owed no more.
+    /// Counts a result of the task at this position, which is owed no more.
     fn count_owed(&mut self, here: usize)
         requires { here < length self.old.owed }
         ensures owed { self.new.owed ≡ remove self.old.owed here }
@@ -139,7 +139,7 @@ impl Account {
         self.strays = self.strays.saturating_add(1);
     }
 
-    /// Notes that the pool was seen closed.
+    /// Records that the pool is closed.
     pub fn close(&mut self)
         ensures same { SameOwed self.old self.new }
         ensures closed { self.new.closed ≡ true }
@@ -147,7 +147,7 @@ impl Account {
         self.closed = true;
     }
 
-    /// How many tasks are owed.
+    /// Returns the number of tasks that are owed.
     pub fn owed(&self) -> usize
         ensures value { result ≡ length self.now.owed }
         ensures most { result ≤ MAX_OWED }
@@ -155,7 +155,7 @@ impl Account {
         self.owed
     }
 
-    /// Whether no more can be owed.
+    /// Returns whether no more tasks can be owed.
     pub fn is_full(&self) -> bool
         ensures room { result ≡ false → length self.now.owed < MAX_OWED }
         ensures full { result ≡ true ↔ (length self.now.owed ≡ MAX_OWED) }
@@ -163,14 +163,14 @@ impl Account {
         self.owed == MAX_OWED
     }
 
-    /// Whether the pool was seen closed.
+    /// Returns whether the pool was seen closed.
     pub fn is_closed(&self) -> bool
         ensures { result ≡ self.now.closed }
     {
         self.closed
     }
 
-    /// Where the first task stands that is this one.
+    /// Finds the first task that equals this one.
     fn find(&self, task: &Task) -> Option<usize>
         ensures some { IfSome result (IsFirst self.now.owed task.now) }
         ensures none { IfNone result (Contains self.now.owed task.now → ⊥) }
@@ -183,7 +183,7 @@ impl Account {
         None
     }
 
-    /// Where the first task stands that has the name of this one.
+    /// Finds the first task that has the name of this one.
     fn find_named(&self, task: &Task) -> Option<usize>
         ensures some { IfSome result (IsFirstNamed self.now.owed task.now) }
         ensures none { IfNone result (Contains self.now.owed task.now → ⊥) }
@@ -196,7 +196,7 @@ impl Account {
         None
     }
 
-    /// Whether the task that stands here is this one.
+    /// Returns whether the task at this position equals this one.
     fn is_at(&self, here: usize, task: &Task) -> bool
         requires { here < length self.now.owed }
         ensures { IsTrue result ↔ (slice_index_or self.now.owed here task.now ≡ task.now) }
@@ -207,7 +207,7 @@ impl Account {
         }
     }
 
-    /// Whether the task that stands here has the name of this one.
+    /// Returns whether the task at this position has the name of this one.
     fn is_named_at(&self, here: usize, task: &Task) -> bool
         requires { here < length self.now.owed }
         ensures { IsTrue result ↔ ((slice_index_or self.now.owed here task.now).name ≡ task.now.name) }
@@ -218,7 +218,7 @@ impl Account {
         }
     }
 
-    /// The task that stands here.
+    /// Returns the task at this position.
     fn at(&self, here: usize) -> Option<&Task>
         requires { here < length self.now.owed }
         ensures { option_copied result ≡ slice_get self.now.owed here }
@@ -227,7 +227,7 @@ impl Account {
         self.tasks[place].as_ref()
     }
 
-    /// The task that stands here is owed no more.
+    /// Removes the task at this position.
     fn take_off(&mut self, here: usize)
         requires { here < length self.old.owed }
         ensures owed { self.new.owed ≡ remove self.old.owed here }
@@ -241,7 +241,7 @@ impl Account {
     }
 }
 
-/// Keeps a copy of the task, in the room of an older one where there is one.
+/// Stores a copy of the task, in place of an older one if there is one.
 fn keep(kept: &mut Option<Task>, task: &Task)
     ensures { kept.new ≡ Some task.now }
 {
@@ -251,7 +251,7 @@ fn keep(kept: &mut Option<Task>, task: &Task)
     }
 }
 
-/// The places, each once.
+/// Returns all places, each once.
 fn all_places() -> ArrayVec<u8, MAX_OWED>
     ensures once { (place : ℕ) → times place result.items ≡ cond (nat_lt place MAX_OWED) 1 0 }
     ensures all { length result.items ≡ MAX_OWED }

@@ -1,4 +1,4 @@
-//! A pool of no threads: each task is computed by the one who posts it.
+//! A pool without threads: the caller who posts a task computes it.
 ghost use Rattle.std.specs.Prelude.{◌≡◌, ◌↔◌, Some, None, true, false};
 ghost use Rattle.std.specs.Prelude.{IsOk, IsSome, IfErr, OnOk, OnErr};
 ghost use Rattle.lj_pool.specs.Seen.{one_more};
@@ -10,14 +10,14 @@ use lj_table::Table;
 use lj_tile::{Done, DoneRef, Task, compute_in};
 use std::marker::Model;
 
-/// Computes each task as it is posted, in the room of its one result. It takes no memory.
+/// A pool that computes each task as it is posted, in its one slot. It allocates no memory.
 ///
 /// Promise: it is a `Pool`, and is never closed.
 #[derive(Drop)]
 pub struct InlinePool {
     table: Table,
     slot: Done,
-    /// Whether the result in the room was not handed out yet.
+    /// Whether the result in the slot is still owed.
     is_held: bool,
     expected: u64,
 }
@@ -36,7 +36,7 @@ impl Model for InlinePool {
 }
 
 impl InlinePool {
-    /// Holds nothing at first.
+    /// Returns a pool that holds no result.
     pub fn new(table: Table) -> InlinePool
         ensures { result ≡ empty_pool }
     {

@@ -1,4 +1,4 @@
-//! What a pool is to the one who posts tasks: an end that takes tasks and hands out results.
+//! The interface of a pool to a caller who posts tasks: an end that takes tasks and hands out results.
 ghost use Rattle.std.specs.Prelude.{◌≡◌, ◌+◌, ◌<◌, ◌≤◌, ◌↔◌, ℕ, length, take, true, false, [], IfErr, IfNone, IfSome, OnErr, OnOk};
 ghost use Rattle.std.specs.List.{All};
 ghost use Rattle.lj_tile.specs.Task.{Task};
@@ -10,17 +10,17 @@ ghost use Rattle.lj_pool.specs.Refusals.{task_of, IsClosed};
 use lj_tile::{Done, DoneRef, Task};
 use thiserror::Error;
 
-/// The most tasks that are owed to an end of a pool at once.
+/// The most tasks that may be owed to an end of a pool at once.
 pub const MAX_OWED: usize = 64;
 
-/// The most tasks that are posted at once.
+/// The most tasks that one call posts.
 pub const MAX_POSTS: usize = 4;
 
-/// The most results in a row that are of no tile that is awaited: so many end the work for a user.
+/// The number of consecutive strays that ends the work for a user.
 pub const MAX_STRAYS: u64 = 4096;
 
-/// The most tasks that are owed while the next command is awaited. So 63 connections that wait leave the last one room among
-/// the 1,024 entries of a book.
+/// The most tasks that may be owed while a connection waits for its next command. 63 waiting connections then leave room for
+/// the last one among the 1,024 entries of a book.
 pub const MAX_AHEAD: usize = 15;
 
 /// Why a task was not posted.
@@ -34,7 +34,7 @@ pub enum NotPosted {
     Closed,
 }
 
-/// Why a task was not posted. It is handed back.
+/// Why a task was not posted, with the task.
 #[derive(Debug, Drop)]
 pub enum Refused {
     /// There is no room for it now.
@@ -43,30 +43,30 @@ pub enum Refused {
     Closed(Task),
 }
 
-/// An end of a pool. A task that was posted is owed until its result is fetched. Results that are not owed may come at
-/// any time; those that are and those that are not are counted, each count up to 2^64 - 1, where it stays.
+/// An end of a pool. A posted task is owed until its result is handed out. A pool may hand out results that are not owed, the
+/// strays. The end counts both kinds, each up to 2^64 - 1, where the count stays.
 ///
-/// Tasks and results are large, so they pass by reference; `post`, `fetch` and `poll` copy them.
+/// Tasks and results are large, so most calls pass them by reference; `post`, `fetch` and `poll` copy them.
 ///
 /// Promise: a task that was posted is owed until its result is handed out, and each result that is handed out is
 /// counted, as owed or as a stray.
 pub trait Pool {
     ghost seen: { Self → Seen };
 
-    // The result that `fetched` shows.
+    // the task of the result that `fetched` returns
     ghost last: { Self → Task };
 
-    // The result that `fetched` shows is not counted yet.
+    // the result that `fetched` returns is not counted yet
     ghost is_uncounted: { Self → Type 0 };
 
-    // How often it was asked for others than the user of this number, by a task of another, or a fetch or poll for
-    // another, where that is counted.
+    // how often the end was called for a user other than this one, by a task of another user, or by a fetch or poll for
+    // another, where the pool counts that
     ghost for_others: { Self → ℕ → ℕ };
 
-    // How many tasks are owed to it where it is full.
+    // how many tasks are owed to a full end
     ghost most: { ℕ };
 
-    /// Posts a task. With `wait` it is never refused as `Full`.
+    /// Posts a task. With `wait` it waits for room, and never refuses the task as `Full`.
     fn post_from(&mut self, task: &Task, wait: bool) -> Result<(), NotPosted>
         requires room { length (seen self.old).owed < MAX_OWED }
         requires alone { wait ≡ true → (seen self.old).owed ≡ [] }
@@ -78,8 +78,8 @@ pub trait Pool {
         ensures own { let user = task.now.name.label.user in for_others self.new user
             ≡ for_others self.old user };
 
-    /// Takes the next result for a user, which `fetched` then shows, and leaves it to be counted. False only where the pool is
-    /// closed.
+    /// Takes the next result for a user, waits for it if there is none, and leaves it to be counted; `fetched` returns it. False
+    /// only if the pool is closed.
     fn fetch_uncounted(&mut self, user: u8) -> bool
         requires { 0 < length (seen self.old).owed }
         ensures uncounted { result ≡ true → is_uncounted self.new }
@@ -88,15 +88,15 @@ pub trait Pool {
         ensures stays_closed { StaysClosed (seen self.old) (seen self.new) }
         ensures own { for_others self.new user ≡ for_others self.old user };
 
-    /// Takes a result for a user that is there now, which `fetched` then shows, and leaves it to be counted. It never waits for a
-    /// worker. False may come at any time.
+    /// Takes the next result for a user if one is there now, and leaves it to be counted; `fetched` returns it. It never waits for
+    /// a worker. It may return false at any time.
     fn poll_uncounted(&mut self, user: u8) -> bool
         ensures uncounted { result ≡ true → is_uncounted self.new }
         ensures unchanged { SameOwed (seen self.old) (seen self.new) }
         ensures stays_closed { StaysClosed (seen self.old) (seen self.new) }
         ensures own { for_others self.new user ≡ for_others self.old user };
 
-    /// Counts the result that `fetched` shows: as one that was owed, whose task is owed no more then, or as a stray.
+    /// Counts the result that `fetched` returns: as one that was owed, whose task is then owed no more, or as a stray.
     fn count(&mut self)
         requires { is_uncounted self.old }
         ensures last { last self.new ≡ last self.old }
@@ -104,8 +104,8 @@ pub trait Pool {
         ensures stays_closed { StaysClosed (seen self.old) (seen self.new) }
         ensures own { (user : ℕ) → for_others self.new user ≡ for_others self.old user };
 
-    /// Counts the result that `fetched` shows, as `count` does. The name of its task is enough to find it among those that are
-    /// owed.
+    /// Counts the result that `fetched` returns, as `count` does, where the name of its task is enough to find it among those that
+    /// are owed.
     fn count_by_name(&mut self)
         requires uncounted { is_uncounted self.old }
         requires known { IsKnownByName (seen self.old).owed (last self.old) }
@@ -117,7 +117,8 @@ pub trait Pool {
         self.count();
     }
 
-    /// Fetches the next result for a user, which `fetched` then shows. False only where the pool is closed.
+    /// Takes and counts the next result for a user, and waits for it if there is none; `fetched` returns it. False only if the pool
+    /// is closed.
     fn fetch_in(&mut self, user: u8) -> bool
         requires { 0 < length (seen self.old).owed }
         ensures handed_out { result ≡ true → IsHandedOut (last self.new) (seen self.old) (seen self.new) }
@@ -133,8 +134,8 @@ pub trait Pool {
         fetched
     }
 
-    /// Fetches a result for a user that is there now, which `fetched` then shows. It never waits for a worker. False may
-    /// come at any time.
+    /// Takes and counts the next result for a user if one is there now; `fetched` returns it. It never waits for a worker. It may
+    /// return false at any time.
     fn poll_in(&mut self, user: u8) -> bool
         ensures handed_out { result ≡ true → IsHandedOut (last self.new) (seen self.old) (seen self.new) }
         ensures unchanged { result ≡ false → SameOwed (seen self.old) (seen self.new) }
@@ -148,12 +149,11 @@ pub trait Pool {
         polled
     }
 
-    /// The result that was handed out last, in the end's own room. It stays there until the next post, fetch or poll.
+    /// Returns the result that was handed out last. The end keeps it until the next post, fetch or poll.
     fn fetched(&self) -> DoneRef<'_>
         ensures { result ≡ last self.now };
 
-    /// Posts tasks in their order, and never waits. Returns how many of them were posted, which are the first ones: no task that
-    /// is not among these is in the pool.
+    /// Posts tasks in order and never waits. Returns how many were posted: the first ones, and no others.
     fn post_some(&mut self, tasks: &[Task]) -> usize
         requires few { length tasks.now ≤ MAX_POSTS }
         requires room { length (seen self.old).owed + length tasks.now ≤ MAX_OWED }
@@ -171,7 +171,7 @@ pub trait Pool {
         tasks.len()
     }
 
-    /// Posts a task by value. With `wait` it is never refused as `Full`.
+    /// Posts a task by value. With `wait` it waits for room, and never refuses the task as `Full`.
     fn post(&mut self, task: Task, wait: bool) -> Result<(), Refused>
         requires room { length (seen self.old).owed < MAX_OWED }
         requires alone { wait ≡ true → (seen self.old).owed ≡ [] }
@@ -190,7 +190,7 @@ pub trait Pool {
         }
     }
 
-    /// The next result for a user, by value. None only where the pool is closed.
+    /// Takes and counts the next result for a user, by value. `None` only if the pool is closed.
     fn fetch(&mut self, user: u8) -> Option<Done>
         requires { 0 < length (seen self.old).owed }
         ensures handed_out { IfSome result (λ done. IsHandedOut done (seen self.old) (seen self.new)) }
@@ -205,7 +205,8 @@ pub trait Pool {
         Some(self.fetched().to_done())
     }
 
-    /// A result for a user that is there now, by value. It never waits for a worker. None may come at any time.
+    /// Takes and counts the next result for a user if one is there now, by value. It never waits for a worker. It may return `None`
+    /// at any time.
     fn poll(&mut self, user: u8) -> Option<Done>
         ensures handed_out { IfSome result (λ done. IsHandedOut done (seen self.old) (seen self.new)) }
         ensures unchanged { IfNone result (SameOwed (seen self.old) (seen self.new)) }
@@ -218,18 +219,18 @@ pub trait Pool {
         Some(self.fetched().to_done())
     }
 
-    /// How many tasks are owed.
+    /// Returns the number of tasks that are owed.
     fn owed(&self) -> usize
         ensures { result ≡ length (seen self.now).owed };
 
-    /// Whether there is no room now: as many tasks are owed as may be, and at least one.
+    /// Returns whether the end is full: as many tasks are owed as may be, and at least one.
     fn is_full(&self) -> bool
         ensures most { result ≡ true ↔ (length (seen self.now).owed ≡ most) }
         ensures room { result ≡ false → length (seen self.now).owed < MAX_OWED }
         ensures owes { result ≡ true → 0 < length (seen self.now).owed };
 
-    /// For how many tasks at once there is room now; none where it is full. Here it is one at most, for pools that gain nothing
-    /// by more.
+    /// Returns for how many tasks there is room now, 0 if the end is full. By default at most 1, for pools that gain nothing by
+    /// more.
     fn room(&self) -> usize
         ensures none { result ≡ 0 ↔ (length (seen self.now).owed ≡ most) }
         ensures within { 0 < result → length (seen self.now).owed + result ≤ MAX_OWED }
@@ -237,7 +238,7 @@ pub trait Pool {
         usize::from(!self.is_full())
     }
 
-    /// Whether the end has seen the pool closed.
+    /// Returns whether the end has seen the pool closed.
     fn closed(&self) -> bool
         ensures { result ≡ (seen self.now).closed };
 }

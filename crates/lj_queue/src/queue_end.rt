@@ -14,8 +14,8 @@ use std::marker::Model;
 use std::mem;
 use std::sync::Wait;
 
-/// An end of a pool for one user, with a pass. It keeps a copy of each task that it is owed, and takes no memory. It
-/// hands out results of its user's tasks: what comes of another's that is posted by it is dropped.
+/// An end of a pool for one user, with a pass. It keeps a copy of each task that is owed to it, and allocates no memory. It
+/// hands out results of its user's tasks alone; the result of another user's task that it posted is dropped.
 ///
 /// Promise: it is a `Pool`, for every number of workers, so what is served over it is the same dialogue.
 #[derive(Drop)]
@@ -24,7 +24,7 @@ pub struct QueueEnd<'p, L: PoolIdentity, R: Wait> {
     pool: &'p QueuePool<L>,
     account: Account,
     counted: CountedPass<L>,
-    /// The result that was handed out last, those that are handed out next, and boxes for the next tasks.
+    /// The result that was handed out last, the results that are handed out next, and boxes for the next tasks.
     boxes: PassBoxes,
     number: u64,
     user: u8,
@@ -48,7 +48,7 @@ impl<'p, L: PoolIdentity, R: Wait> Model for QueueEnd<'p, L, R> {
 }
 
 impl<'p, L: PoolIdentity, R: Wait> QueueEnd<'p, L, R> {
-    /// An end of this number, to which nothing is owed.
+    /// Returns an end of this number, to which nothing is owed.
     pub(crate) fn new(
         rt: &'p R,
         pool: &'p QueuePool<L>,
@@ -76,7 +76,7 @@ impl<'p, L: PoolIdentity, R: Wait> QueueEnd<'p, L, R> {
         }
     }
 
-    /// Gives its pass back. Results that it is owed may still come for its user, but what it has in hand is dropped.
+    /// Returns its pass, and drops the results in hand. Results that were owed to it may still come for its user.
     pub fn finish(self) -> PoolPass<L>
         ensures { result ≡ self.entry.pass }
     {
@@ -217,7 +217,7 @@ impl<'p, L: PoolIdentity, R: Wait> Pool for QueueEnd<'p, L, R> {
 }
 
 impl<'p, L: PoolIdentity, R: Wait> QueueEnd<'p, L, R> {
-    /// Whether the pool is closed. The end drops what it has in hand then.
+    /// Returns whether the pool is closed. If it is, the end drops the results in hand.
     fn is_closed(&mut self) -> bool
         ensures dropped { result ≡ true → self.new.hand ≡ [] }
         ensures kept { result ≡ false → self.new.hand ≡ self.old.hand }
@@ -232,7 +232,7 @@ impl<'p, L: PoolIdentity, R: Wait> QueueEnd<'p, L, R> {
         is_closed
     }
 
-    /// Takes in hand what results are there, if it has none. Whether it has some now.
+    /// Fetches the results that are there if none is in hand. Returns whether some are in hand now.
     fn look(&mut self) -> bool
         ensures some { result ≡ true → 0 < length self.new.hand }
         ensures none { result ≡ false → self.new.hand ≡ [] }
@@ -242,7 +242,7 @@ impl<'p, L: PoolIdentity, R: Wait> QueueEnd<'p, L, R> {
         !self.boxes.hand.is_empty() || self.pool.poll(self.rt, self.user, &mut self.boxes.hand)
     }
 
-    /// Shows the next result that it has in hand. False where it has none.
+    /// Shows the next result in hand. Returns false if there is none.
     fn hand_out(&mut self) -> bool
         ensures some { IsTrue result ↔ (0 < length self.old.hand) }
         ensures next { result ≡ true → self.old.hand ≡ self.new.last ∷ self.new.hand }
@@ -258,7 +258,7 @@ impl<'p, L: PoolIdentity, R: Wait> QueueEnd<'p, L, R> {
         true
     }
 
-    /// Keeps a box for a task to come. It is put by where there are enough.
+    /// Keeps a box for a later task, or returns it to the pool if the end has enough.
     fn reuse(&mut self, spare: TaskBox)
         ensures { self.new ≡ self.old }
     {
@@ -269,7 +269,7 @@ impl<'p, L: PoolIdentity, R: Wait> QueueEnd<'p, L, R> {
         }
     }
 
-    /// Tells workers that wait of the tasks that they were not told of, if these are so many.
+    /// Wakes waiting workers for the tasks that none was woken for, if there are at least `least`.
     fn tell(&mut self, least: usize)
         ensures { self.new ≡ self.old }
     {

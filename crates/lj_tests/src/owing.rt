@@ -1,5 +1,4 @@
-//! Streams after which steps are owed to sessions: they are done for the next stream, over a pool that may be closed at any
-//! of its calls.
+//! Streams that leave sessions with pending steps, which the next stream runs over a pool that may close at any of its calls.
 ghost use Rattle.std.specs.Prelude.{◌≡◌, IsSome};
 ghost use Rattle.lj_pool.specs.Seen.{nothing_seen};
 
@@ -12,7 +11,7 @@ use lj_tile::{DoneRef, Task};
 use lj_wire::{Reading, Writing};
 use std::alloc::{AllocGlobal, Global};
 
-/// A pool of no threads that is closed after so many calls. A poll hands out nothing then.
+/// A pool without threads that closes after `calls` calls. A poll then hands out nothing.
 #[derive(Drop)]
 pub struct ClosingPool {
     inner: InlinePool,
@@ -31,7 +30,7 @@ impl ClosingPool {
         }
     }
 
-    /// Whether one call more finds the pool open.
+    /// Counts a call, and returns whether it finds the pool open.
     fn is_open(&mut self) -> bool
         ensures inner { self.new.inner ≡ self.old.inner }
         ensures closed { self.new.closed ≡ self.old.closed }
@@ -107,7 +106,7 @@ struct StreamOutcome {
     state: Option<UserState>,
 }
 
-/// Serves a stream over a pool that is closed after so many calls.
+/// Serves a stream over a pool that closes after `calls` calls.
 fn serve_until(alloc: Global, state: UserState, input: &str, calls: u64) -> StreamOutcome {
     let mut pool = ClosingPool::new(calls);
     let mut writer = Writing::new(ArrayVec::new());
@@ -125,7 +124,7 @@ fn serve_new(alloc: Global, input: &str, calls: u64) -> StreamOutcome {
     serve_until(alloc, UserState::new(alloc, Quota::USUAL), input, calls)
 }
 
-/// A stream after which a step is owed, and one that asks for the session.
+/// A stream that leaves a pending step, and one that asks for the session.
 const STARTED: &str =
     "LOAD a 256 1 131072 rest 28\n2\ndimer\nAr 0 0 0\nAr 1.5 0 0\nSTART a 1\nBYE\n";
 
@@ -149,7 +148,7 @@ fn what_is_owed_is_done_for_the_next_stream(rt: HostRuntime) {
     }
 }
 
-/// Two items wait in this one, for two sessions that go on side by side.
+/// A stream in which two items wait, for two sessions that run side by side.
 const SIDE_BY_SIDE: &str = "LOAD a 256 1 131072 rest 28\n2\ndimer\nAr 0 0 0\nAr 1.5 0 0\n\
     LOAD b 256 1 131072 rest 28\n2\ndimer\nAr 0 0 0\nAr 1.5 0 0\n\
     START a 2\nSTART b 1\nSHOW b 0\nLIST\nSHOW a 0\nBYE\n";

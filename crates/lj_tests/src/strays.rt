@@ -1,4 +1,4 @@
-//! Pools that hand out results which are not awaited, or that are closed: what a connection is told over them.
+//! What a connection is answered over pools that hand out strays, or that are closed.
 ghost use Rattle.std.specs.Prelude.{◌≡◌, ◌↔◌, None, Some, IfSome, IsTrue, ⊤};
 
 use arrayvec::ArrayVec;
@@ -50,7 +50,7 @@ impl OddPool {
         }
     }
 
-    /// A copy of the earlier result, if one is to come and it is of another task than the one that is held.
+    /// Returns a copy of the earlier result if a stray is due and the held result is of another task.
     fn stray(&self) -> Option<Done>
         ensures { IfSome result (λ done. IfSome self.now.held (λ held. (done ≡ held) → ⊥)) }
     {
@@ -62,7 +62,7 @@ impl OddPool {
         Some(earlier.copy())
     }
 
-    /// Whether the result that was handed out last is of the task that is held.
+    /// Returns whether the result that was handed out last is of the held task.
     fn shows_held(&self) -> bool
         ensures { IsTrue result ↔ (self.now.held ≡ Some self.now.shown) }
     {

@@ -1,5 +1,5 @@
-//! The work that is owed to sessions, done over a pool: while a command waits for it, and before the next one is read. Tasks
-//! are written in slots, which are handed down.
+//! Runs the pending steps of sessions over a pool, while a command waits for them and before the next command is read. Tasks
+//! are written in slots that the caller owns.
 ghost use Rattle.std.specs.Prelude.{◌≡◌, ◌+◌, ◌-◌, ◌<◌, ◌≤◌, length, ℕ, Bool, true, false, [], ◌∷◌, Some, None, Ok, IsSome, IfOk, IfErr, IfSome, OnErr, OnOk};
 ghost use Rattle.lj_session.specs.Owner.{IsReplied, IsSettled, task_in, user_in, ready_session};
 ghost use Rattle.lj_wire.specs.Runs.{item_before};
@@ -18,17 +18,17 @@ use lj_session::{Begin, Owner, Refusal, Reply};
 use lj_tile::Task;
 use lj_wire::Item;
 
-/// The slots in which tasks are written that are posted together.
+/// Slots for the tasks that are posted together.
 pub(crate) type TaskSlots = [Task; MAX_POSTS];
 
-/// Why the work was given up.
+/// Why the work was aborted.
 #[derive(Clone, Copy, PartialEq, Eq, Debug)]
 pub(crate) enum Halt {
     PoolClosed,
     TooManyStrays,
 }
 
-/// Answers an item; a command once what it waits for is done. What `item` holds then is not said.
+/// Answers an item: a command once the steps that it waits for are done. Afterwards the value of `item` is unspecified.
 pub(crate) fn answer<P: Pool>(
     owner: &mut Owner,
     user: u8,
@@ -68,7 +68,7 @@ pub(crate) fn answer<P: Pool>(
     }
 }
 
-/// Goes on with the steps of all sessions, until what waits is answered.
+/// Runs the steps of all sessions until the waiting command is answered.
 fn run<P: Pool>(
     owner: &mut Owner,
     user: u8,
@@ -112,9 +112,9 @@ fn run<P: Pool>(
     }
 }
 
-/// Goes on with what is owed, if something may be, before the next command is read: takes in what is there, turns what is
-/// whole, posts what there is room for, and fetches until few tasks are owed. The last look for results tells the workers
-/// of what was posted. Whether something is still owed.
+/// Runs pending steps, if there may be some, before the next command is read: takes in the results that are there, turns whole
+/// steps, posts tasks while there is room, and fetches until few tasks are owed. The last poll wakes the workers for the posted
+/// tasks. Returns whether steps are still pending.
 pub(crate) fn work_ahead<P: Pool>(
     owner: &mut Owner,
     user: u8,
@@ -141,7 +141,7 @@ pub(crate) fn work_ahead<P: Pool>(
     Ok(owner.is_busy())
 }
 
-/// Takes in what is there of the results that are owed. Whether one of them was of a tile that is awaited.
+/// Takes in the results that are there now. Returns whether one of them was of an awaited tile.
 fn poll_all<P: Pool>(owner: &mut Owner, user: u8, pool: &mut P) -> bool
     requires gathers { Gathers owner.old (P.seen pool.old).owed }
     ensures goes_on { GoesOn owner.old (P.seen pool.old) owner.new (P.seen pool.new) }
@@ -158,8 +158,8 @@ fn poll_all<P: Pool>(owner: &mut Owner, user: u8, pool: &mut P) -> bool
     some
 }
 
-/// Turns sessions until none is whole. Between two turns a result is taken in and a task posted, so that a session whose
-/// steps have no tiles does not keep the others waiting.
+/// Turns sessions until none is whole. Between two turns it takes in a result and posts a task, so that a session whose steps
+/// have no tiles does not hold the others up.
 fn turn_whole<P: Pool>(owner: &mut Owner, user: u8, pool: &mut P, slots: &mut TaskSlots)
     requires idle { owner.old.waiting ≡ None }
     requires number { owner.old.number ≡ user }
@@ -174,7 +174,7 @@ fn turn_whole<P: Pool>(owner: &mut Owner, user: u8, pool: &mut P, slots: &mut Ta
     }
 }
 
-/// Posts tasks while there is room for them, several at once where the pool has room for several.
+/// Posts tasks while there is room, several at once if the pool has room for several.
 fn post_all<P: Pool>(owner: &mut Owner, pool: &mut P, slots: &mut TaskSlots)
     requires gathers { Gathers owner.old (P.seen pool.old).owed }
     ensures goes_on { GoesOn owner.old (P.seen pool.old) owner.new (P.seen pool.new) }
@@ -183,7 +183,7 @@ fn post_all<P: Pool>(owner: &mut Owner, pool: &mut P, slots: &mut TaskSlots)
     while post_some(owner, pool, slots) {}
 }
 
-/// Posts the next tasks together, as many as there is room for. False where there was none, or not all of them were posted.
+/// Posts the next tasks together, as many as there is room for. Returns false if there was none, or if not all were posted.
 fn post_some<P: Pool>(owner: &mut Owner, pool: &mut P, slots: &mut TaskSlots) -> bool
     requires gathers { Gathers owner.old (P.seen pool.old).owed }
     ensures goes_on { GoesOn owner.old (P.seen pool.old) owner.new (P.seen pool.new) }
@@ -199,7 +199,7 @@ fn post_some<P: Pool>(owner: &mut Owner, pool: &mut P, slots: &mut TaskSlots) ->
     posted == written
 }
 
-/// Writes the next tasks in the slots, at most so many, and posts none. Returns how many.
+/// Writes at most `most` of the next tasks to the slots, and posts none. Returns how many it wrote.
 fn write_next(owner: &Owner, most: usize, slots: &mut TaskSlots) -> usize
     requires { most ≤ MAX_POSTS }
     ensures most { result ≤ most }
@@ -217,7 +217,7 @@ fn write_next(owner: &Owner, most: usize, slots: &mut TaskSlots) -> usize
     most
 }
 
-/// Notes the next tasks as posted, so many.
+/// Records the next `posted` tasks as posted.
 #[tactic(auto, using(crate::proofs::Posts::after_more))]
 fn note_posted(owner: &mut Owner, posted: usize)
     requires { (k : ℕ) → k < posted → IsSome (task_in (after_posts k owner.old)) }
@@ -243,8 +243,8 @@ fn fetch_down<P: Pool>(owner: &mut Owner, user: u8, pool: &mut P) -> Result<(), 
     Ok(())
 }
 
-/// Posts the next task, and waits for room for it only where nothing is owed. False where there is no task, or no room; then
-/// something is owed.
+/// Posts the next task, and waits for room only if nothing is owed. Returns false if there is no task or no room; then something
+/// is owed.
 fn post_or_wait<P: Pool>(owner: &mut Owner, pool: &mut P, slot: &mut Task) -> Result<bool, Halt>
     requires waits { IsSome owner.old.waiting }
     requires none_ready { ready_session owner.old ≡ None }
@@ -260,7 +260,7 @@ fn post_or_wait<P: Pool>(owner: &mut Owner, pool: &mut P, slot: &mut Task) -> Re
     post_next(owner, pool, slot, wait)
 }
 
-/// Posts the next task, written in `slot`. False where there is none, or the pool has no place for it now.
+/// Writes the next task to `slot` and posts it. Returns false if there is none, or if the pool has no room now.
 fn post_next<P: Pool>(
     owner: &mut Owner,
     pool: &mut P,
@@ -294,8 +294,8 @@ fn post_next<P: Pool>(
     }
 }
 
-/// Takes in what is there of the results that are owed, and posts what there is room for then, so that many tasks go to the
-/// workers together. Whether one of the results was of a tile that is awaited.
+/// Takes in the results that are there now, and then posts tasks while there is room, so that the workers get many at once.
+/// Returns whether one of the results was of an awaited tile.
 fn poll_and_post<P: Pool>(owner: &mut Owner, user: u8, pool: &mut P, slots: &mut TaskSlots) -> bool
     requires number { owner.old.number ≡ user }
     requires gathers { Gathers owner.old (P.seen pool.old).owed }
@@ -308,7 +308,7 @@ fn poll_and_post<P: Pool>(owner: &mut Owner, user: u8, pool: &mut P, slots: &mut
     taken
 }
 
-/// Fetches a result. False where it is of no tile that is awaited; it is dropped then.
+/// Fetches a result and takes it in. Returns false, and drops it, if it is of no awaited tile.
 fn fetch_next<P: Pool>(owner: &mut Owner, user: u8, pool: &mut P) -> Result<bool, Halt>
     requires gathers { Gathers owner.old (P.seen pool.old).owed }
     requires owes { 0 < length (P.seen pool.old).owed }
@@ -328,8 +328,8 @@ fn fetch_next<P: Pool>(owner: &mut Owner, user: u8, pool: &mut P) -> Result<bool
     Ok(take_in_and_count(owner, pool))
 }
 
-/// Takes in a result that is there now. False where it is of no tile that is awaited; it is dropped then. None where there
-/// is no result.
+/// Takes in a result that is there now. Returns `Some(false)`, and drops it, if it is of no awaited tile; `None` if there is no
+/// result.
 fn poll_next<P: Pool>(owner: &mut Owner, user: u8, pool: &mut P) -> Option<bool>
     requires gathers { Gathers owner.old (P.seen pool.old).owed }
     ensures goes_on { GoesOn owner.old (P.seen pool.old) owner.new (P.seen pool.new) }
@@ -342,8 +342,8 @@ fn poll_next<P: Pool>(owner: &mut Owner, user: u8, pool: &mut P) -> Option<bool>
     Some(take_in_and_count(owner, pool))
 }
 
-/// Takes in the result that the pool shows, and has it counted. False where it is of no tile that is awaited. A tile that is
-/// awaited has been compared, so its task is known by its name among those that are owed.
+/// Takes in the result that the pool shows, and has the pool count it. Returns false if it is of no awaited tile. The task of an
+/// awaited tile was compared as it was taken in, so the pool finds it by its name.
 fn take_in_and_count<P: Pool>(owner: &mut Owner, pool: &mut P) -> bool
     requires gathers { Gathers owner.old (P.seen pool.old).owed }
     requires uncounted { P.is_uncounted pool.old }
@@ -360,7 +360,7 @@ fn take_in_and_count<P: Pool>(owner: &mut Owner, pool: &mut P) -> bool
     true
 }
 
-/// How many results in a row were of no tile that is awaited, after one more that was taken in or was not.
+/// Returns the number of consecutive strays after one more result.
 fn strays_after(strays: u64, taken: bool) -> Result<u64, Halt>
     requires { strays < MAX_STRAYS }
     ensures taken { taken ≡ true → result ≡ Ok 0 }

@@ -15,8 +15,8 @@ use std::marker::Model;
 use std::sync::Wait;
 use std::sync::ledger::Ledger;
 
-/// An end of a pool behind a lock. It keeps a copy of each task that it is owed, has boxes of the pool in hand, and takes no
-/// memory. It gives its boxes back by `finish`.
+/// An end of a pool behind a lock. It keeps a copy of each task that is owed to it, holds boxes of the pool, and allocates no
+/// memory. `finish` returns the boxes.
 ///
 /// Promise: it is a `Pool`, for every number of workers, so what is served over it is the same dialogue.
 #[derive(Drop)]
@@ -24,7 +24,7 @@ pub struct LockEnd<'p, L: Ledger, R: Wait> {
     rt: &'p R,
     pool: &'p LockPool<L>,
     account: Account,
-    /// The result that was handed out last, those that are handed out next, and spare boxes.
+    /// The result that was handed out last, the results that are handed out next, and spare boxes.
     boxes: EndBoxes,
 }
 
@@ -44,7 +44,7 @@ impl<'p, L: Ledger, R: Wait> Model for LockEnd<'p, L, R> {
 }
 
 impl<'p, L: Ledger, R: Wait> LockEnd<'p, L, R> {
-    /// An end to which nothing is owed.
+    /// Returns an end to which nothing is owed.
     pub(crate) fn new(rt: &'p R, pool: &'p LockPool<L>) -> LockEnd<'p, L, R>
         ensures seen { result.seen ≡ nothing_seen }
         ensures last { result.last ≡ blank_task }
@@ -58,7 +58,7 @@ impl<'p, L: Ledger, R: Wait> LockEnd<'p, L, R> {
         }
     }
 
-    /// Gives all its boxes back to the pool. Results that it is owed may still come for its user.
+    /// Returns all its boxes to the pool. Results that were owed to it may still come for its user.
     pub fn finish(self) {
         let LockEnd {
             rt,
