@@ -9,7 +9,7 @@ use Rattle.std.proofs.lemmas.List.Elements.{All-append, All-take, All-drop}
 use Rattle.lj_tile.specs.Blank.{blank_task}
 use Rattle.lj_tile.specs.Task.{Task}
 use Rattle.lj_book.specs.declared.key_states.KeyState.TheVariants.{ToFetch}
-use Rattle.lj_book.specs.Book.{BookOf, Fetches, IsDoneAt, mark_of, user_of}
+use Rattle.lj_book.specs.Book.{BookOf, Fetches, IsDoneAt, key_state_of, user_of}
 use Rattle.lj_book.specs.Boxes.{Numbered, Slip}
 use Rattle.lj_pool.specs.EndBoxes.{ArePlaced, EndBoxes, HandsOut, IsFirstOf, IsNext, TakesInHand, result_in}
 use Rattle.lj_pool.specs.PoolStates.{FetchesEach}
@@ -44,7 +44,7 @@ placed_left hand spare here placed inside = record {
 pub users_result : (old new : BookOf Numbered Slip) (user key : ℕ) (done : Task) → Fetches old new done key → IsDoneAt user old key
     → user_of done ≡ user
 users_result old new user key done fetches here =
-    let same : ToFetch (user_of done) ≡ ToFetch user = sym (ap mark_of fetches.was) ∙ here in
+    let same : ToFetch (user_of done) ≡ ToFetch user = sym (ap key_state_of fetches.was) ∙ here in
     cc
 
 -- one result more

@@ -6,7 +6,7 @@ use Rattle.lj_session.specs.UserState.{with_steps_restarted}
 use Rattle.lj_session.specs.Owner.{Owner, is_busy, IsAwaitedIn, with_task_in}
 use Rattle.lj_access.specs.Rows.{UserRow, HasEntered, with_row_changed, with_home}
 use Rattle.lj_book.specs.declared.key_states.KeyState.TheVariants.{ToFetch}
-use Rattle.lj_book.specs.Book.{Book, entry_at, mark_of, Fetches, Withdraws}
+use Rattle.lj_book.specs.Book.{Book, entry_at, key_state_of, Fetches, Withdraws}
 use Rattle.lj_world.specs.declared.event.ConnectionEvent.TheVariants.{Fetch, Turn, Leave}
 use Rattle.lj_world.specs.Machine.{Connection, inside, gone, with_state}
 use Rattle.lj_world.specs.Connections.{connection_view, IsGiven, IsDone}
@@ -27,7 +27,7 @@ given owner after work (Err stray) awaited taken unchanged = inr (λ h. let e : 
 
 -- a result of the user leaves the book
 pub fetches : (connection : Connection) (rows : List UserRow) (old new : Book) (owner after : Owner) (work : Task) (key pick : ℕ)
-    → connection.state ≡ inside owner → is_busy owner ≡ true → Fetches old new work key → mark_of (entry_at old key) ≡ ToFetch connection.user
+    → connection.state ≡ inside owner → is_busy owner ≡ true → Fetches old new work key → key_state_of (entry_at old key) ≡ ToFetch connection.user
     → IsGiven owner work after
     → ConnectionStep (Fetch pick) (connection_view connection rows old) None (connection_view (record connection { state = inside after; posted = connection.posted - 1 }) rows new)
 fetches connection rows old new owner after work key pick owns busy f done g = inl (record {
@@ -37,7 +37,7 @@ fetches connection rows old new owner after work key pick owns busy f done g = i
   busy = busy;
   key = key;
   work = work;
-  of_user = let m = ap mark_of f.was in cc;
+  of_user = let m = ap key_state_of f.was in cc;
   fetches = f;
   after = after;
   given = g;
