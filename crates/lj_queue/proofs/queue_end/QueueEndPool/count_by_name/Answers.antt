@@ -1,0 +1,10 @@
+use Rattle.std.proofs.Common.{ap, sym, ◌∙◌, subst}
+use Rattle.lj_pool.specs.Accounts.{IsKnownByName}
+use Rattle.lj_pool.specs.Seen.{Seen}
+use Rattle.lj_queue.proofs.queue_end.QueueEndPool.count_by_name.Goals as goal
+
+pub count_by_name-requires : goal.count_by_name-requires
+count_by_name-requires g c =
+    let shown = c.task.ensures ∙ c.done.ensures ∙ ap (λ s. s.last) c.self.view_is in
+    subst (λ (seen : Seen). IsKnownByName seen.owed c.task.result.now) (sym (ap (λ s. s.seen) c.self.view_is))
+    (subst (IsKnownByName c.args.self.now.seen.owed) (sym shown) c.requires)
