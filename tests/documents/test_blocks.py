@@ -411,7 +411,7 @@ BLOCKS = {
         "for _ in range(2)": prints("0.0"),
     },
     "CONTRIBUTING.md": {
-        "/// Whether a user has all sessions": NEEDS_KIT,
+        "/// Returns whether a user has all sessions": NEEDS_KIT,
         "rt check": NEEDS_KIT,
         "rt try": NEEDS_KIT,
         "bin/release": NEEDS_KIT,
