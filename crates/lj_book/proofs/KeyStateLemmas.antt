@@ -1,43 +1,222 @@
--- The notes of which kinds of states stand in a group of keys.
-use Rattle.std.proofs.Common.{◌≡◌, ◌≢◌, ℕ, ◌<◌, ◌/◌, Bool, true, false, List, [], length, get_or, set, replicate, sym, ap, ◌∙◌, inl, inr, arith, length-set, get_or-set_same, get_or-set_other}
+-- The masks of the states of keys.
+use Rattle.std.proofs.Common.{◌≡◌, ◌≢◌, ℕ, ◌+◌, ◌-◌, ◌*◌, ◌/◌, ◌%◌, ◌^◌, ◌<◌, ◌≤◌, List, [], length, get_or, set, replicate, refl, sym, ap, ◌∙◌, inl, inr, w64, arith, length-set, get_or-set_same, get_or-set_other}
+use Rattle.std.proofs.Math.ListN.{get_or-eq_default}
+use Rattle.std.specs.Int.{bit_at, trailing_zeros}
+use Rattle.std.proofs.lemmas.Nat.{shr-shr}
+use Rattle.std.proofs.lemmas.Nat.Bits.{bit_at-zero, bit_at_above, bit_at-trailing_zeros}
 use Rattle.std.proofs.lemmas.List.{get_or-replicate, length-replicate}
-use Rattle.std.proofs.lemmas.Bool.{cases_eq}
+use Rattle.std.proofs.lemmas.Bool.{cases_eq, cases_lt}
 use Rattle.lj_book.specs.declared.key_states.KeyState.{KeyState}
-use Rattle.lj_book.specs.declared.key_states.KeyState.TheVariants.{Vacant}
-use Rattle.lj_book.specs.declared.key_states.TheConstants.{GROUP}
-use Rattle.lj_book.specs.KeyStates.{kind_of, key_state_at, is_noted, Covers}
+use Rattle.lj_book.specs.declared.key_states.KeyState.TheVariants.{Vacant, ToTake, Taken, ToFetch}
+use Rattle.lj_book.specs.declared.key_states.TheConstants.{GROUP, KINDS}
+use Rattle.lj_book.specs.KeyStates.{kind_of, key_state_at, bit_of, bit_of_key, ChangesBit, HasKeyState, HasNoBit, HasNone, IsIndexed, IsLeast, IsLowestBit}
 
--- a state that is set and noted
-pub Covers-set : (key_states : List KeyState) (before after : List (List Bool)) (key : ℕ) (key_state : KeyState) → key < length key_states
-    → is_noted after (key / GROUP) (kind_of key_state) ≡ true
-    → ((g k : ℕ) → g ≢ key / GROUP → is_noted after g k ≡ is_noted before g k)
-    → ((k : ℕ) → k ≢ kind_of key_state → is_noted after (key / GROUP) k ≡ is_noted before (key / GROUP) k)
-    → Covers key_states before → Covers (set key_states key key_state) after
-Covers-set key_states before after key key_state within noted other_groups other_kinds covers k below =
-    elim (cases_eq k key) [ inl same ↦ at_key same | inr other ↦ elsewhere other ]
+-- states of one number are one state
+kind_of-injective : (a b : KeyState) → kind_of a ≡ kind_of b → a ≡ b
+kind_of-injective Vacant Vacant same = refl
+kind_of-injective Vacant ToTake same = absurd (omega (arith, same))
+kind_of-injective Vacant Taken same = absurd (omega (arith, same))
+kind_of-injective Vacant (ToFetch user) same = absurd (omega (arith, same))
+kind_of-injective ToTake Vacant same = absurd (omega (arith, same))
+kind_of-injective ToTake ToTake same = refl
+kind_of-injective ToTake Taken same = absurd (omega (arith, same))
+kind_of-injective ToTake (ToFetch user) same = absurd (omega (arith, same))
+kind_of-injective Taken Vacant same = absurd (omega (arith, same))
+kind_of-injective Taken ToTake same = absurd (omega (arith, same))
+kind_of-injective Taken Taken same = refl
+kind_of-injective Taken (ToFetch user) same = absurd (omega (arith, same))
+kind_of-injective (ToFetch user) Vacant same = absurd (omega (arith, same))
+kind_of-injective (ToFetch user) ToTake same = absurd (omega (arith, same))
+kind_of-injective (ToFetch user) Taken same = absurd (omega (arith, same))
+kind_of-injective (ToFetch user) (ToFetch other) same = ap ToFetch (omega (arith, same))
+
+-- a state that is not vacant has no number 0
+pub kind_of-positive : (a : KeyState) → a ≢ Vacant → kind_of a ≢ 0
+kind_of-positive a other none = other (kind_of-injective a Vacant none)
+
+-- a mask that is replaced, and differs from the one before in one bit
+pub changes_bit : (masks : List ℕ) (kind mask at bit : ℕ) → kind < length masks → bit_at mask at ≡ bit
+    → ((i : ℕ) → i < GROUP → i ≢ at → bit_at mask i ≡ bit_at (get_or masks kind 0) i)
+    → ChangesBit bit kind at masks (set masks kind mask)
+changes_bit masks kind mask at bit within is others = record {
+  is = ap (λ m. bit_at m at) (get_or-set_same masks kind mask 0 within) ∙ is;
+  others = λ k i apart below. elim (cases_eq k kind) [
+    | inr other ↦ ap (λ m. bit_at m i) (get_or-set_other masks kind k mask 0 other)
+    | inl same ↦
+        rw same
+        (ap (λ m. bit_at m i) (get_or-set_same masks kind mask 0 within)
+        ∙ others i below (elim apart [ inl differs ↦ absurd (differs same) | inr differs ↦ differs ]))
+  ];
+}
+
+-- no mask of a group has a bit where all of them are 0
+no_bit : (count kind at : ℕ) → bit_of (replicate count 0) kind at ≡ 0
+no_bit count kind at = elim (cases_lt kind count) [
+  | inl within ↦ ap (λ m. bit_at m at) (get_or-replicate count kind 0 0 within) ∙ bit_at-zero at
+  | inr behind ↦
+      let long : length (replicate {A = ℕ} count 0) ≤ kind = omega (arith, length-replicate {A = ℕ} count 0) in
+      ap (λ m. bit_at m at) (get_or-eq_default (replicate {A = ℕ} count 0) 0 long) ∙ bit_at-zero at
+]
+
+no_mask : (kind at : ℕ) → bit_of [] kind at ≡ 0
+no_mask kind at = bit_at-zero at
+
+-- vacant keys, and masks that are 0
+pub IsIndexed-vacant : (keys : ℕ) (masks : List ℕ) → masks ≡ replicate KINDS 0
+    → IsIndexed (replicate keys Vacant) (replicate (keys / GROUP + 1) masks)
+IsIndexed-vacant keys masks zeros = record {
+  enough = simp length-replicate;
+  all = λ k some. absurd (some (ap kind_of (vacant k)));
+  only = λ k kind some bit. absurd (omega (arith, bit, none k kind));
+}
   where
-    in_range : k < length key_states
-    in_range = omega (arith, length-set key_states key key_state)
+    vacant : (k : ℕ) → key_state_at (replicate keys Vacant) k ≡ Vacant
+    vacant k = elim (cases_lt k keys) [
+      | inl within ↦ get_or-replicate keys k Vacant Vacant within
+      | inr behind ↦ get_or-eq_default (replicate keys Vacant) Vacant (omega (arith, length-replicate keys Vacant))
+    ]
 
-    at_key : k ≡ key → is_noted after (k / GROUP) (kind_of (key_state_at (set key_states key key_state) k)) ≡ true
-    at_key same = rw (same, get_or-set_same key_states key key_state Vacant within) noted
+    none : (k kind : ℕ) → bit_of_key (replicate (keys / GROUP + 1) masks) kind k ≡ 0
+    none k kind = elim (cases_lt (k / GROUP) (keys / GROUP + 1)) [
+      | inl within ↦
+          rw (get_or-replicate (keys / GROUP + 1) (k / GROUP) masks [] within, zeros) (no_bit KINDS kind (k % GROUP))
+      | inr behind ↦
+          ap (λ m. bit_of m kind (k % GROUP))
+          (get_or-eq_default (replicate (keys / GROUP + 1) masks) [] (omega (arith, length-replicate (keys / GROUP + 1) masks)))
+          ∙ no_mask kind (k % GROUP)
+    ]
 
-    elsewhere : k ≢ key → is_noted after (k / GROUP) (kind_of (key_state_at (set key_states key key_state) k)) ≡ true
-    elsewhere other = rw (get_or-set_other key_states key k key_state Vacant other)
-        (elim (cases_eq (k / GROUP) (key / GROUP)) [
-          | inr another ↦ other_groups (k / GROUP) (kind_of (key_state_at key_states k)) another ∙ covers k in_range
-          | inl group ↦ elim (cases_eq (kind_of (key_state_at key_states k)) (kind_of key_state)) [
-            | inl kind ↦ rw (group, kind) noted
-            | inr another ↦ ap (λ g. is_noted after g (kind_of (key_state_at key_states k))) group
-                ∙ other_kinds (kind_of (key_state_at key_states k)) another
-                ∙ sym (ap (λ g. is_noted before g (kind_of (key_state_at key_states k))) group) ∙ covers k in_range
+-- a state that is set, and its bit moved
+pub IsIndexed-set : (key_states : List KeyState) (groups : List (List ℕ)) (between masks : List ℕ) (key : ℕ) (key_state : KeyState)
+    → key < length key_states
+    → ChangesBit 0 (kind_of (key_state_at key_states key)) (key % GROUP) (get_or groups (key / GROUP) []) between
+    → ChangesBit 1 (kind_of key_state) (key % GROUP) between masks
+    → IsIndexed key_states groups → IsIndexed (set key_states key key_state) (set groups (key / GROUP) masks)
+IsIndexed-set key_states groups between masks key key_state within cleared is_set index = record {
+  enough = rw (length-set groups (key / GROUP) masks, length-set key_states key key_state) index.enough;
+  all = λ k some. elim (cases_eq k key) [
+    | inl same ↦ rw (same, get_or-set_same key_states key key_state Vacant within, here) is_set.is
+    | inr other ↦
+        rw (get_or-set_other key_states key k key_state Vacant other)
+        (elsewhere k (kind_of (key_state_at key_states k)) other
+        ∙ index.all k (rw (← get_or-set_other key_states key k key_state Vacant other) some))
+  ];
+  only = λ k kind some bit. elim (cases_eq k key) [
+    | inl same ↦ rw (same, get_or-set_same key_states key key_state Vacant within)
+        (at_key kind some (ap (λ m. bit_of m kind (key % GROUP)) (sym here) ∙ ap (λ j. bit_of_key (set groups (key / GROUP) masks) kind j) (sym same) ∙ bit))
+    | inr other ↦ rw (get_or-set_other key_states key k key_state Vacant other)
+        (index.only k kind some (sym (elsewhere k kind other) ∙ bit))
+  ];
+}
+  where
+    here : get_or (set groups (key / GROUP) masks) (key / GROUP) [] ≡ masks
+    here = get_or-set_same groups (key / GROUP) masks [] (omega (arith, index.enough, within))
+
+    elsewhere : (k kind : ℕ) → k ≢ key → bit_of_key (set groups (key / GROUP) masks) kind k ≡ bit_of_key groups kind k
+    elsewhere k kind other = elim (cases_eq (k / GROUP) (key / GROUP)) [
+      | inl group ↦
+          let apart : k % GROUP ≢ key % GROUP = λ same. other (omega (arith, same, group)) in
+          rw (group, here)
+          (is_set.others kind (k % GROUP) (inr apart) (omega arith) ∙ cleared.others kind (k % GROUP) (inr apart) (omega arith))
+      | inr another ↦ ap (λ m. bit_of m kind (k % GROUP)) (get_or-set_other groups (key / GROUP) (k / GROUP) masks [] another)
+    ]
+
+    at_key : (kind : ℕ) → kind ≢ 0 → bit_of masks kind (key % GROUP) ≡ 1 → kind_of key_state ≡ kind
+    at_key kind some bit = elim (cases_eq kind (kind_of key_state)) [
+      | inl same ↦ sym same
+      | inr other ↦
+          let before : bit_of between kind (key % GROUP) ≡ 1 = sym (is_set.others kind (key % GROUP) (inl other) (omega arith)) ∙ bit in
+          elim (cases_eq kind (kind_of (key_state_at key_states key))) [
+            | inl was ↦ absurd (omega (arith, sym (ap (λ k. bit_of between k (key % GROUP)) was) ∙ before, cleared.is))
+            | inr another ↦
+                absurd (another (sym (index.only key kind some
+                (sym (cleared.others kind (key % GROUP) (inl another) (omega arith)) ∙ before))))
           ]
-        ])
+    ]
 
--- vacant keys in groups where vacant ones are noted
-pub Covers-vacant : (keys count : ℕ) (kinds : List Bool) → keys / GROUP < count → get_or kinds (kind_of Vacant) false ≡ true
-    → Covers (replicate keys Vacant) (replicate count kinds)
-Covers-vacant keys count kinds enough noted k below =
-    let within : k < keys = omega (arith, length-replicate keys Vacant) in
-    let group : k / GROUP < count = omega arith in
-    rw (get_or-replicate keys k Vacant Vacant within, get_or-replicate count (k / GROUP) kinds [] group) noted
+-- the bits of a mask that is shifted
+shifted : (mask skip i : ℕ) → bit_at (mask / 2 ^ skip) i ≡ bit_at mask (skip + i)
+shifted mask skip i = ap (λ m. m % 2) (shr-shr mask skip i)
+
+-- a mask that is shifted to 0 has no bit from there on
+pub no_bit_from : (mask from : ℕ) → mask / 2 ^ from ≡ 0 → HasNoBit mask from GROUP
+no_bit_from mask from none i first last =
+    let place : i ≡ from + (i - from) = omega arith in
+    ap (bit_at mask) place ∙ sym (shifted mask from (i - from)) ∙ ap (λ m. bit_at m (i - from)) none ∙ bit_at-zero (i - from)
+
+-- the lowest bit of a mask that is shifted
+pub lowest_bit_is : (mask from rest : ℕ) → mask < 2 ^ 64 → rest ≡ mask / 2 ^ from → rest ≢ 0 → rest < 2 ^ 64
+    → IsLowestBit mask from (from + trailing_zeros w64 rest)
+lowest_bit_is mask from rest small is some fits =
+    let lowest = bit_at-trailing_zeros w64 rest (omega (arith, some)) fits in
+    let at : ℕ = from + trailing_zeros w64 rest in
+    let one : bit_at mask at ≡ 1 =
+    sym (shifted mask from (trailing_zeros w64 rest)) ∙ ap (λ m. bit_at m (trailing_zeros w64 rest)) (sym is) ∙ lowest.1 in
+    record {
+      is = one;
+      first = omega arith;
+      within = elim (cases_lt at GROUP) [
+        | inl less ↦ less
+        | inr more ↦ absurd (omega (arith, one, bit_at_above mask 64 at small more))
+      ];
+      none_before = λ i first last.
+          let place : i ≡ from + (i - from) = omega arith in
+          ap (bit_at mask) place ∙ sym (shifted mask from (i - from)) ∙ ap (λ m. bit_at m (i - from)) (sym is)
+          ∙ lowest.2 (i - from) (omega arith);
+    }
+
+-- the bit of a key that has the state
+bit_there : (key_states : List KeyState) (groups : List (List ℕ)) (key_state : KeyState) (group k : ℕ) → IsIndexed key_states groups
+    → key_state ≢ Vacant → k / GROUP ≡ group → HasKeyState key_states key_state k
+    → bit_of (get_or groups group []) (kind_of key_state) (k % GROUP) ≡ 1
+bit_there key_states groups key_state group k index searched in_group has =
+    ap (λ g. bit_of (get_or groups g []) (kind_of key_state) (k % GROUP)) (sym in_group)
+    ∙ ap (λ state. bit_of_key groups (kind_of state) k) (sym has.is)
+    ∙ index.all k (rw has.is (kind_of-positive key_state searched))
+
+-- where the mask of a state has no later bit, no later key of the group has the state
+pub none_in : (key_states : List KeyState) (groups : List (List ℕ)) (key_state : KeyState) (group from : ℕ)
+    → IsIndexed key_states groups → key_state ≢ Vacant → GROUP * group ≤ from
+    → HasNoBit (get_or (get_or groups group []) (kind_of key_state) 0) (from % GROUP) GROUP
+    → HasNone key_states key_state from (GROUP * group + GROUP)
+none_in key_states groups key_state group from index searched first none k low high has =
+    absurd (omega (
+      arith,
+      bit_there key_states groups key_state group k index searched (omega arith) has,
+      none (k % GROUP) (omega arith) (omega arith),
+    ))
+
+-- the lowest of the later bits of the mask of a state is that of the least of the later keys of the group that has the state
+pub least_is : (key_states : List KeyState) (groups : List (List ℕ)) (key_state : KeyState) (group from at : ℕ)
+    → IsIndexed key_states groups → key_state ≢ Vacant → GROUP * group ≤ from → from < GROUP * group + GROUP
+    → IsLowestBit (get_or (get_or groups group []) (kind_of key_state) 0) (from % GROUP) at
+    → IsLeast key_states key_state from (length key_states) (GROUP * group + at)
+least_is key_states groups key_state group from at index searched first last lowest = record {
+  has = has;
+  first = omega (arith, lowest.first, first, last);
+  last = has.within;
+  none_before = λ k low high there.
+      absurd (omega (
+        arith,
+        bit_there key_states groups key_state group k index searched (omega (arith, lowest.within)) there,
+        lowest.none_before (k % GROUP) (omega (arith, lowest.within)) (omega (arith, lowest.within)),
+      ));
+}
+  where
+    key : ℕ
+    key = GROUP * group + at
+
+    is_kind : kind_of (key_state_at key_states key) ≡ kind_of key_state
+    is_kind =
+        let same_group : key / GROUP ≡ group = omega (arith, lowest.within) in
+        let same_place : key % GROUP ≡ at = omega (arith, lowest.within) in
+        index.only key (kind_of key_state) (kind_of-positive key_state searched) (rw (same_group, same_place) lowest.is)
+
+    has : HasKeyState key_states key_state key
+    has = record {
+      within = elim (cases_lt key (length key_states)) [
+        | inl less ↦ less
+        | inr more ↦ absurd (kind_of-positive key_state searched (sym is_kind ∙ ap kind_of (get_or-eq_default key_states Vacant more)))
+      ];
+      is = kind_of-injective (key_state_at key_states key) key_state is_kind;
+    }

@@ -1,5 +1,6 @@
 -- States of keys.
-use Rattle.std.specs.Prelude.{◌≡◌, ℕ, ◌≤◌, ◌<◌, ◌+◌, ◌/◌, Bool, true, false, List, [], length, slice_index_or}
+use Rattle.std.specs.Prelude.{◌≡◌, ◌≢◌, ◌⊎◌, ℕ, ◌≤◌, ◌<◌, ◌+◌, ◌/◌, ◌%◌, List, [], length, slice_index_or}
+use Rattle.std.specs.Int.{bit_at}
 use Rattle.lj_book.specs.declared.key_states.KeyState.{KeyState}
 use Rattle.lj_book.specs.declared.key_states.KeyState.TheVariants.{Vacant, ToTake, Taken, ToFetch}
 use Rattle.lj_book.specs.declared.key_states.TheConstants.{GROUP}
@@ -31,15 +32,33 @@ kind_of ToTake = 1
 kind_of Taken = 2
 kind_of (ToFetch user) = 3 + user
 
--- the notes say that this kind of state may be in the group
-abbrev pub is_noted : List (List Bool) → ℕ → ℕ → Bool
-is_noted groups group kind = slice_index_or (slice_index_or groups group []) kind false
+-- the bit of a place in the mask of a kind
+abbrev pub bit_of : List ℕ → ℕ → ℕ → ℕ
+bit_of masks kind at = bit_at (slice_index_or masks kind 0) at
 
--- each state is noted in its key's group
-abbrev pub Covers : List KeyState → List (List Bool) → Type 0
-Covers key_states groups = (k : ℕ) → k < length key_states → is_noted groups (k / GROUP) (kind_of (key_state_at key_states k)) ≡ true
+-- the bit of a key in the mask of a kind, in the masks of its group
+abbrev pub bit_of_key : List (List ℕ) → ℕ → ℕ → ℕ
+bit_of_key groups kind key = bit_of (slice_index_or groups (key / GROUP) []) kind (key % GROUP)
 
--- there are as many groups as the keys need, and each state is noted
-pub record IsIndexed (key_states : List KeyState) (groups : List (List Bool)) : Type 0 where
+-- the mask has no bit in from..to
+abbrev pub HasNoBit : ℕ → ℕ → ℕ → Type 0
+HasNoBit mask from to = (i : ℕ) → from ≤ i → i < to → bit_at mask i ≡ 0
+
+-- the mask has a bit at this place, and none in from..at
+pub record IsLowestBit (mask from at : ℕ) : Type 0 where
+  pub is : bit_at mask at ≡ 1
+  pub first : from ≤ at
+  pub within : at < GROUP
+  pub none_before : HasNoBit mask from at
+
+-- this bit is in the mask of the kind at the place, and all other bits are as before
+pub record ChangesBit (bit kind at : ℕ) (old new : List ℕ) : Type 0 where
+  pub is : bit_of new kind at ≡ bit
+  pub others : (k i : ℕ) → (k ≢ kind) ⊎ (i ≢ at) → i < GROUP → bit_of new k i ≡ bit_of old k i
+
+-- There are as many groups as the keys need, and the mask of a kind, unless it is that of vacant keys, has the keys whose states are
+-- of this kind.
+pub record IsIndexed (key_states : List KeyState) (groups : List (List ℕ)) : Type 0 where
   pub enough : length groups ≡ length key_states / GROUP + 1
-  pub covers : Covers key_states groups
+  pub all : (k : ℕ) → kind_of (key_state_at key_states k) ≢ 0 → bit_of_key groups (kind_of (key_state_at key_states k)) k ≡ 1
+  pub only : (k kind : ℕ) → kind ≢ 0 → bit_of_key groups kind k ≡ 1 → kind_of (key_state_at key_states k) ≡ kind

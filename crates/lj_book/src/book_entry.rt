@@ -6,6 +6,7 @@ ghost use Rattle.lj_book.specs.Boxes.{has_box_by};
 
 use crate::task_box::{DoneBox, TaskBox};
 use slab::Slab;
+use std::mem;
 
 /// The most entries of a book: tasks that are posted, and neither fetched nor withdrawn.
 pub const MAX_ENTRIES: usize = 1024;
@@ -33,9 +34,8 @@ pub(crate) fn put_for<P, K>(
     ensures len { slab_len entries.new ≡ slab_len entries.old }
     ensures capacity { entries.new.capacity ≡ entries.old.capacity }
 {
-    let was = entries.remove(key);
-    entries.insert_reserved(entry);
-    was
+    let there = entries.get_mut(key).unwrap();
+    mem::replace(there, entry)
 }
 
 /// What a book stores for a task without its result.

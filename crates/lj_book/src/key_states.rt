@@ -1,13 +1,14 @@
 //! A state for each key, and the search for a state.
-ghost use Rattle.std.specs.Prelude.{◌≡◌, ◌≢◌, ◌≤◌, ◌<◌, ◌+◌, ◌*◌, ◌/◌, ℕ, Bool, true, false, max, length, replicate, slice_set, slice_index_or, IfOk, IfSome, IfNone, IsTrue};
+ghost use Rattle.std.specs.Prelude.{◌≡◌, ◌≢◌, ◌≤◌, ◌<◌, ◌+◌, ◌*◌, ◌/◌, ℕ, max, length, replicate, slice_set, slice_index_or, IfOk, IfSome, IfNone};
+ghost use Rattle.lj_book.specs.declared.key_states.KeyState.TheVariants.{Vacant};
 ghost use Rattle.lj_book.specs.Picks.{IsPick};
-ghost use Rattle.lj_book.specs.KeyStates.{HasKeyState, IsLeast, HasNone, kind_of, key_state_at, is_noted, Covers};
+ghost use Rattle.lj_book.specs.KeyStates.{HasKeyState, IsLeast, HasNone, kind_of, ChangesBit, HasNoBit, IsLowestBit};
 
 use std::alloc::{AllocError, Global};
 use std::marker::Model;
 
-/// The number of keys in a group.
-const GROUP: usize = 32;
+/// The number of keys in a group, one for each bit of a mask.
+const GROUP: usize = 64;
 
 /// The number of different states.
 const KINDS: usize = 259;
@@ -39,12 +40,12 @@ impl KeyState {
     }
 }
 
-/// The states of the keys from 0 on. For each group of keys it notes which kinds of states may be there, so that a search
-/// skips the groups without the state.
+/// The states of the keys from 0 on. For each group of keys and each kind of state but vacant it has a mask of the keys that are in
+/// such a state, so that neither a search nor a change looks at the other keys.
 #[derive(Drop)]
 pub(crate) struct KeyStates {
     key_states: Vec<KeyState>,
-    groups: Vec<[bool; KINDS]>,
+    masks: Vec<[u64; KINDS]>,
 }
 
 impl Model for KeyStates {
@@ -57,7 +58,7 @@ impl Model for KeyStates {
 
     ghost use Rattle.lj_book.specs.KeyStates.{IsIndexed};
 
-    ghost invariant = { λ m. IsIndexed m.key_states.items m.groups.items };
+    ghost invariant = { λ m. IsIndexed m.key_states.items m.masks.items };
 }
 
 impl KeyStates {
@@ -66,32 +67,25 @@ impl KeyStates {
         ensures { IfOk result (λ m. m ≡ replicate keys KeyState.Vacant) }
     {
         let key_states = vec![in alloc; KeyState::Vacant; keys]?;
-        let groups = vec![in alloc; vacant_kinds(); keys / GROUP + 1]?;
-        Ok(KeyStates { key_states, groups })
+        let masks = vec![in alloc; no_bits(); keys / GROUP + 1]?;
+        Ok(KeyStates { key_states, masks })
     }
 
+    /// Sets the state of a key.
     pub(crate) fn set(&mut self, key: usize, key_state: KeyState)
         requires { key < length self.old }
         ensures { self.new ≡ slice_set self.old key key_state }
     {
         let was = self.key_states[key];
         self.key_states[key] = key_state;
-        note(
-            self.groups.as_mut_slice(),
-            key / GROUP,
-            key_state.kind(),
-            true,
-        );
-        tidy(
-            self.key_states.as_slice(),
-            self.groups.as_mut_slice(),
-            key,
-            was.kind(),
-        );
+        let masks = &mut self.masks[key / GROUP];
+        clear_bit(masks, was.kind(), key % GROUP);
+        set_bit(masks, key_state.kind(), key % GROUP);
     }
 
     /// Returns the least key from `pick` on that has the state, else the least that has it.
     pub(crate) fn find(&self, key_state: KeyState, pick: usize) -> Option<usize>
+        requires { key_state ≢ Vacant }
         ensures some { IfSome result (λ key. IsPick (HasKeyState self.now key_state) pick key) }
         ensures none { IfNone result (HasNone self.now key_state 0 (length self.now)) }
     {
@@ -103,109 +97,68 @@ impl KeyStates {
 
     /// Returns the least key from `from` on that has the state.
     fn least_from(&self, key_state: KeyState, from: usize) -> Option<usize>
+        requires { key_state ≢ Vacant }
         ensures some { IfSome result (IsLeast self.now key_state from (length self.now)) }
         ensures none { IfNone result (HasNone self.now key_state from (length self.now)) }
     {
-        for group in from / GROUP..self.groups.len() {
-            if let Some(key) = least_in(
-                self.key_states.as_slice(),
-                self.groups.as_slice(),
-                key_state,
-                from,
-                group,
-            ) {
+        for group in from / GROUP..self.masks.len() {
+            if let Some(key) = self.least_in(key_state, from, group) {
                 return Some(key);
             }
         }
         None
     }
-}
 
-/// Returns the kinds of states of a group whose keys are all vacant.
-fn vacant_kinds() -> [bool; KINDS]
-    ensures vacant { slice_index_or result (kind_of KeyState.Vacant) false ≡ true }
-    ensures len { length result ≡ KINDS }
-{
-    let mut kinds = [false; KINDS];
-    kinds[KeyState::Vacant.kind()] = true;
-    kinds
-}
-
-/// Notes that a kind of state may be in a group, or that it is not.
-fn note(groups: &mut [[bool; KINDS]], group: usize, kind: usize, stands: bool)
-    requires group { group < length groups.old }
-    requires kind { kind < KINDS }
-    ensures noted { is_noted groups.new group kind ≡ stands }
-    ensures other_groups { (g k : ℕ) → g ≢ group → is_noted groups.new g k ≡ is_noted groups.old g k }
-    ensures other_kinds { (k : ℕ) → k ≢ kind → is_noted groups.new group k ≡ is_noted groups.old group k }
-{
-    let kinds = &mut groups[group];
-    kinds[kind] = stands;
-}
-
-/// Notes that this kind of state is not in the group of `key`, if no key there has it any more.
-fn tidy(key_states: &[KeyState], groups: &mut [[bool; KINDS]], key: usize, kind: usize)
-    requires within { key < length key_states.now }
-    requires kind { kind < KINDS }
-    requires groups { length key_states.now < GROUP * length groups.old }
-    requires covers { Covers key_states.now groups.old }
-    ensures { Covers key_states.now groups.new }
-{
-    if !stands_beside(key_states, key, kind) {
-        note(groups, key / GROUP, kind, false);
+    /// Returns the least key of a group that has the state, of those from `from` on.
+    fn least_in(&self, key_state: KeyState, from: usize, group: usize) -> Option<usize>
+        requires searched { key_state ≢ Vacant }
+        requires group { group < length self.now / GROUP + 1 }
+        requires near { from < GROUP * group + GROUP }
+        ensures some { IfSome result
+            (λ key. IsLeast self.now key_state (max from (GROUP * group)) (length self.now) key) }
+        ensures none { IfNone result (HasNone self.now key_state (max from (GROUP * group)) (GROUP * group + GROUP)) }
+    {
+        let masks = &self.masks[group];
+        let first = GROUP * group;
+        let at = lowest_bit(masks[key_state.kind()], from.max(first) % GROUP)?;
+        Some(first + at)
     }
 }
 
-/// Returns whether a key in the group of `key` has this kind of state.
-fn stands_beside(key_states: &[KeyState], key: usize, kind: usize) -> bool
-    requires { key < length key_states.now }
-    ensures { result ≡ false → (k : ℕ) → k < length key_states.now → k / GROUP ≡ key / GROUP
-        → kind_of (key_state_at key_states.now k) ≢ kind }
+/// Returns the place of the lowest bit of a mask, of those from `from` on.
+fn lowest_bit(mask: u64, from: usize) -> Option<usize>
+    requires { from < GROUP }
+    ensures some { IfSome result (IsLowestBit mask from) }
+    ensures none { IfNone result (HasNoBit mask from GROUP) }
 {
-    let first = key - key % GROUP;
-    let last = first + GROUP.min(key_states.len() - first);
-    for k in first..last {
-        if key_states[k].kind() == kind {
-            return true;
-        }
-    }
-    false
-}
-
-/// Returns the least key of a group that has the state, of those from `from` on.
-fn least_in(
-    key_states: &[KeyState],
-    groups: &[[bool; KINDS]],
-    key_state: KeyState,
-    from: usize,
-    group: usize,
-) -> Option<usize>
-    requires within { GROUP * group ≤ length key_states.now }
-    requires group { group < length groups.now }
-    requires covers { Covers key_states.now groups.now }
-    ensures some { IfSome result
-        (λ key. IsLeast key_states.now key_state (max from (GROUP * group)) (length key_states.now) key) }
-    ensures none { IfNone result (HasNone key_states.now key_state (max from (GROUP * group)) (GROUP * group + GROUP)) }
-{
-    let kinds = &groups[group];
-    if !kinds[key_state.kind()] {
+    let rest = mask >> from;
+    if rest == 0 {
         return None;
     }
-    let first = GROUP * group;
-    let last = first + GROUP.min(key_states.len() - first);
-    least(key_states, key_state, from.max(first), last)
+    Some(from + rest.trailing_zeros() as usize)
 }
 
-/// Returns the least key in `from..to` that has the state.
-fn least(key_states: &[KeyState], key_state: KeyState, from: usize, to: usize) -> Option<usize>
-    requires { to ≤ length key_states.now }
-    ensures some { IfSome result (IsLeast key_states.now key_state from to) }
-    ensures none { IfNone result (HasNone key_states.now key_state from to) }
+/// Returns masks without a bit.
+fn no_bits() -> [u64; KINDS]
+    ensures { result ≡ replicate KINDS 0 }
 {
-    for key in from..to {
-        if key_states[key] == key_state {
-            return Some(key);
-        }
-    }
-    None
+    [0; KINDS]
+}
+
+/// Clears the bit of a key in the mask of a kind.
+fn clear_bit(masks: &mut [u64; KINDS], kind: usize, at: usize)
+    requires kind { kind < KINDS }
+    requires within { at < GROUP }
+    ensures { ChangesBit 0 kind at masks.old masks.new }
+{
+    masks[kind] = masks[kind] & !(1 << at);
+}
+
+/// Sets the bit of a key in the mask of a kind.
+fn set_bit(masks: &mut [u64; KINDS], kind: usize, at: usize)
+    requires kind { kind < KINDS }
+    requires within { at < GROUP }
+    ensures { ChangesBit 1 kind at masks.old masks.new }
+{
+    masks[kind] = masks[kind] | 1 << at;
 }

@@ -1,18 +1,22 @@
-use Rattle.std.proofs.Common.{◌≡◌, ◌∙◌, arith, length}
-use Rattle.std.proofs.lemmas.List.{take_at}
-use Rattle.lj_book.proofs.KeyStateLemmas.{Covers-set}
+use Rattle.std.proofs.Common.{◌≡◌, ◌<◌, ◌/◌, ◌∙◌, [], get_or, length, arith}
+use Rattle.std.proofs.lemmas.List.{get_or_default}
+use Rattle.lj_book.specs.declared.key_states.TheConstants.{GROUP}
+use Rattle.lj_book.specs.KeyStates.{key_state_at}
+use Rattle.lj_book.specs.declared.key_states.KeyState.TheVariants.{Vacant}
+use Rattle.lj_book.proofs.KeyStateLemmas.{IsIndexed-set}
 use Rattle.lj_book.proofs.key_states.KeyStates.set.Goals as goal
 
-pub tidy-requires-clause-covers : goal.tidy-requires-clause-covers
-tidy-requires-clause-covers c =
-    let long : length c.note.new.groups ≡ c.self.inside.groups.len =
-    omega (arith, c.note.auto.groups, c.as_mut_slice.ensures.len) in
-    let after : c.as_mut_slice-2.result.now ≡ c.note.new.groups =
-    c.as_mut_slice-2.ensures.value ∙ take_at _ _ _ long in
-    let before : c.as_mut_slice.result.now ≡ c.self.inside.groups.items = c.as_mut_slice.ensures.value in
-    rw (after, c.as_slice.ensures.value) (Covers-set c.self.inside.key_states.items c.self.inside.groups.items c.note.new.groups
-    c.args.key c.args.key_state (rw c.self.view_is c.requires)
-    (rw (← c.kind.ensures.value) c.note.ensures.noted)
-    (rw (← before) c.note.ensures.other_groups)
-    (rw (← c.kind.ensures.value, ← before) c.note.ensures.other_kinds)
-    c.self.invariant.covers)
+pub invariant_of-self : goal.invariant_of-self
+invariant_of-self c =
+    let within : c.args.key < length c.self.inside.key_states.items = rw c.self.view_is c.requires in
+    let in_groups : c.args.key / GROUP < length c.self.inside.masks.items = omega (arith, c.self.invariant.enough, within) in
+    let was : c.index-was.result.now ≡ key_state_at c.self.inside.key_states.items c.args.key =
+    c.index-was.ensures ∙ get_or_default c.self.inside.key_states.items c.args.key c.index-was.result.now Vacant within in
+    let masks : c.index_mut-masks.result.now ≡ get_or c.self.inside.masks.items (c.args.key / GROUP) [] =
+    c.index_mut-masks.ensures.value
+    ∙ get_or_default c.self.inside.masks.items (c.args.key / GROUP) c.index_mut-masks.result.now [] in_groups in
+    IsIndexed-set c.self.inside.key_states.items c.self.inside.masks.items c.clear_bit.new.masks c.set_bit.new.masks
+    c.args.key c.args.key_state within
+    (rw (← was, ← c.kind.ensures.value, ← masks) c.clear_bit.ensures)
+    (rw (← c.kind-2.ensures.value) c.set_bit.ensures)
+    c.self.invariant
