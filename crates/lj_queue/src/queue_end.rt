@@ -29,6 +29,8 @@ pub struct QueueEnd<'p, L: PoolIdentity, R: Wait> {
     number: u64,
     user: u8,
     unsignalled: UnsignalledPosts,
+    /// Whether the last fetch took all results that were there, so that the next poll need not ask the pool.
+    took_all: bool,
     ghost whose: { boxes.hand.user ≡ user },
 }
 
@@ -73,6 +75,7 @@ impl<'p, L: PoolIdentity, R: Wait> QueueEnd<'p, L, R> {
             number,
             user,
             unsignalled: UnsignalledPosts::new(),
+            took_all: false,
         }
     }
 
@@ -154,6 +157,7 @@ impl<'p, L: PoolIdentity, R: Wait> Pool for QueueEnd<'p, L, R> {
                 self.account.owed(),
                 &mut self.boxes.hand,
             );
+            self.took_all = true;
         }
         let fetched = self.hand_out();
         if !fetched {
@@ -232,14 +236,22 @@ impl<'p, L: PoolIdentity, R: Wait> QueueEnd<'p, L, R> {
         is_closed
     }
 
-    /// Fetches the results that are there if none is in hand. Returns whether some are in hand now.
+    /// Fetches the results that are there if none is in hand, unless all were fetched since the last look. Returns whether some are
+    /// in hand now.
     fn look(&mut self) -> bool
         ensures some { result ≡ true → 0 < length self.new.hand }
         ensures none { result ≡ false → self.new.hand ≡ [] }
         ensures kept { 0 < length self.old.hand → self.new.hand ≡ self.old.hand }
         ensures unchanged { self.new ≡ record self.old { hand = self.new.hand } }
     {
-        !self.boxes.hand.is_empty() || self.pool.poll(self.rt, self.user, &mut self.boxes.hand)
+        if !self.boxes.hand.is_empty() {
+            return true;
+        }
+        if mem::take(&mut self.took_all) {
+            return false;
+        }
+        self.took_all = self.pool.poll(self.rt, self.user, &mut self.boxes.hand);
+        self.took_all
     }
 
     /// Shows the next result in hand. Returns false if there is none.

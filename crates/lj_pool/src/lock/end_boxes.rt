@@ -11,6 +11,7 @@ use arrayvec::ArrayVec;
 use lj_book::{DoneBox, TaskBox};
 use lj_tile::{Done, DoneRef, Task};
 use std::marker::Model;
+use std::mem;
 
 /// The most results that an end has in hand, fetched and not handed out yet.
 pub const MAX_IN_HAND: usize = 16;
@@ -30,6 +31,8 @@ pub(crate) struct EndBoxes {
     last: Option<DoneBox>,
     hand: ArrayVec<Option<DoneBox>, MAX_IN_HAND>,
     spare: ArrayVec<Option<TaskBox>, MAX_SPARE>,
+    /// Whether the last fetch took all results that the pool had, so that the next poll need not ask it.
+    took_all: bool,
 }
 
 impl Model for EndBoxes {
@@ -52,6 +55,7 @@ impl EndBoxes {
             last: None,
             hand: ArrayVec::new(),
             spare: ArrayVec::new(),
+            took_all: false,
         }
     }
 
@@ -71,6 +75,21 @@ impl EndBoxes {
         ensures most { result ≤ MAX_IN_HAND }
     {
         self.hand.len()
+    }
+
+    /// Notes a fetch: it took all results that the pool had if there is room for more. Returns whether it did.
+    pub(crate) fn note_fetch(&mut self) -> bool
+        ensures { self.new ≡ self.old }
+    {
+        self.took_all = !self.hand.is_full();
+        self.took_all
+    }
+
+    /// Returns whether the last fetch took all results that the pool had, once after each fetch.
+    pub(crate) fn forget_fetch(&mut self) -> bool
+        ensures { self.new ≡ self.old }
+    {
+        mem::take(&mut self.took_all)
     }
 
     /// Returns whether a box is spare.

@@ -211,7 +211,8 @@ impl<L: Ledger> LockPool<L> {
     }
 
     /// Hands out the user's next result in hand. If there is none, takes as many results of the user that are in the book now as
-    /// there is room for, and hands out the first. Returns false where there is none, or the pool is closed.
+    /// there is room for, and hands out the first. Returns false where there is none, or the pool is closed. The first poll after
+    /// all results were taken returns false too, and takes no lock.
     #[tactic(auto, using(crate::proofs::EndBoxLemmas::next_in_hand, crate::proofs::EndBoxLemmas::next_fetched))]
     pub(crate) fn poll<R: Wait>(&self, rt: &R, user: u8, own: &mut EndBoxes) -> bool
         ensures next { result ≡ true
@@ -224,15 +225,19 @@ impl<L: Ledger> LockPool<L> {
         if own.hand_out(user) {
             return true;
         }
+        if own.forget_fetch() {
+            return false;
+        }
         let state = self.state.lock(rt);
         self.fetch_from(state, user, own).unwrap_or(false)
     }
 
     /// Adds the spare boxes of the end to those of the pool, takes as many results of the user in hand as there is room for, and
-    /// unlocks the state. Wakes ends that wait for room if there is some now. Returns false where the pool is closed.
+    /// unlocks the state. Wakes ends that wait for room if there is some now, and, unless there may be further results, workers for
+    /// the tasks that none was woken for. Returns false where the pool is closed.
     ///
     /// # Errors
-    /// The state, where there is no result yet. Waiting workers are then woken for the tasks that none was woken for.
+    /// The state, where there is no result yet.
     fn fetch_from<'d>(
         &self,
         state: MutexGuard<'d, PoolState<L>>,
@@ -254,7 +259,13 @@ impl<L: Ledger> LockPool<L> {
             self.wake_workers(state.unsignalled.take_due(1));
             return Err(state);
         }
+        let tasks = if own.note_fetch() {
+            state.unsignalled.take_due(1)
+        } else {
+            0
+        };
         drop(state);
+        self.wake_workers(tasks);
         Ok(fetched)
     }
 

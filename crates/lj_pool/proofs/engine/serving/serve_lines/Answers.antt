@@ -169,3 +169,6 @@ items-preserved g c =
       own = c.answer.ensures.own ∙ c.work_ahead.ensures.own ∙ c.items.invariant.own;
       quota = c.answer.ensures.quota ∙ c.work_ahead.ensures.goes_on.quota ∙ c.items.invariant.quota;
     }
+
+pub answer-requires-clause-idle : goal.answer-requires-clause-idle
+answer-requires-clause-idle g c = ahead_idle c.items.invariant.idle c.work_ahead.ensures.goes_on
