@@ -117,18 +117,16 @@ number_at tiles u frame i number is_cover within read =
 
 -- the number that the code reads for the i-th tile of an open step
 pub tile_found : (u : Composition) (frame : List Place) (p : Partial) (kind : Kind) (tiles : List ℕ) (now : Sim)
-    (i read number : ℕ) → p.kind ≡ Some kind → IsPartial u frame p p.kind
+    (i number : ℕ) → p.kind ≡ Some kind → IsPartial u frame p p.kind
     → tiles ≡ p.tiles.items → u ≡ now.composition → frame ≡ now.sim.cur → i < length tiles
-    → read ≡ slice_index_or tiles i read → number ≡ read
+    → number ≡ slice_index_or tiles i number
     → (is_tile now.composition now.sim.cur number ≡ true) × (number < 64 * blocks (length now.sim.cur))
     × (slice_get (cover now.composition now.sim.cur) i ≡ Some number)
-tile_found u frame p kind tiles now i read number kind_is h tiles_are units_are frame_is within read_is number_is =
+tile_found u frame p kind tiles now i number kind_is h tiles_are units_are frame_is within read =
     let is_cover =
     tiles_are ∙ (open_of u frame p kind kind_is h).tiles ∙ ap (λ v. cover v frame) units_are
     ∙ ap (cover now.composition) frame_is in
-    let found = number_at tiles now.composition now.sim.cur i read is_cover within read_is in
-    subst (λ k. (is_tile now.composition now.sim.cur k ≡ true) × (k < 64 * blocks (length now.sim.cur))
-    × (slice_get (cover now.composition now.sim.cur) i ≡ Some k)) (sym number_is) found
+    number_at tiles now.composition now.sim.cur i number is_cover within read
 
 -- the i-th task of an open step
 pub task_found : (live : Sim) (label : Label) (p : OpenStep) (i number : ℕ) → live.part ≡ Some p

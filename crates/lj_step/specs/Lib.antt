@@ -2,6 +2,7 @@ pub mod Motion
 pub mod Sim
 pub mod Sets
 pub mod OpenSteps
+pub mod TileIds
 pub mod TileTasks
 pub mod Sums
 pub mod Kept

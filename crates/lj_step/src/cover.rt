@@ -6,6 +6,7 @@ ghost use Rattle.lj_step.specs.OpenSteps as steps;
 ghost use Rattle.lj_step.specs.Kept.{block_arcs};
 
 use crate::atoms::Atoms;
+use crate::tile_id::TileId;
 use lj_ring::{Arcs, Place};
 use lj_tile::BLOCK;
 
@@ -29,15 +30,15 @@ pub(crate) fn block(frame: &[Place], index: usize) -> &[Place]
     &frame[start..end]
 }
 
-/// Returns whether a step over a frame has a tile of this number, by the arcs of its blocks.
-pub(crate) fn is_tile(number: usize, arcs: &[Arcs], atoms: &Atoms, frame: &[Place]) -> bool
-    requires within { number < 64 * steps.blocks (length frame.now) }
+/// Returns whether a step over a frame has this tile, by the arcs of its blocks.
+pub(crate) fn is_tile(tile: TileId, arcs: &[Arcs], atoms: &Atoms, frame: &[Place]) -> bool
+    requires within { tile < 64 * steps.blocks (length frame.now) }
     requires most { length frame.now ≤ MAX_ATOMS }
     requires arcs { arcs.now
         ≡ map (block_arcs frame.now) (range_with_len 0 (steps.blocks (length frame.now))) }
-    ensures { result ≡ steps.is_tile atoms.now frame.now number }
+    ensures { result ≡ steps.is_tile atoms.now frame.now tile }
 {
-    let (first, second) = (number / BLOCK, number % BLOCK);
+    let (first, second) = (tile.first(), tile.second());
     second < blocks(frame.len())
         && first <= second
         && !is_out_of_reach(first, second, arcs, atoms, frame)

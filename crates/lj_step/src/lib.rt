@@ -10,6 +10,7 @@ mod partial;
 pub mod round_trip;
 mod simulations;
 mod snapshots;
+mod tile_id;
 
 pub use frames::{Frame, Frames, MAX_ATOMS};
 pub use simulations::{Displacement, MAX_STEP, NotAwaited, Sim, Stray};

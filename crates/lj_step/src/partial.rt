@@ -13,6 +13,7 @@ ghost use Rattle.lj_step.specs.Kept.{block_arcs, set_numbers};
 
 use crate::atoms::Atoms;
 use crate::cover::{block, blocks, is_tile};
+use crate::tile_id::TileId;
 use lj_ring::{Arcs, Place};
 use lj_tile::{BLOCK, DoneRef, Kind, Push};
 use std::alloc::{AllocError, Global};
@@ -24,8 +25,8 @@ pub(crate) struct Partial {
     pub kind: Option<Kind>,
     /// The arcs of each block of the frame.
     pub arcs: Vec<Arcs>,
-    /// The numbers of the cover's tiles, in order.
-    pub tiles: Vec<u16>,
+    /// The cover's tiles, in order of their numbers.
+    pub tiles: Vec<TileId>,
     /// For each tile number, whether the tile is still awaited.
     pub awaited: Vec<bool>,
     /// The number of awaited tiles.
@@ -101,7 +102,7 @@ impl Partial {
         ensures size { unsigned_abs self.new.energy ≤ unsigned_abs self.old.energy + 2 ^ 63 }
     {
         let name = done.task().name();
-        let number = BLOCK * usize::from(name.bi) + usize::from(name.bj);
+        let number = TileId::of_task(done.task()).number();
         match name.kind {
             Kind::Force => add_pushes(self.pushes.as_mut_slice(), done),
             Kind::Energy => self.energy = plus_energy(self.energy, done),
@@ -135,12 +136,12 @@ fn await_tiles(awaited: &mut Vec<bool>, arcs: &[Arcs], atoms: &Atoms, frame: &[P
         ≡ map (steps.is_tile atoms.now frame.now) (range_with_len 0 (64 * steps.blocks (length frame.now))) }
 {
     for number in 0..BLOCK * blocks(frame.len()) {
-        awaited[number] = is_tile(number, arcs, atoms, frame);
+        awaited[number] = is_tile(TileId::of_number(number), arcs, atoms, frame);
     }
 }
 
-/// Writes the numbers of the awaited tiles to the list reserved for them.
-fn list_tiles(tiles: &mut Vec<u16>, awaited: &[bool])
+/// Writes the awaited tiles to the list reserved for them.
+fn list_tiles(tiles: &mut Vec<TileId>, awaited: &[bool])
     requires room { length awaited.now ≤ vec_capacity tiles.old }
     requires most { length awaited.now ≤ 64 * 64 }
     ensures tiles { tiles.new.items ≡ set_numbers awaited.now }
@@ -149,7 +150,7 @@ fn list_tiles(tiles: &mut Vec<u16>, awaited: &[bool])
     tiles.clear();
     for (number, is_awaited) in awaited.iter().enumerate() {
         if *is_awaited {
-            tiles.push_reserved(number as u16);
+            tiles.push_reserved(TileId::of_number(number));
         }
     }
 }

@@ -20,9 +20,10 @@ use crate::frames::{Frames, next_place, overwrite};
 use crate::measures::{self, Momentum};
 use crate::partial::Partial;
 use crate::snapshots::Snapshot;
+use crate::tile_id::TileId;
 use lj_base::Label;
 use lj_ring::{Edge, Mix, Place};
-use lj_tile::{BLOCK, Done, DoneRef, Kind, Push, Task, TaskName};
+use lj_tile::{Done, DoneRef, Kind, Push, Task, TaskName};
 use std::alloc::{AllocError, Global};
 use std::marker::Model;
 use std::mem;
@@ -250,10 +251,10 @@ impl Sim {
         let Some(kind) = self.partial.kind else {
             return false;
         };
-        let Some(number) = self.partial.tiles.as_slice().get(i) else {
+        let Some(tile) = self.partial.tiles.as_slice().get(i) else {
             return false;
         };
-        self.write_task(label, kind, usize::from(*number), out);
+        self.write_task(label, kind, *tile, out);
         true
     }
 
@@ -264,10 +265,10 @@ impl Sim {
         let Some(_) = self.partial.kind else {
             return false;
         };
-        let Some(number) = self.partial.tiles.as_slice().get(i) else {
+        let Some(tile) = self.partial.tiles.as_slice().get(i) else {
             return false;
         };
-        self.partial.awaited[usize::from(*number)]
+        self.partial.awaited[tile.number()]
     }
 
     /// Accepts the result of a tile that the open step awaits.
@@ -358,35 +359,34 @@ impl Sim {
         let Some(kind) = self.partial.kind else {
             return false;
         };
-        let name = task.name();
-        let number = BLOCK * usize::from(name.bi) + usize::from(name.bj);
-        match self.partial.awaited.as_slice().get(number) {
-            Some(true) => self.is_task_of(task, label, kind, number),
+        let tile = TileId::of_task(task);
+        match self.partial.awaited.as_slice().get(tile.number()) {
+            Some(true) => self.is_task_of(task, label, kind, tile),
             _ => false,
         }
     }
 
     /// Returns whether this is the task of a tile of the present step. It copies no places.
-    fn is_task_of(&self, task: &Task, label: &Label, kind: Kind, number: usize) -> bool
-        requires tile { steps.is_tile self.now.composition self.now.sim.cur number ≡ true }
-        requires within { number < 64 * steps.blocks (length self.now.sim.cur) }
-        ensures { IsTrue result ↔ (task.now ≡ steps.task_of self.now label.now kind number) }
+    fn is_task_of(&self, task: &Task, label: &Label, kind: Kind, tile: TileId) -> bool
+        requires tile { steps.is_tile self.now.composition self.now.sim.cur tile ≡ true }
+        requires within { tile < 64 * steps.blocks (length self.now.sim.cur) }
+        ensures { IsTrue result ↔ (task.now ≡ steps.task_of self.now label.now kind tile) }
     {
-        let name = self.name_of(label, kind, number);
-        let (first, second) = (number / BLOCK, number % BLOCK);
+        let name = self.name_of(label, kind, tile);
+        let (first, second) = (tile.first(), tile.second());
         let a = (self.block(first), self.atoms.species_bits(first));
         let b = (self.block(second), self.atoms.species_bits(second));
         task.is_of(&name, self.atoms.mix(), a, b)
     }
 
     /// Writes the task of a tile of the present step to `out`.
-    fn write_task(&self, label: &Label, kind: Kind, number: usize, out: &mut Task)
-        requires tile { steps.is_tile self.now.composition self.now.sim.cur number ≡ true }
-        requires within { number < 64 * steps.blocks (length self.now.sim.cur) }
-        ensures { out.new ≡ steps.task_of self.now label.now kind number }
+    fn write_task(&self, label: &Label, kind: Kind, tile: TileId, out: &mut Task)
+        requires tile { steps.is_tile self.now.composition self.now.sim.cur tile ≡ true }
+        requires within { tile < 64 * steps.blocks (length self.now.sim.cur) }
+        ensures { out.new ≡ steps.task_of self.now label.now kind tile }
     {
-        let name = self.name_of(label, kind, number);
-        let (first, second) = (number / BLOCK, number % BLOCK);
+        let name = self.name_of(label, kind, tile);
+        let (first, second) = (tile.first(), tile.second());
         out.remake(
             name,
             self.atoms.mix(),
@@ -396,16 +396,16 @@ impl Sim {
     }
 
     /// Returns the name of the task of a tile of the present step.
-    fn name_of(&self, label: &Label, kind: Kind, number: usize) -> TaskName
-        requires { number < 64 * steps.blocks (length self.now.sim.cur) }
-        ensures { result ≡ (steps.task_of self.now label.now kind number).name }
+    fn name_of(&self, label: &Label, kind: Kind, tile: TileId) -> TaskName
+        requires { tile < 64 * steps.blocks (length self.now.sim.cur) }
+        ensures { result ≡ (steps.task_of self.now label.now kind tile).name }
     {
         TaskName {
             label: label.copy(),
             step: self.step,
             kind,
-            bi: (number / BLOCK) as u8,
-            bj: (number % BLOCK) as u8,
+            bi: tile.first() as u8,
+            bj: tile.second() as u8,
         }
     }
 

@@ -13,7 +13,7 @@ loop-number-preserved c =
     elim c.if-is_awaited.branch [
       | then-is_awaited w ↦
           let pushed : c.if-is_awaited.tiles.items ≡ old ++ n ∷ [] =
-          ap (λ v. v.items) w.tiles-is ∙ w.push_reserved.ensures.items in
+          ap (λ v. v.items) w.tiles-is ∙ w.push_reserved.ensures.items ∙ ap (λ k. old ++ k ∷ []) w.of_number.ensures in
           record {
             tiles = one_kept p n old c.if-is_awaited.tiles.items c.loop-number.invariant.tiles w.if-is_awaited.true pushed;
             few = few_more n old c.if-is_awaited.tiles.items pushed c.loop-number.invariant.few;
