@@ -95,28 +95,33 @@ unfolding length_in
 outside frame b i h (inl below) = omega arith
 outside frame b i h (inr past) = let count = block_length frame b in omega (arith, h, past, count)
 
+-- a sum for place t of block a over the atoms of block b is the push of the tile on that atom
+sum_value : (live : Sim) (k a b t : ℕ) (sum : Push) → t < length (block live.sim.cur a)
+    → ((i j : ℕ) → i / 64 ≡ a → are_between (first_block k) (second_block k) i j ≡ (j / 64 == b))
+    → (t < length_in a (length live.sim.cur) → sum ≡ block_force live.composition live.sim.cur (64 * a + t) b)
+    → sum ≡ tile_force live.composition live.sim.cur (tile_of Force k) (64 * a + t)
+sum_value live k a b t sum h between is =
+    let within : t < length_in a (length live.sim.cur) = subst (λ n. t < n) (block_length live.sim.cur a) h in
+    is within
+    ∙ sym (tile_force_in live.composition live.sim.cur (first_block k) (second_block k) (64 * a + t) b
+    (λ j. between (64 * a + t) j (atom_block (length live.sim.cur) a t within)))
+
 force_value : (live : Sim) (label : Label) (k : ℕ)
     → HasForces live.composition live.sim.cur (tile_of Force k) (task_of live label Force k)
-force_value live label k = record {
-  kind = refl;
-  first = λ t h.
-      let within : t < length_in (first_block k) (length live.sim.cur) =
-      subst (λ n. t < n) (block_length live.sim.cur (first_block k)) h in
-      task_is live.composition live.sim.cur (task_of live label Force k) t refl refl refl within
-      ∙ sym (tile_force_in live.composition live.sim.cur (first_block k) (second_block k) (64 * first_block k + t)
-      (second_block k) (λ j. between_first (first_block k) (second_block k) (64 * first_block k + t) j
-      (atom_block (length live.sim.cur) (first_block k) t within)));
-  second = λ before s h.
-      let within : s < length_in (second_block k) (length live.sim.cur) =
-      subst (λ n. s < n) (block_length live.sim.cur (second_block k)) h in
-      second_is live.composition live.sim.cur (task_of live label Force k) s refl refl refl within
-      ∙ sym (tile_force_in live.composition live.sim.cur (first_block k) (second_block k) (64 * second_block k + s)
-      (first_block k) (λ j. between_second (first_block k) (second_block k) (64 * second_block k + s) j
-      (atom_block (length live.sim.cur) (second_block k) s within)));
-  others = λ i h first second.
-      tile_force_other live.composition live.sim.cur (first_block k) (second_block k) i
-      (outside live.sim.cur (first_block k) i h first) (outside live.sim.cur (second_block k) i h second);
-}
+force_value live label k =
+    let bi = first_block k in
+    let bj = second_block k in
+    let work = task_of live label Force k in
+    record {
+      kind = refl;
+      first = λ t h. sum_value live k bi bj t _ h (between_first bi bj)
+          (task_is live.composition live.sim.cur work t refl refl refl);
+      second = λ before s h. sum_value live k bj bi s _ h (between_second bi bj)
+          (second_is live.composition live.sim.cur work s refl refl refl);
+      others = λ i h first second.
+          tile_force_other live.composition live.sim.cur bi bj i (outside live.sim.cur bi i h first)
+          (outside live.sim.cur bj i h second);
+    }
 
 pick_energy : (first second ordered : Bool) (e : ℤ) → ordered ≡ true
     → (if first && second && ordered then e else pos 0) ≡ (if second then (if first then e else pos 0) else pos 0)
