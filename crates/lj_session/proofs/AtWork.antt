@@ -17,10 +17,10 @@ use Rattle.lj_session.specs.Answers.{session_named, command_result, can_advance}
 use Rattle.lj_session.specs.Users.{User}
 use Rattle.lj_session.specs.UserState.{OthersKept, StepsFollow, StepsAfter, StepsAfterLoad, SameSteps, IsIdle, Performs, steps_before, with_start, settled_session, user_of}
 use Rattle.lj_session.proofs.Performing.{IsFarIn, steps-same, start-done}
-use Rattle.lj_session.specs.UserState.{LiveSession, UserState, IsAtWork, kind_owed, is_measured, live_session, with_live_session, with_session_changed, with_step, with_more_owed, with_step_finished, with_step_taken, with_step_restarted, with_steps_restarted, with_posted, with_passed_to, next_tile, with_tile_in}
+use Rattle.lj_session.specs.UserState.{LiveSession, UserState, IsAtWork, kind_owed, is_measured, live_session, with_live_session, with_session_changed, with_step, with_more_owed, with_step_finished, with_step_taken, with_step_restarted, with_steps_restarted, with_posted, with_tile_in}
 use Rattle.lj_session.proofs.Entries.{by_test, named-put_any, named-put_other, named-seen}
 use Rattle.lj_session.proofs.Holding.{changed-some, named-held}
-use Rattle.lj_session.proofs.Tiles.{posted-live}
+use Rattle.lj_session.proofs.Tiles.{posted-live, posted-same}
 
 same_Some : {A : Type 0} (x y : A) → Some x ≡ Some y → x ≡ y
 same_Some x y e = cc
@@ -55,11 +55,7 @@ kind-taken k None = refl
 kind-taken k (Some p) = refl
 
 pub owed-posted : (held : LiveSession) → (with_posted held).owed ≡ held.owed
-owed-posted held = by (next_tile held)
-  where
-    by : (o : Option ℕ) → (with_passed_to o held).owed ≡ held.owed
-    by None = refl
-    by (Some i) = refl
+owed-posted = posted-same (λ held. held.owed) (λ n held. refl)
 
 -- a session is as it was but for its tiles
 pub kind_owed-same : (waiting : Option Command) (name : List ℕ) (held new : LiveSession) → new.owed ≡ held.owed

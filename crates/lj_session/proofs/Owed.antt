@@ -1,12 +1,13 @@
 -- Steps that are owed: their number, the count of atoms, and the session that is meant.
-use Rattle.std.proofs.Common.{◌≡◌, ℕ, zero, suc, ◌+◌, ◌-◌, ◌<◌, ◌&&◌, nat_le, nat_lt, pos, ◌+ℤ◌, ◌*ℤ◌, length, Option, Some, None, refl, sym, ◌∙◌, ap, arith}
+use Rattle.std.proofs.Common.{◌≡◌, ℕ, zero, suc, ◌+◌, ◌-◌, ◌<◌, ◌&&◌, nat_le, nat_lt, pos, ◌+ℤ◌, ◌*ℤ◌, length, refl, sym, ◌∙◌, ap, arith}
 use Rattle.std.proofs.lemmas.Int.{ints}
 use Rattle.lj_tile.specs.Species.{Composition}
 use Rattle.lj_step.specs.Motion.{Simulation, next_simulation, steps}
 use Rattle.lj_session.specs.Users.{atoms_of}
-use Rattle.lj_session.specs.UserState.{LiveSession, as_session, settled_session, with_more_owed, with_step_finished, with_step_taken, with_step_restarted, with_posted, with_passed_to, next_tile}
+use Rattle.lj_session.specs.UserState.{LiveSession, as_session, settled_session, with_more_owed, with_step_finished, with_step_taken, with_step_restarted, with_posted}
 use Rattle.lj_session.proofs.Entries.{by_test}
 use Rattle.lj_session.proofs.Counts.{count-stepped}
+use Rattle.lj_session.proofs.Tiles.{posted-same}
 
 pub count-steps : (u : Composition) (n : ℕ) (sim : Simulation) → length (steps u n sim).cur ≡ length sim.cur
 count-steps u zero sim = refl
@@ -72,11 +73,7 @@ meant-rest held = by_test (nat_lt 0 held.owed) (λ t. rw t refl) (λ t. rw t ref
 
 -- noting a tile as posted leaves it
 pub meant-posted : (held : LiveSession) → settled_session (with_posted held) ≡ settled_session held
-meant-posted held = by (next_tile held)
-  where
-    by : (o : Option ℕ) → settled_session (with_passed_to o held) ≡ settled_session held
-    by None = refl
-    by (Some i) = refl
+meant-posted = posted-same settled_session (λ n held. refl)
 
 -- what is owed and passed leaves the count of atoms, and what is saved
 pub count-owing : (n : ℕ) (held : LiveSession) → length (with_more_owed n held).live.sim.cur ≡ length held.live.sim.cur

@@ -32,20 +32,20 @@ find-here test i n o below passes found =
     sym (find-step test i n below ∙ ap (λ b. cond b (Some i) (find test (range_with_len (i + 1) (n - (i + 1))))) passes)
     ∙ found
 
--- noting a tile as posted leaves the simulation and the session
-pub posted-live : (held : LiveSession) → (with_posted held).live ≡ held.live
-posted-live held = by (next_tile held)
+-- noting a tile as posted leaves all that does not depend on how many are, as the simulation and the session
+pub posted-same : {A : Type 0} (read : LiveSession → A) → ((n : ℕ) (held : LiveSession) → read (record held { passed = n }) ≡ read held)
+    → (held : LiveSession) → read (with_posted held) ≡ read held
+posted-same read same held = by (next_tile held)
   where
-    by : (o : Option ℕ) → (with_passed_to o held).live ≡ held.live
+    by : (o : Option ℕ) → read (with_passed_to o held) ≡ read held
     by None = refl
-    by (Some i) = refl
+    by (Some i) = same (i + 1) held
+
+pub posted-live : (held : LiveSession) → (with_posted held).live ≡ held.live
+posted-live = posted-same (λ held. held.live) (λ n held. refl)
 
 pub posted-session : (held : LiveSession) → as_session (with_posted held) ≡ as_session held
-posted-session held = by (next_tile held)
-  where
-    by : (o : Option ℕ) → as_session (with_passed_to o held) ≡ as_session held
-    by None = refl
-    by (Some i) = refl
+posted-session = posted-same as_session (λ n held. refl)
 
 -- what is found passes the test
 pub find-passes : {A : Type 0} (test : A → Bool) (xs : List A) (x : A) → find test xs ≡ Some x → test x ≡ true
