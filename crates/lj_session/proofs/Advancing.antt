@@ -12,7 +12,7 @@ use Rattle.lj_session.specs.Users.{Session, User}
 use Rattle.lj_session.specs.Answers.{command_result, answer, reply_and_user, can_advance, with_sim}
 use Rattle.lj_session.proofs.Entries.{named-put, put-put}
 use Rattle.lj_session.proofs.Owed.{step-steps}
-use Rattle.lj_session.proofs.Performing.{advance-on}
+use Rattle.lj_session.proofs.Performing.{steps-done}
 use Rattle.lj_session.proofs.Turning.{near-nothing}
 
 -- what is answered where no refusal is
@@ -29,7 +29,7 @@ module _ (user : User) (name : List ℕ) (session : Session) (found : value_name
   -- what the ADVANCE is answered
   pub advanced : (mark : Bool) → answer user (Advance name n) mark
       ≡ (reply.Advanced name after.sim.step, with_sim name session after.sim user)
-  advanced mark = ap (reply_and_user user) (advance-on user name mark session found n near)
+  advanced mark = ap (reply_and_user user) (steps-done user name mark session found n near).0
 
   -- the step number after the steps is in range
   pub in_range : unsigned_abs (steps session.composition n session.sim).step ≤ 10 ^ 12
@@ -48,6 +48,6 @@ module _ (user : User) (name : List ℕ) (session : Session) (found : value_name
       let still = near-nothing after in_range in
       let again = put-put name user.sessions session after after found in
       ap (reply_and_user (with_sim name session after.sim user))
-      (advance-on (with_sim name session after.sim user) name mark after then 0 still)
+      (steps-done (with_sim name session after.sim user) name mark after then 0 still).0
       ∙ ap (λ (entries : List (List ℕ × Session)). (reply.Advanced name after.sim.step, record user { sessions = entries })) again
       ∙ sym (advanced mark)

@@ -16,7 +16,7 @@ use Rattle.lj_session.specs.Turns.{waits_for}
 use Rattle.lj_session.specs.Answers.{session_named, command_result, can_advance}
 use Rattle.lj_session.specs.Users.{User}
 use Rattle.lj_session.specs.UserState.{OthersKept, StepsFollow, StepsAfter, StepsAfterLoad, SameSteps, IsIdle, Performs, steps_before, with_start, settled_session, user_of}
-use Rattle.lj_session.proofs.Performing.{IsFarIn, steps-same, start-done}
+use Rattle.lj_session.proofs.Performing.{IsFarIn, steps-same, steps-done}
 use Rattle.lj_session.specs.UserState.{LiveSession, UserState, IsAtWork, kind_owed, is_measured, live_session, with_live_session, with_session_changed, with_step, with_more_owed, with_step_finished, with_step_taken, with_step_restarted, with_steps_restarted, with_posted, with_tile_in}
 use Rattle.lj_session.proofs.Entries.{by_test, named-put_any, named-put_other, named-seen}
 use Rattle.lj_session.proofs.Holding.{changed-some, named-held}
@@ -213,8 +213,8 @@ at_work-performed old new command (Err refusal) performs same work =
 refused-far : (old : UserState) (command : Command) (refusal : Refusal) (mark : Bool)
     → command_result (user_of old) command mark ≡ Err refusal → IsFarIn old command
 refused-far old (Start session n) refusal mark h name held is there = by_test (can_advance (settled_session held) n)
-    (λ t. absurd (ok_err _ (sym (start-done (user_of old) session mark (settled_session held)
-    (named-held old session held (ap (live_session old) (same_Some session name is) ∙ there)) n t) ∙ h)))
+    (λ t. absurd (ok_err _ (sym (steps-done (user_of old) session mark (settled_session held)
+    (named-held old session held (ap (live_session old) (same_Some session name is) ∙ there)) n t).1 ∙ h)))
     (λ t. t)
   where
     ok_err : (x : Reply × User) → Ok x ≡ Err refusal → ⊥

@@ -63,7 +63,7 @@ module _ (old : UserState) (name : List ℕ) (held : LiveSession) (found : live_
       → Performs old (Start name n) (Ok (reply.Started name (settled_session (with_more_owed n held)).sim.step))
       (with_live_session name (with_more_owed n held) old)
   start n near = put_in _ _ (with_more_owed n held) refl
-      (performing.start-done (user_of old) name false (settled_session held) (named-held old name held found) n near
+      ((performing.steps-done (user_of old) name false (settled_session held) (named-held old name held found) n near).1
       ∙ ap (λ (s : Session). Ok (reply.Started name s.sim.step, with_session name s (user_of old)))
       (sym (meant-owing n held)))
       (rw near refl)
@@ -75,14 +75,14 @@ module _ (old : UserState) (name : List ℕ) (held : LiveSession) (found : live_
       user_of-put old name (with_more_owed n held)
       ∙ ap (λ (s : Session). with_session name s (user_of old)) (meant-owing n held)
       ∙ sym (ap (λ r. (reply_and_user (user_of old) r).1)
-      (performing.advance-on (user_of old) name false (settled_session held) (named-held old name held found) n near))
+      (performing.steps-done (user_of old) name false (settled_session held) (named-held old name held found) n near).0)
 
   -- an ADVANCE by 0 leaves the user
   pub advance-nothing : can_advance (settled_session held) 0 ≡ true → (mark : Bool)
       → command_result (user_of old) (Advance name 0) mark ≡ Ok (reply.Advanced name (settled_session held).sim.step, user_of old)
   advance-nothing near mark =
       let session = named-held old name held found in
-      performing.advance-on (user_of old) name mark (settled_session held) session 0 near
+      (performing.steps-done (user_of old) name mark (settled_session held) session 0 near).0
       ∙ ap (λ (s : List (List ℕ × Session)). Ok (
         reply.Advanced name (settled_session held).sim.step,
         record { quota = old.quota; sessions = s },

@@ -97,50 +97,34 @@ none user Bye mark absent = absurd absent
 
 module _ (user : User) (name : List ℕ) (mark : Bool) where
   module _ (session : Session) (found : value_named name user.sessions ≡ Some session) where
-    pub advance-far : (n : ℕ) → can_advance session n ≡ false → command_result user (Advance name n) mark ≡ Err StepRange
+    pub steps-far : (n : ℕ) → can_advance session n ≡ false
+        → (command_result user (Advance name n) mark ≡ Err StepRange) × (command_result user (Start name n) mark ≡ Err StepRange)
     unfolding command_result
-    advance-far n far = rw (found, far) refl
+    steps-far n far = (rw (found, far) refl, rw (found, far) refl)
 
-    pub advance-on : (n : ℕ) → can_advance session n ≡ true
-        → command_result user (Advance name n) mark ≡ Ok (
-          reply.Advanced name (steps session.composition n session.sim).step,
-          with_sim name session (steps session.composition n session.sim) user,
-        )
+    pub steps-done : (n : ℕ) → can_advance session n ≡ true
+        → (let sim = steps session.composition n session.sim in
+        let next = with_sim name session sim user in
+        (command_result user (Advance name n) mark ≡ Ok (reply.Advanced name sim.step, next))
+        × (command_result user (Start name n) mark ≡ Ok (reply.Started name sim.step, next)))
     unfolding command_result
-    advance-on n near = rw (found, near) refl
-
-    pub start-far : (n : ℕ) → can_advance session n ≡ false → command_result user (Start name n) mark ≡ Err StepRange
-    unfolding command_result
-    start-far n far = rw (found, far) refl
-
-    pub start-done : (n : ℕ) → can_advance session n ≡ true
-        → command_result user (Start name n) mark ≡ Ok (
-          reply.Started name (steps session.composition n session.sim).step,
-          with_sim name session (steps session.composition n session.sim) user,
-        )
-    unfolding command_result
-    start-done n near = rw (found, near) refl
+    steps-done n near = (rw (found, near) refl, rw (found, near) refl)
 
     pub reverse-done : command_result user (Reverse name) mark
         ≡ Ok (reply.Reversed name (reversal session.sim).step, with_sim name session (reversal session.sim) user)
     unfolding command_result
     reverse-done = rw found refl
 
-    pub restore-no_branch : (branch : List ℕ) → value_named branch session.saved ≡ None
-        → command_result user (Restore name branch) mark ≡ Err NoBranch
+    pub no_branch : (branch : List ℕ) → value_named branch session.saved ≡ None
+        → (command_result user (Restore name branch) mark ≡ Err NoBranch) × (command_result user (Forget name branch) mark ≡ Err NoBranch)
     unfolding command_result
-    restore-no_branch branch none = rw (found, none) refl
+    no_branch branch none = (rw (found, none) refl, rw (found, none) refl)
 
     pub restore-done : (branch : List ℕ) (sim : Simulation) → value_named branch session.saved ≡ Some sim
         → command_result user (Restore name branch) mark
         ≡ Ok (reply.Restored name branch sim.step, with_sim name session sim user)
     unfolding command_result
     restore-done branch sim saved = rw (found, saved) refl
-
-    pub forget-no_branch : (branch : List ℕ) → value_named branch session.saved ≡ None
-        → command_result user (Forget name branch) mark ≡ Err NoBranch
-    unfolding command_result
-    forget-no_branch branch none = rw (found, none) refl
 
     pub forget-done : (branch : List ℕ) (sim : Simulation) → value_named branch session.saved ≡ Some sim
         → command_result user (Forget name branch) mark

@@ -12,16 +12,15 @@ use Rattle.lj_session.proofs.state.UserState.advance_at_once.Goals as goal
 
 pub returns-in_default : goal.returns-in_default
 returns-in_default c = λ mark.
-    let old = c.args.self.now in
-    performing.none (user_of old) _ mark (named-absent old c.args.name (sym c.in_default.ensures))
+    performing.none (user_of c.args.self.now) _ mark (named-absent c.args.self.now c.args.name (sym c.in_default.ensures))
 
 pub returns-then-not-can_advance : goal.returns-then-not-can_advance
 returns-then-not-can_advance c = λ mark.
     let old = c.args.self.now in
     let held = c.in-Some.session.now in
-    performing.advance-far (user_of old) c.args.name mark (settled_session held)
+    (performing.steps-far (user_of old) c.args.name mark (settled_session held)
     (named-held old c.args.name held (sym c.in-Some.ensures)) c.args.steps
-    (sym c.can_advance.ensures ∙ c.if-not-can_advance.true)
+    (sym c.can_advance.ensures ∙ c.if-not-can_advance.true)).0
 
 pub returns : goal.returns
 returns c = λ mark.

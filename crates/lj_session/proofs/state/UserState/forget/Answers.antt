@@ -31,10 +31,10 @@ pub returns-in_err-forget-clause-performs : goal.returns-in_err-forget-clause-pe
 returns-in_err-forget-clause-performs c =
     let held = c.in-Some.session.now in
     performs-refused c.args.self.now _ _ c.from_residual.result _ c.from_residual.ensures.1
-    (performing.refused c.args.self.now _ _ _ (performing.forget-no_branch (user_of c.args.self.now)
+    (performing.refused c.args.self.now _ _ _ (performing.no_branch (user_of c.args.self.now)
     c.args.name false (settled_session held)
     (is_there c.self.inside c.args.self.now c.self.view_is c.args.name held c.in-Some.ensures.value)
-    c.args.branch (none-if (value_named c.args.branch held.saved) c.in_err-forget.ensures.found.1)))
+    c.args.branch (none-if (value_named c.args.branch held.saved) c.in_err-forget.ensures.found.1)).1)
 
 pub returns-in_err-forget-clause-unchanged : goal.returns-in_err-forget-clause-unchanged
 returns-in_err-forget-clause-unchanged c =

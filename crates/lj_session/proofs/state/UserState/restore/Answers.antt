@@ -36,10 +36,10 @@ pub returns-in_err-restore-clause-performs : goal.returns-in_err-restore-clause-
 returns-in_err-restore-clause-performs c =
     let held = c.in-Some.session.now in
     performs-refused c.args.self.now _ _ c.from_residual.result _ c.from_residual.ensures.1
-    (performing.refused c.args.self.now _ _ _ (performing.restore-no_branch (user_of c.args.self.now)
+    (performing.refused c.args.self.now _ _ _ (performing.no_branch (user_of c.args.self.now)
     c.args.name false (as_session held)
     (is_settled c.self.inside c.args.self.now c.self.view_is c.args.name held c.in-Some.ensures.value c.requires)
-    c.args.branch (none-if (value_named c.args.branch held.saved) c.in_err-restore.ensures.found.1)))
+    c.args.branch (none-if (value_named c.args.branch held.saved) c.in_err-restore.ensures.found.1)).0)
 
 pub returns-in_err-restore-clause-unchanged : goal.returns-in_err-restore-clause-unchanged
 returns-in_err-restore-clause-unchanged c =

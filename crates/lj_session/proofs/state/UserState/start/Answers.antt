@@ -36,10 +36,10 @@ invariant_of-self-then-not-can_advance c =
 
 pub returns-then-not-can_advance-clause-performs : goal.returns-then-not-can_advance-clause-performs
 returns-then-not-can_advance-clause-performs c =
-    performing.refused c.args.self.now _ _ _ (performing.start-far (user_of c.args.self.now)
+    performing.refused c.args.self.now _ _ _ (performing.steps-far (user_of c.args.self.now)
     c.args.name false (settled_session c.in-Some.session.now)
     (is_there c.self.inside c.args.self.now c.self.view_is c.args.name c.in-Some.session.now c.in-Some.ensures.value)
-    c.args.steps (sym c.can_advance.ensures ∙ c.if-not-can_advance.true))
+    c.args.steps (sym c.can_advance.ensures ∙ c.if-not-can_advance.true)).1
 
 pub returns-then-not-can_advance-clause-unchanged : goal.returns-then-not-can_advance-clause-unchanged
 returns-then-not-can_advance-clause-unchanged c =
