@@ -1,11 +1,12 @@
 -- Whether the quota has room, by the running totals.
 use Rattle.std.proofs.Common.{◌≡◌, ℕ, ◌+◌, ◌<◌, ◌≤◌, true, false, Result, Err, nat_lt, nat_le, ap, ◌∙◌, arith}
 use Rattle.std.proofs.lemmas.Bool.{false≢true, lt-ltb, le-ltb, le-leb, lt-leb, ltb-true, leb-true, leb-false}
+use Rattle.lj_quota.specs.declared.Quota.{Quota}
 use Rattle.lj_quota.specs.declared.Used.{Used}
 use Rattle.lj_quota.specs.declared.Over.{Over}
 use Rattle.lj_session.specs.declared.state.UserState.TheInside.{Inside}
 use Rattle.lj_session.specs.Totals.{state_of_kept}
-use Rattle.lj_session.specs.Users.{sessions_used, atoms_used, branches_used}
+use Rattle.lj_session.specs.Users.{sessions_used, atoms_used}
 use Rattle.lj_session.specs.UserState.{UserState, user_of, used_by}
 use Rattle.lj_session.proofs.Entries.{by_test}
 
@@ -30,13 +31,13 @@ module _ (a : Inside) (old : UserState) (view : state_of_kept a ≡ old) (counte
   before : a.used ≡ used_by old
   before = counted ∙ ap used_by view
 
-  pub sessions-over : a.quota.sessions < a.used.sessions + 1
-      → nat_lt (sessions_used (user_of old)) old.quota.sessions ≡ false
-  sessions-over = more-over (ap (λ (v : Used). v.sessions) before) (ap (λ (o : UserState). o.quota.sessions) view)
+  -- one more of what the totals and the quota count
+  module _ (total : Used → ℕ) (limit : Quota → ℕ) where
+    pub one-over : limit a.quota < total a.used + 1 → nat_lt (total (used_by old)) (limit old.quota) ≡ false
+    one-over = more-over (ap total before) (ap (λ (o : UserState). limit o.quota) view)
 
-  pub sessions-room : a.used.sessions + 1 ≤ a.quota.sessions
-      → nat_lt (sessions_used (user_of old)) old.quota.sessions ≡ true
-  sessions-room = more-room (ap (λ (v : Used). v.sessions) before) (ap (λ (o : UserState). o.quota.sessions) view)
+    pub one-room : total a.used + 1 ≤ limit a.quota → nat_lt (total (used_by old)) (limit old.quota) ≡ true
+    one-room = more-room (ap total before) (ap (λ (o : UserState). limit o.quota) view)
 
   pub sessions-within : nat_lt (sessions_used (user_of old)) old.quota.sessions ≡ true
       → a.used.sessions + 1 ≤ a.quota.sessions
@@ -45,14 +46,6 @@ module _ (a : Inside) (old : UserState) (view : state_of_kept a ≡ old) (counte
       let q = ap (λ (o : UserState). o.quota.sessions) view in
       let h = ltb-true (sessions_used (user_of old)) old.quota.sessions room in
       omega (arith, h, u, q)
-
-  pub branches-over : a.quota.branches < a.used.branches + 1
-      → nat_lt (branches_used (user_of old)) old.quota.branches ≡ false
-  branches-over = more-over (ap (λ (v : Used). v.branches) before) (ap (λ (o : UserState). o.quota.branches) view)
-
-  pub branches-room : a.used.branches + 1 ≤ a.quota.branches
-      → nat_lt (branches_used (user_of old)) old.quota.branches ≡ true
-  branches-room = more-room (ap (λ (v : Used). v.branches) before) (ap (λ (o : UserState). o.quota.branches) view)
 
   module _ (atoms count : ℕ) (same : atoms ≡ count) where
     pub atoms-over : a.quota.atoms < a.used.atoms + atoms

@@ -4,7 +4,7 @@ use Rattle.lj_quota.specs.declared.Over.TheVariants.{Sessions}
 use Rattle.lj_session.specs.Faults.{quota_refusal}
 use Rattle.lj_session.proofs.Loading as loading
 use Rattle.lj_session.proofs.Results.{refused}
-use Rattle.lj_session.proofs.Limits.{over-limit, same_over, sessions-over, sessions-room}
+use Rattle.lj_session.proofs.Limits.{over-limit, same_over, one-over, one-room}
 use Rattle.lj_session.specs.UserState.{user_of}
 use Rattle.lj_session.proofs.state.UserState.admit.Goals as goal
 
@@ -24,7 +24,7 @@ returns-in_err-may_session c =
     ∙ (ap (λ (o : Over). Err (quota_refusal o)) which
     ∙ sym (loading.admitted-over (user_of old) c.args.load.now
     (sym c.has.ensures ∙ c.if-has.false)
-    (sessions-over c.self.inside old c.self.view_is c.self.invariant.counted over)))
+    (one-over c.self.inside old c.self.view_is c.self.invariant.counted (λ used. used.sessions) (λ quota. quota.sessions) over)))
 
 pub returns : goal.returns
 returns c =
@@ -32,4 +32,4 @@ returns c =
     c.mix.ensures
     ∙ sym (loading.admitted-mix (user_of old) c.args.load.now
     (sym c.has.ensures ∙ c.if-has.false)
-    (sessions-room c.self.inside old c.self.view_is c.self.invariant.counted (c.in_ok-may_session.ensures.may.0 refl)))
+    (one-room c.self.inside old c.self.view_is c.self.invariant.counted (λ used. used.sessions) (λ quota. quota.sessions) (c.in_ok-may_session.ensures.may.0 refl)))

@@ -7,7 +7,7 @@ use Rattle.lj_session.specs.Faults.{quota_refusal}
 use Rattle.lj_session.specs.declared.reply.Reply.TheVariants as reply
 use Rattle.lj_session.specs.UserState.{LiveSession, with_saved, as_session, user_of}
 use Rattle.lj_session.proofs.Entries.{length-new}
-use Rattle.lj_session.proofs.Limits.{over-limit, same_over, branches-over, branches-room}
+use Rattle.lj_session.proofs.Limits.{over-limit, same_over, one-over, one-room}
 use Rattle.lj_session.proofs.Performing as performing
 use Rattle.lj_session.proofs.Outcomes as outcomes
 use Rattle.lj_session.proofs.Outcomes.{read-step}
@@ -78,7 +78,7 @@ returns-in_err-may_branch-clause-performs c =
     (performing.branch-over (user_of c.args.self.now) c.args.name false (as_session held)
     (is_settled c.self.inside c.args.self.now c.self.view_is c.args.name held c.in-Some.ensures.value c.requires) c.args.branch
     (is_new (goal.at.returns-in_err-may_branch-clause-performs c).After-may_branch)
-    (branches-over c.self.inside c.args.self.now c.self.view_is c.self.invariant.counted over))))
+    (one-over c.self.inside c.args.self.now c.self.view_is c.self.invariant.counted (λ used. used.branches) (λ quota. quota.branches) over))))
 
 pub returns-in_err-may_branch-clause-unchanged : goal.returns-in_err-may_branch-clause-unchanged
 returns-in_err-may_branch-clause-unchanged c =
@@ -100,7 +100,7 @@ returns-in_err-save-clause-performs c =
     (ap (λ b. is_some (value_named b held.saved)) c.copy.ensures ∙ new))
     (performing.branch-memory (user_of c.args.self.now) c.args.name (as_session held)
     (is_settled c.self.inside c.args.self.now c.self.view_is c.args.name held c.in-Some.ensures.value c.requires) c.args.branch new
-    (branches-room c.self.inside c.args.self.now c.self.view_is c.self.invariant.counted
+    (one-room c.self.inside c.args.self.now c.self.view_is c.self.invariant.counted (λ used. used.branches) (λ quota. quota.branches)
     (c.in_ok-may_branch.ensures.may.0 refl))))
 
 pub returns-in_err-save-clause-unchanged : goal.returns-in_err-save-clause-unchanged
@@ -121,7 +121,7 @@ invariant_of-self-2 c =
       reached = reached_as wrote _ _ _
           (outcomes.branch c.args.self.now c.args.name held wrote.found
           (none_owed c.self.inside c.args.self.now c.self.view_is c.args.name held c.in-Some.ensures.value c.requires)
-          c.args.branch new (branches-room c.self.inside c.args.self.now c.self.view_is c.self.invariant.counted
+          c.args.branch new (one-room c.self.inside c.args.self.now c.self.view_is c.self.invariant.counted (λ used. used.branches) (λ quota. quota.branches)
           (c.in_ok-may_branch.ensures.may.0 refl))) saved;
     }
 
@@ -134,7 +134,7 @@ returns-clause-performs c =
     done_at wrote _ (reply.Branched c.args.name c.args.branch) _ _ _
     (outcomes.branch c.args.self.now c.args.name held wrote.found
     (none_owed c.self.inside c.args.self.now c.self.view_is c.args.name held c.in-Some.ensures.value c.requires) c.args.branch new
-    (branches-room c.self.inside c.args.self.now c.self.view_is c.self.invariant.counted
+    (one-room c.self.inside c.args.self.now c.self.view_is c.self.invariant.counted (λ used. used.branches) (λ quota. quota.branches)
     (c.in_ok-may_branch.ensures.may.0 refl)))
     (read-step c.step-step.result c.step-step.ensures.most
     ∙ (c.step-step.ensures.value ∙ ap (λ (l : Sim). l.sim.step) c.sim.ensures
