@@ -10,7 +10,7 @@ use Rattle.lj_session.proofs.Passing.{forces, others-closed, rests-closed}
 use Rattle.lj_session.proofs.Owing.{turns-kept, turns-some, unwaited-owed, unwaited-work, unwaited-apart, owed-apart}
 use Rattle.lj_session.proofs.Turned.{measured-whole, measured-last, measured-replied, measured-work}
 use Rattle.lj_session.proofs.Turned.{passed-whole, passed-work, passed-last, passed-more, passed-rests, passed-others}
-use Rattle.lj_session.proofs.owner.Owner.turn_session.Goals.{After-owed, Then-owed-eq0}
+use Rattle.lj_session.proofs.owner.Owner.turn_session.Goals.{After-owed, After-begin, Then-owed-eq0}
 use Rattle.lj_session.proofs.owner.Owner.turn_session.Goals as goal
 
 same_Some : (a b : List ℕ) → Some a ≡ Some b → a ≡ b
@@ -140,6 +140,16 @@ invariant_of-self-2 c =
           (sym c.take.ensures.after) tt;
     }
 
+-- the other sessions stay
+others : (c : After-begin) → is_waited_for c.self.inside.waiting c.args.name.now ≡ true
+    → is_whole_in c.self.inside.state c.args.name.now ≡ true
+    → OtherSessionsKept c.args.name.now c.args.self.now.state c.begin.new.self.state
+others c waited whole =
+    subst (λ (owner : Owner). OtherSessionsKept c.args.name.now owner.state c.begin.new.self.state) c.self.view_is
+    (passed-others (owner_of_kept c.self.inside) c.args.name.now c.in_ok-command.command c.in_ok-command.ensures.value
+    waited c.self.invariant.at_work whole (some_of _ _ c.if-owed-eq0.false c.owed.ensures)
+    c.finish_step-2.new.self c.finish_step-2.ensures.passed c.begin.new.self.state c.begin.ensures.others)
+
 pub returns-in-Answered-clause-last : goal.returns-in-Answered-clause-last
 returns-in-Answered-clause-last c =
     let p = goal.at.returns-in-Answered-clause-last c in (
@@ -166,10 +176,7 @@ returns-in-Answered-clause-refused c =
 pub returns-in-Answered-clause-others : goal.returns-in-Answered-clause-others
 returns-in-Answered-clause-others c =
     let p = goal.at.returns-in-Answered-clause-others c in
-    subst (λ (owner : Owner). OtherSessionsKept c.args.name.now owner.state c.begin.new.self.state) c.self.view_is
-    (passed-others (owner_of_kept c.self.inside) c.args.name.now c.in_ok-command.command c.in_ok-command.ensures.value
-    (waited_for p.After-owed) c.self.invariant.at_work (whole_for p.After-owed) (some_of _ _ c.if-owed-eq0.false c.owed.ensures)
-    c.finish_step-2.new.self c.finish_step-2.ensures.passed c.begin.new.self.state c.begin.ensures.others)
+    others p.After-begin (waited_for p.After-owed) (whole_for p.After-owed)
 
 pub returns-in-Running-clause-last : goal.returns-in-Running-clause-last
 returns-in-Running-clause-last c =
@@ -185,7 +192,4 @@ returns-in-Running-clause-last c =
 pub returns-in-Running-clause-others : goal.returns-in-Running-clause-others
 returns-in-Running-clause-others c =
     let p = goal.at.returns-in-Running-clause-others c in
-    subst (λ (owner : Owner). OtherSessionsKept c.args.name.now owner.state c.begin.new.self.state) c.self.view_is
-    (passed-others (owner_of_kept c.self.inside) c.args.name.now c.in_ok-command.command c.in_ok-command.ensures.value
-    (waited_for p.After-owed) c.self.invariant.at_work (whole_for p.After-owed) (some_of _ _ c.if-owed-eq0.false c.owed.ensures)
-    c.finish_step-2.new.self c.finish_step-2.ensures.passed c.begin.new.self.state c.begin.ensures.others)
+    others p.After-begin (waited_for p.After-owed) (whole_for p.After-owed)

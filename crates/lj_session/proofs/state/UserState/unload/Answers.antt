@@ -1,4 +1,4 @@
-use Rattle.std.proofs.Common.{◌≡◌, Some, None, Ok, false, length, refl, sym, ap, ◌∙◌, arith}
+use Rattle.std.proofs.Common.{◌≡◌, Some, None, Ok, false, length, refl, sym, ap, ◌∙◌, ◌≤◌, arith}
 use Rattle.lj_branch.specs.Named.{value_named, without_value}
 use Rattle.lj_step.specs.Sim.{Sim}
 use Rattle.lj_session.proofs.Holding.{taken-of}
@@ -31,23 +31,24 @@ returns-in_default-clause-performs c =
     performing.refused old _ _ _ (performing.none (user_of old) _ false
     (not_there c.self.inside old c.self.view_is c.args.name c.in_default.ensures.value))
 
+-- its atoms and saved simulations are among those counted
+within : (c : In-Some) → (length c.in-Some.session.live.sim.cur ≤ c.self.inside.used.atoms)
+    × (length c.in-Some.session.saved ≤ c.self.inside.used.branches)
+within c =
+    let old = c.args.self.now in (
+      atoms-within c.self.inside old c.self.view_is c.self.invariant.counted c.args.name c.in-Some.session (found c) old,
+      saved-within c.self.inside old c.self.view_is c.self.invariant.counted c.args.name c.in-Some.session (found c) old,
+    )
+
 pub overflow_sub-self-2 : goal.overflow_sub-self-2
 overflow_sub-self-2 c =
-    let old = c.args.self.now in
-    let held = c.in-Some.session in
-    let there = found (goal.at.overflow_sub-self-2 c).In-Some in
-    let most = atoms-within c.self.inside old c.self.view_is c.self.invariant.counted c.args.name held there old in
-    let n = c.count.ensures.value ∙ ap (λ (l : Sim). length l.sim.cur) c.sim.ensures in
-    omega (arith, most, n)
+    let most = (within (goal.at.overflow_sub-self-2 c).In-Some).0 in
+    let n = c.count.ensures.value ∙ ap (λ (l : Sim). length l.sim.cur) c.sim.ensures in omega (arith, most, n)
 
 pub overflow_sub-self-3 : goal.overflow_sub-self-3
 overflow_sub-self-3 c =
-    let old = c.args.self.now in
-    let held = c.in-Some.session in
-    let there = found (goal.at.overflow_sub-self-3 c).In-Some in
-    let most = saved-within c.self.inside old c.self.view_is c.self.invariant.counted c.args.name held there old in
-    let n = c.len.ensures.value ∙ ap length c.branches.ensures in
-    omega (arith, most, n)
+    let most = (within (goal.at.overflow_sub-self-3 c).In-Some).1 in
+    let n = c.len.ensures.value ∙ ap length c.branches.ensures in omega (arith, most, n)
 
 -- the session is given up
 unloaded : (c : In-Some) → Performs c.args.self.now (Unload c.args.name) (Ok (Unloaded c.args.name))
