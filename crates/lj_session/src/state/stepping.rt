@@ -47,10 +47,7 @@ impl UserState {
         ensures distinct { IsDistinct bytes_eq (names self.new) }
     {
         for i in 0..self.sessions.len() {
-            let Some(session) = self.sessions.get_index_mut(i) else {
-                return;
-            };
-            session.restart_step();
+            self.sessions.get_index_mut(i).unwrap().restart_step();
         }
     }
 

@@ -1,15 +1,14 @@
 use Rattle.std.proofs.Common.{◌≡◌, ℕ, suc, ◌+◌, List, length, Some, slice_get, map, refl, sym, ap, ◌∙◌, subst, arith}
-use Rattle.std.specs.Prelude.{IsSome}
 use Rattle.std.specs.List.{IsDistinct}
+use Rattle.std.specs.Option.{option_copied_mut}
 use Rattle.std.specs.Str.{bytes_eq}
-use Rattle.std.proofs.lemmas.Bool.{false≢true}
 use Rattle.indexmap.specs.IndexMap.{set_value_at}
 use Rattle.lj_quota.specs.declared.Quota.{Quota}
 use Rattle.lj_session.specs.UserState.{LiveSession, UserState, Reached, names, with_steps_restarted, used_by, user_of}
 use Rattle.lj_session.proofs.Reaching.{reached-same}
 use Rattle.lj_session.proofs.Resting.{rested_to, rested_at, rested_next, rested_all, rested_used, rested_names, length-rested_to}
 use Rattle.lj_session.proofs.Waiting.{rested_user}
-use Rattle.lj_session.proofs.state.UserState.restart_steps.Goals.{After-loop-i, In_default}
+use Rattle.lj_session.proofs.state.UserState.restart_steps.Goals.{After-loop-i}
 use Rattle.lj_session.proofs.state.UserState.restart_steps.Goals as goal
 
 pub loop-i-init : goal.loop-i-init
@@ -49,41 +48,26 @@ pub returns-clause-user : goal.returns-clause-user
 returns-clause-user c = ap user_of (all c) ∙ rested_user c.args.self.now
 
 -- each index below the length has its session
-there : (c : In_default) → ⊥
-there c =
+pub unwrap-requires : goal.unwrap-requires
+unwrap-requires c =
     let count : length c.loop-i.self-inside.sessions.entries ≡ c.len-i-end.result =
     ap length c.loop-i.invariant.entries ∙ length-rested_to c.loop-i.i c.args.self.now.sessions
     ∙ ap (λ (o : UserState). length o.sessions) (sym c.self.view_is) ∙ sym c.len-i-end.ensures.len in
     let below = c.loop-i-test.true in
-    none_some (c.get_index_mut.ensures.found.1 (omega (arith, below, count)))
-  where
-    none_some : IsSome c.get_index_mut.result → ⊥
-    none_some h = false≢true (rw c.in_default.is at h)
-
-pub invariant_of-self-in_default : goal.invariant_of-self-in_default
-invariant_of-self-in_default c = absurd (there (goal.at.invariant_of-self-in_default c).In_default)
-
-pub returns-in_default-clause-rested : goal.returns-in_default-clause-rested
-returns-in_default-clause-rested c = absurd (there (goal.at.returns-in_default-clause-rested c).In_default)
-
-pub returns-in_default-clause-distinct : goal.returns-in_default-clause-distinct
-returns-in_default-clause-distinct c = absurd (there (goal.at.returns-in_default-clause-distinct c).In_default)
-
-pub returns-in_default-clause-user : goal.returns-in_default-clause-user
-returns-in_default-clause-user c = absurd (there (goal.at.returns-in_default-clause-user c).In_default)
+    c.get_index_mut.ensures.found.1 (omega (arith, below, count))
 
 pub loop-i-preserved : goal.loop-i-preserved
 loop-i-preserved c =
     let sessions = c.args.self.now.sessions in
     let i = c.loop-i.i in
-    let found : slice_get (map (λ (e : List ℕ × LiveSession). e.1) sessions) i ≡ Some c.in-Some.session.now =
+    let found : slice_get (map (λ (e : List ℕ × LiveSession). e.1) sessions) i ≡ Some c.unwrap.result.now =
     sym (rested_at i sessions)
     ∙ ap (λ (es : List (List ℕ × LiveSession)). slice_get (map (λ (e : List ℕ × LiveSession). e.1) es) i) (sym c.loop-i.invariant.entries)
-    ∙ sym c.in-Some.ensures.value in
+    ∙ sym c.get_index_mut.ensures.value ∙ ap option_copied_mut c.unwrap.ensures in
     record {
       entries = ap (λ (es : List (List ℕ × LiveSession)). set_value_at es i c.restart_step.new.self) c.loop-i.invariant.entries
           ∙ ap (set_value_at (rested_to i sessions) i) c.restart_step.ensures
-          ∙ rested_next i sessions c.in-Some.session.now found
+          ∙ rested_next i sessions c.unwrap.result.now found
           ∙ ap (λ n. rested_to n sessions) (let one : suc i ≡ i + 1 = omega arith in one);
       quota = c.loop-i.invariant.quota;
       used = c.loop-i.invariant.used;
