@@ -1,5 +1,5 @@
 -- A session written through the map of names in the code: what is held then, its user, and the running totals.
-use Rattle.std.proofs.Common.{◌≡◌, ℕ, ◌+◌, ◌-◌, ◌<◌, ◌≤◌, ℤ, List, length, Option, Some, None, Ok, false, sym, ap, subst, ◌∙◌, arith}
+use Rattle.std.proofs.Common.{◌≡◌, ℕ, ◌+◌, ◌-◌, ◌<◌, ◌≤◌, ℤ, List, length, Option, Some, None, Ok, Err, false, sym, ap, subst, ◌∙◌, arith}
 use Rattle.std.specs.Str.{bytes_eq}
 use Rattle.std.specs.Map.{set_value}
 use Rattle.lj_branch.specs.Named.{value_named}
@@ -12,6 +12,8 @@ use Rattle.lj_session.specs.UserState.{with_live_session, with_session_changed}
 use Rattle.lj_session.specs.Answers.{answer}
 use Rattle.lj_session.specs.Totals.{state_of_kept, IsState}
 use Rattle.lj_session.proofs.Entries.{put-same, set-put}
+use Rattle.lj_session.specs.declared.refusal.Refusal.TheVariants.{NoSession}
+use Rattle.lj_session.proofs.Performing.{IsAbsent, refused, none}
 use Rattle.lj_session.proofs.Holding.{named-held, named-settled, named-absent, owed-of, changed-some, user_of-kept}
 use Rattle.lj_session.proofs.Reaching.{reached-answer, reached-performs, reached-same}
 use Rattle.lj_session.proofs.Totals.{same_used, used-same, sessions-changed, atoms-changed, branches-changed}
@@ -22,9 +24,16 @@ pub looked_up : (a : Inside) (old : UserState) → state_of_kept a ≡ old → (
 looked_up a old view name found h = ap (λ (state : UserState). live_session state name) (sym view) ∙ sym h
 
 -- what is not in the map is no session of the user
-pub not_there : (a : Inside) (old : UserState) → state_of_kept a ≡ old → (name : List ℕ) → None ≡ value_named name a.sessions.entries
+not_there : (a : Inside) (old : UserState) → state_of_kept a ≡ old → (name : List ℕ) → None ≡ value_named name a.sessions.entries
     → value_named name (user_of old).sessions ≡ None
 not_there a old view name h = named-absent old name (looked_up a old view name None h)
+
+-- so a command of it is refused
+pub absent : {a : Inside} {old : UserState} → IsState a → state_of_kept a ≡ old → (name : List ℕ) → None ≡ value_named name a.sessions.entries
+    → (command : Command) (new : UserState) → (value_named name (user_of old).sessions ≡ None → IsAbsent (user_of old) command)
+    → Performs old command (Err NoSession) new
+absent {a} {old} state view name h command new is =
+    refused old new command NoSession (none (user_of old) command false (is (not_there a old view name h)))
 
 -- what is in the map is one
 pub is_there : (a : Inside) (old : UserState) → state_of_kept a ≡ old → (name : List ℕ) (held : LiveSession)
@@ -55,12 +64,11 @@ pub record Writes (a : Inside) (old : UserState) (name : List ℕ) (held new : L
   pub counted : a.used ≡ used_by old
   pub reached : Reached old
 
-pub writes : (a : Inside) (old : UserState) → state_of_kept a ≡ old → IsState a
-    → (name : List ℕ) (held : LiveSession)
-    → Some held ≡ value_named name a.sessions.entries → (entries : List (List ℕ × LiveSession)) (new : LiveSession)
+pub writes : {a : Inside} {old : UserState} {held new : LiveSession} {entries : List (List ℕ × LiveSession)} (name : List ℕ)
+    → IsState a → state_of_kept a ≡ old → Some held ≡ value_named name a.sessions.entries
     → entries ≡ set_value (bytes_eq name) a.sessions.entries new
     → Writes a old name held new (record { quota = a.quota; sessions = entries })
-writes a old view state name held found entries new set = record {
+writes {a} {old} {held} {new} name state view found set = record {
   found = looked_up a old view name (Some held) found;
   is = ap (λ (es : List (List ℕ × LiveSession)). record { quota = a.quota; sessions = es })
       (set ∙ set-put name a.sessions.entries held new (sym found))
@@ -88,7 +96,7 @@ module _ {a : Inside} {old : UserState} {name : List ℕ} {held new : LiveSessio
   pub reached_kept : settled_session new ≡ settled_session held → Reached next
   reached_kept same = reached-same old next w.reached (user_kept same)
 
-  pub reached_unchanged : new ≡ held → Reached next
+  reached_unchanged : new ≡ held → Reached next
   reached_unchanged same = reached_kept (ap settled_session same)
 
   same_quota : next.quota ≡ old.quota
@@ -122,8 +130,20 @@ module _ {a : Inside} {old : UserState} {name : List ℕ} {held new : LiveSessio
       → length new.saved ≡ length held.saved → a.used ≡ used_by next
   totals_kept atoms saved = w.counted ∙ sym (used-same old name new held w.found atoms saved) ∙ ap used_by (sym w.is)
 
-  pub totals_unchanged : new ≡ held → a.used ≡ used_by next
+  pub totals_as : (other : LiveSession) → new ≡ other → length other.live.sim.cur ≡ length held.live.sim.cur
+      → length other.saved ≡ length held.saved → a.used ≡ used_by next
+  totals_as other is atoms saved =
+      totals_kept (ap (λ (h : LiveSession). length h.live.sim.cur) is ∙ atoms) (ap (λ (h : LiveSession). length h.saved) is ∙ saved)
+
+  totals_unchanged : new ≡ held → a.used ≡ used_by next
   totals_unchanged same = w.counted ∙ ap used_by (sym (unchanged same))
+
+  -- so the invariant stays
+  pub still : new ≡ held → (b : Inside) → b.used ≡ a.used → state_of_kept b ≡ next → IsState b
+  still same b used is = record {
+    counted = used ∙ totals_unchanged same ∙ ap used_by (sym is);
+    reached = subst Reached (sym is) (reached_unchanged same);
+  }
 
   module _ (atoms : length new.live.sim.cur ≡ length held.live.sim.cur) where
     -- with other numbers of saved simulations

@@ -12,24 +12,10 @@ use Rattle.lj_session.proofs.Performing as performing
 use Rattle.lj_session.proofs.Outcomes as outcomes
 use Rattle.lj_session.proofs.Outcomes.{read-step}
 use Rattle.lj_session.proofs.Results.{performs-refused, performs-starved, on_err, none-of, not-saved, is_some-counted}
-use Rattle.lj_session.proofs.Writing.{Writes, not_there, writes, is_settled, none_owed, unchanged, totals_unchanged, totals_saved}
-use Rattle.lj_session.proofs.Writing.{reached_as, reached_unchanged, done_at}
+use Rattle.lj_session.proofs.Writing.{writes, is_settled, none_owed, unchanged, totals_saved, absent, still}
+use Rattle.lj_session.proofs.Writing.{reached_as, done_at}
 use Rattle.lj_session.proofs.state.UserState.branch.Goals.{In-Some, After-may_branch, After-save}
 use Rattle.lj_session.proofs.state.UserState.branch.Goals as goal
-
--- what is written in the session
-written : (c : After-save) → Writes c.self.inside c.args.self.now c.args.name c.in-Some.session.now c.save.new.self
-    (record { quota = c.self.inside.quota; sessions = (c.get_mut.follows.lender c.save.new.self).entries })
-written c =
-    writes c.self.inside c.args.self.now c.self.view_is c.self.invariant c.args.name _ c.in-Some.ensures.value _
-    c.save.new.self (c.get_mut.follows.holds c.save.new.self).0
-
--- the session is written once more as it was
-as_was : (c : In-Some) → Writes c.self.inside c.args.self.now c.args.name c.in-Some.session.now c.in-Some.session.now
-    (record { quota = c.self.inside.quota; sessions = (c.get_mut.follows.lender c.in-Some.session.now).entries })
-as_was c =
-    writes c.self.inside c.args.self.now c.self.view_is c.self.invariant c.args.name _ c.in-Some.ensures.value _
-    c.in-Some.session.now (c.get_mut.follows.holds c.in-Some.session.now).0
 
 -- nothing is saved under the name yet
 is_new : (c : After-may_branch) → is_some (value_named c.args.branch c.in-Some.session.now.saved) ≡ false
@@ -40,13 +26,12 @@ is_new c =
 
 pub returns-in_default-clause-performs : goal.returns-in_default-clause-performs
 returns-in_default-clause-performs c =
-    performing.refused c.args.self.now _ _ _ (performing.none (user_of c.args.self.now) _ false
-    (not_there c.self.inside c.args.self.now c.self.view_is c.args.name c.in_default.ensures.value))
+    absent c.self.invariant c.self.view_is c.args.name c.in_default.ensures.value _ _ (λ none. none)
 
 pub invariant_of-self-then-is_some : goal.invariant_of-self-then-is_some
 invariant_of-self-then-is_some c =
-    let wrote = as_was (goal.at.invariant_of-self-then-is_some c).In-Some in
-    record { counted = totals_unchanged wrote refl; reached = reached_unchanged wrote refl }
+    let wrote = writes c.args.name c.self.invariant c.self.view_is c.in-Some.ensures.value (c.get_mut.follows.holds c.in-Some.session.now).0 in
+    still wrote refl _ refl refl
 
 pub returns-then-is_some-clause-performs : goal.returns-then-is_some-clause-performs
 returns-then-is_some-clause-performs c =
@@ -59,12 +44,12 @@ returns-then-is_some-clause-performs c =
 
 pub returns-then-is_some-clause-unchanged : goal.returns-then-is_some-clause-unchanged
 returns-then-is_some-clause-unchanged c =
-    unchanged (as_was (goal.at.returns-then-is_some-clause-unchanged c).In-Some) refl
+    unchanged (writes c.args.name c.self.invariant c.self.view_is c.in-Some.ensures.value (c.get_mut.follows.holds c.in-Some.session.now).0) refl
 
 pub invariant_of-self-in_err-may_branch : goal.invariant_of-self-in_err-may_branch
 invariant_of-self-in_err-may_branch c =
-    let wrote = as_was (goal.at.invariant_of-self-in_err-may_branch c).In-Some in
-    record { counted = totals_unchanged wrote refl; reached = reached_unchanged wrote refl }
+    let wrote = writes c.args.name c.self.invariant c.self.view_is c.in-Some.ensures.value (c.get_mut.follows.holds c.in-Some.session.now).0 in
+    still wrote refl _ refl refl
 
 pub returns-in_err-may_branch-clause-performs : goal.returns-in_err-may_branch-clause-performs
 returns-in_err-may_branch-clause-performs c =
@@ -82,13 +67,13 @@ returns-in_err-may_branch-clause-performs c =
 
 pub returns-in_err-may_branch-clause-unchanged : goal.returns-in_err-may_branch-clause-unchanged
 returns-in_err-may_branch-clause-unchanged c =
-    on_err c.from_residual.result (unchanged (as_was (goal.at.returns-in_err-may_branch-clause-unchanged c).In-Some)
+    on_err c.from_residual.result (unchanged (writes c.args.name c.self.invariant c.self.view_is c.in-Some.ensures.value (c.get_mut.follows.holds c.in-Some.session.now).0)
     refl)
 
 pub invariant_of-self-in_err-save : goal.invariant_of-self-in_err-save
 invariant_of-self-in_err-save c =
-    let wrote = written (goal.at.invariant_of-self-in_err-save c).After-save in
-    record { counted = totals_unchanged wrote c.in_err-save.ensures.unchanged; reached = reached_unchanged wrote c.in_err-save.ensures.unchanged }
+    let wrote = writes c.args.name c.self.invariant c.self.view_is c.in-Some.ensures.value (c.get_mut.follows.holds c.save.new.self).0 in
+    still wrote c.in_err-save.ensures.unchanged _ refl refl
 
 pub returns-in_err-save-clause-performs : goal.returns-in_err-save-clause-performs
 returns-in_err-save-clause-performs c =
@@ -106,7 +91,7 @@ returns-in_err-save-clause-performs c =
 pub returns-in_err-save-clause-unchanged : goal.returns-in_err-save-clause-unchanged
 returns-in_err-save-clause-unchanged c =
     on_err c.from_residual-in_err-save.result (unchanged
-    (written (goal.at.returns-in_err-save-clause-unchanged c).After-save)
+    (writes c.args.name c.self.invariant c.self.view_is c.in-Some.ensures.value (c.get_mut.follows.holds c.save.new.self).0)
     c.in_err-save.ensures.unchanged)
 
 pub invariant_of-self-2 : goal.invariant_of-self-2
@@ -114,7 +99,7 @@ invariant_of-self-2 c =
     let held = c.in-Some.session.now in
     let new = is_new (goal.at.invariant_of-self-2 c).After-may_branch in
     let saved = c.in_ok-save.ensures.saved ∙ ap (λ b. with_saved held (with_value b held.live.sim held.saved)) c.copy.ensures in
-    let wrote = written (goal.at.invariant_of-self-2 c).After-save in record {
+    let wrote = writes c.args.name c.self.invariant c.self.view_is c.in-Some.ensures.value (c.get_mut.follows.holds c.save.new.self).0 in record {
       counted = totals_saved wrote (ap (λ (h : LiveSession). length h.live.sim.cur) saved)
           (ap (λ (h : LiveSession). length h.saved) saved
           ∙ length-new c.args.branch held.saved held.live.sim (none-of (value_named c.args.branch held.saved) new));
@@ -128,7 +113,7 @@ invariant_of-self-2 c =
 pub returns-clause-performs : goal.returns-clause-performs
 returns-clause-performs c =
     let held = c.in-Some.session.now in
-    let wrote = written (goal.at.returns-clause-performs c).After-save in
+    let wrote = writes c.args.name c.self.invariant c.self.view_is c.in-Some.ensures.value (c.get_mut.follows.holds c.save.new.self).0 in
     let new = is_new (goal.at.returns-clause-performs c).After-may_branch in
     let saved = c.in_ok-save.ensures.saved ∙ ap (λ b. with_saved held (with_value b held.live.sim held.saved)) c.copy.ensures in
     done_at wrote _ (reply.Branched c.args.name c.args.branch) _ _ _

@@ -24,9 +24,9 @@ written : (c : After-post)
       quota = c.self.inside.quota;
       sessions = set_value_at c.self.inside.sessions.entries c.args.i c.post.new.self;
     })
-written c = writes c.self.inside c.args.self.now c.self.view_is c.self.invariant c.requires.name _
+written c = writes c.requires.name c.self.invariant c.self.view_is
     (sym (ap (λ (o : UserState). live_session o c.requires.name) c.self.view_is ∙ c.requires.there
-    ∙ ap (λ (h : LiveSession). Some h) (sym (is_held c)))) _ c.post.new.self
+    ∙ ap (λ (h : LiveSession). Some h) (sym (is_held c))))
     (set_at-name c.self.inside.sessions.entries c.args.i c.requires.name c.post.new.self c.get_index_mut.ensures.unique
     (ap (λ (o : UserState). slice_get (names o) c.args.i) c.self.view_is ∙ c.requires.named))
 

@@ -7,30 +7,18 @@ use Rattle.lj_session.proofs.Performing as performing
 use Rattle.lj_session.proofs.Outcomes as outcomes
 use Rattle.lj_session.proofs.Outcomes.{read-step}
 use Rattle.lj_session.proofs.Results.{performs-refused, on_err, none-if, some-with}
-use Rattle.lj_session.proofs.Writing.{Writes, not_there, writes, is_settled, none_owed, unchanged, totals_kept, totals_unchanged}
-use Rattle.lj_session.proofs.Writing.{reached_as, reached_unchanged, done_at}
-use Rattle.lj_session.proofs.state.UserState.restore.Goals.{After-restore}
+use Rattle.lj_session.proofs.Writing.{writes, is_settled, none_owed, unchanged, totals_kept, absent, still}
+use Rattle.lj_session.proofs.Writing.{reached_as, done_at}
 use Rattle.lj_session.proofs.state.UserState.restore.Goals as goal
-
--- what is written in the session
-written : (c : After-restore) → Writes c.self.inside c.args.self.now c.args.name c.in-Some.session.now
-    c.restore.new.self (record {
-      quota = c.self.inside.quota;
-      sessions = (c.get_mut.follows.lender c.restore.new.self).entries;
-    })
-written c =
-    writes c.self.inside c.args.self.now c.self.view_is c.self.invariant c.args.name _ c.in-Some.ensures.value _
-    c.restore.new.self (c.get_mut.follows.holds c.restore.new.self).0
 
 pub returns-in_default-clause-performs : goal.returns-in_default-clause-performs
 returns-in_default-clause-performs c =
-    performing.refused c.args.self.now _ _ _ (performing.none (user_of c.args.self.now) _ false
-    (not_there c.self.inside c.args.self.now c.self.view_is c.args.name c.in_default.ensures.value))
+    absent c.self.invariant c.self.view_is c.args.name c.in_default.ensures.value _ _ (λ none. none)
 
 pub invariant_of-self-in_err-restore : goal.invariant_of-self-in_err-restore
 invariant_of-self-in_err-restore c =
-    let wrote = written (goal.at.invariant_of-self-in_err-restore c).After-restore in
-    record { counted = totals_unchanged wrote c.in_err-restore.ensures.unchanged; reached = reached_unchanged wrote c.in_err-restore.ensures.unchanged }
+    let wrote = writes c.args.name c.self.invariant c.self.view_is c.in-Some.ensures.value (c.get_mut.follows.holds c.restore.new.self).0 in
+    still wrote c.in_err-restore.ensures.unchanged _ refl refl
 
 pub returns-in_err-restore-clause-performs : goal.returns-in_err-restore-clause-performs
 returns-in_err-restore-clause-performs c =
@@ -43,7 +31,7 @@ returns-in_err-restore-clause-performs c =
 
 pub returns-in_err-restore-clause-unchanged : goal.returns-in_err-restore-clause-unchanged
 returns-in_err-restore-clause-unchanged c =
-    on_err c.from_residual.result (unchanged (written (goal.at.returns-in_err-restore-clause-unchanged c).After-restore)
+    on_err c.from_residual.result (unchanged (writes c.args.name c.self.invariant c.self.view_is c.in-Some.ensures.value (c.get_mut.follows.holds c.restore.new.self).0)
     c.in_err-restore.ensures.unchanged)
 
 pub invariant_of-self-2 : goal.invariant_of-self-2
@@ -52,7 +40,7 @@ invariant_of-self-2 c =
     let saved =
     some-with (λ sim. c.restore.new.self ≡ with_simulation held sim) (value_named c.args.branch held.saved)
     (c.in_ok-restore.ensures.found.0 refl) c.in_ok-restore.ensures.restored in
-    let wrote = written (goal.at.invariant_of-self-2 c).After-restore in record {
+    let wrote = writes c.args.name c.self.invariant c.self.view_is c.in-Some.ensures.value (c.get_mut.follows.holds c.restore.new.self).0 in record {
       counted = totals_kept wrote c.in_ok-restore.ensures.count (ap (λ (h : LiveSession). length h.saved) saved.2);
       reached = reached_as wrote _ _ _
           (outcomes.restore c.args.self.now c.args.name held wrote.found
@@ -63,7 +51,7 @@ invariant_of-self-2 c =
 pub returns-clause-performs : goal.returns-clause-performs
 returns-clause-performs c =
     let held = c.in-Some.session.now in
-    let wrote = written (goal.at.returns-clause-performs c).After-restore in
+    let wrote = writes c.args.name c.self.invariant c.self.view_is c.in-Some.ensures.value (c.get_mut.follows.holds c.restore.new.self).0 in
     let saved =
     some-with (λ sim. c.restore.new.self ≡ with_simulation held sim) (value_named c.args.branch held.saved)
     (c.in_ok-restore.ensures.found.0 refl) c.in_ok-restore.ensures.restored in

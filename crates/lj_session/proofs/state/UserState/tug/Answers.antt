@@ -5,34 +5,18 @@ use Rattle.lj_session.specs.UserState.{LiveSession, as_session, user_of}
 use Rattle.lj_session.proofs.Performing as performing
 use Rattle.lj_session.proofs.Outcomes as outcomes
 use Rattle.lj_session.proofs.Outcomes.{read-step}
-use Rattle.lj_session.proofs.Writing.{Writes, not_there, writes, is_settled, none_owed, unchanged, totals_kept, totals_unchanged}
-use Rattle.lj_session.proofs.Writing.{reached_as, reached_unchanged, done_at}
-use Rattle.lj_session.proofs.state.UserState.tug.Goals.{In-Some, After-tug}
+use Rattle.lj_session.proofs.Writing.{writes, is_settled, none_owed, unchanged, absent, still, totals_as}
+use Rattle.lj_session.proofs.Writing.{reached_as, done_at}
 use Rattle.lj_session.proofs.state.UserState.tug.Goals as goal
-
--- what is written in the session
-written : (c : After-tug) → Writes c.self.inside c.args.self.now c.args.name c.in-Some.session.now c.tug.new.self
-    (record { quota = c.self.inside.quota; sessions = (c.get_mut.follows.lender c.tug.new.self).entries })
-written c =
-    writes c.self.inside c.args.self.now c.self.view_is c.self.invariant c.args.name _ c.in-Some.ensures.value _
-    c.tug.new.self (c.get_mut.follows.holds c.tug.new.self).0
-
--- the session is written once more as it was
-as_was : (c : In-Some) → Writes c.self.inside c.args.self.now c.args.name c.in-Some.session.now c.in-Some.session.now
-    (record { quota = c.self.inside.quota; sessions = (c.get_mut.follows.lender c.in-Some.session.now).entries })
-as_was c =
-    writes c.self.inside c.args.self.now c.self.view_is c.self.invariant c.args.name _ c.in-Some.ensures.value _
-    c.in-Some.session.now (c.get_mut.follows.holds c.in-Some.session.now).0
 
 pub returns-in_default-clause-performs : goal.returns-in_default-clause-performs
 returns-in_default-clause-performs c =
-    performing.refused c.args.self.now _ _ _ (performing.none (user_of c.args.self.now) _ false
-    (not_there c.self.inside c.args.self.now c.self.view_is c.args.name c.in_default.ensures.value))
+    absent c.self.invariant c.self.view_is c.args.name c.in_default.ensures.value _ _ (λ none. none)
 
 pub invariant_of-self-then-atom-count : goal.invariant_of-self-then-atom-count
 invariant_of-self-then-atom-count c =
-    let wrote = as_was (goal.at.invariant_of-self-then-atom-count c).In-Some in
-    record { counted = totals_unchanged wrote refl; reached = reached_unchanged wrote refl }
+    let wrote = writes c.args.name c.self.invariant c.self.view_is c.in-Some.ensures.value (c.get_mut.follows.holds c.in-Some.session.now).0 in
+    still wrote refl _ refl refl
 
 pub returns-then-atom-count-clause-performs : goal.returns-then-atom-count-clause-performs
 returns-then-atom-count-clause-performs c =
@@ -47,14 +31,13 @@ returns-then-atom-count-clause-performs c =
 
 pub returns-then-atom-count-clause-unchanged : goal.returns-then-atom-count-clause-unchanged
 returns-then-atom-count-clause-unchanged c =
-    unchanged (as_was (goal.at.returns-then-atom-count-clause-unchanged c).In-Some) refl
+    unchanged (writes c.args.name c.self.invariant c.self.view_is c.in-Some.ensures.value (c.get_mut.follows.holds c.in-Some.session.now).0) refl
 
 pub invariant_of-self-2 : goal.invariant_of-self-2
 invariant_of-self-2 c =
     let held = c.in-Some.session.now in
-    let wrote = written (goal.at.invariant_of-self-2 c).After-tug in record {
-      counted = totals_kept wrote (ap (λ (h : LiveSession). length h.live.sim.cur) c.tug.ensures)
-          (ap (λ (h : LiveSession). length h.saved) c.tug.ensures);
+    let wrote = writes c.args.name c.self.invariant c.self.view_is c.in-Some.ensures.value (c.get_mut.follows.holds c.tug.new.self).0 in record {
+      counted = totals_as wrote _ c.tug.ensures refl refl;
       reached = reached_as wrote _ _ _
           (outcomes.tug c.args.self.now c.args.name held wrote.found
           (none_owed c.self.inside c.args.self.now c.self.view_is c.args.name held c.in-Some.ensures.value c.requires)
@@ -67,7 +50,7 @@ invariant_of-self-2 c =
 pub returns-clause-performs : goal.returns-clause-performs
 returns-clause-performs c =
     let held = c.in-Some.session.now in
-    let wrote = written (goal.at.returns-clause-performs c).After-tug in
+    let wrote = writes c.args.name c.self.invariant c.self.view_is c.in-Some.ensures.value (c.get_mut.follows.holds c.tug.new.self).0 in
     done_at wrote _ (reply.Tugged c.args.name c.args.atom) _ _ _
     (outcomes.tug c.args.self.now c.args.name held wrote.found
     (none_owed c.self.inside c.args.self.now c.self.view_is c.args.name held c.in-Some.ensures.value c.requires) c.args.atom c.args.by.x c.args.by.y c.args.by.z

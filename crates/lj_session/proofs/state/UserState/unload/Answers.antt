@@ -1,16 +1,15 @@
-use Rattle.std.proofs.Common.{◌≡◌, Some, None, Ok, false, length, refl, sym, ap, ◌∙◌, ◌≤◌, arith}
+use Rattle.std.proofs.Common.{◌≡◌, Some, None, Ok, length, refl, sym, ap, ◌∙◌, ◌≤◌, arith}
 use Rattle.lj_branch.specs.Named.{value_named, without_value}
 use Rattle.lj_step.specs.Sim.{Sim}
 use Rattle.lj_session.proofs.Holding.{taken-of}
-use Rattle.lj_session.proofs.Writing.{looked_up, not_there, none_owed}
-use Rattle.lj_session.proofs.Performing as performing
+use Rattle.lj_session.proofs.Writing.{absent, looked_up, none_owed}
 use Rattle.lj_session.proofs.Outcomes as outcomes
 use Rattle.lj_session.proofs.Outcomes.{written-to}
 use Rattle.lj_session.proofs.Totals.{used-less, atoms-within, saved-within}
 use Rattle.lj_session.proofs.Reaching.{reached-done}
 use Rattle.lj_session.specs.declared.command.Command.TheVariants.{Unload}
 use Rattle.lj_session.specs.declared.reply.Reply.TheVariants.{Unloaded}
-use Rattle.lj_session.specs.UserState.{UserState, Performs, user_of, live_session}
+use Rattle.lj_session.specs.UserState.{UserState, Performs, live_session}
 use Rattle.lj_session.proofs.state.UserState.unload.Goals.{In-Some}
 use Rattle.lj_session.proofs.state.UserState.unload.Goals as goal
 
@@ -27,9 +26,7 @@ gone c =
 
 pub returns-in_default-clause-performs : goal.returns-in_default-clause-performs
 returns-in_default-clause-performs c =
-    let old = c.args.self.now in
-    performing.refused old _ _ _ (performing.none (user_of old) _ false
-    (not_there c.self.inside old c.self.view_is c.args.name c.in_default.ensures.value))
+    absent c.self.invariant c.self.view_is c.args.name c.in_default.ensures.value _ _ (λ none. none)
 
 -- its atoms and saved simulations are among those counted
 within : (c : In-Some) → (length c.in-Some.session.live.sim.cur ≤ c.self.inside.used.atoms)
