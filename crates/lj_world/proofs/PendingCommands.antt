@@ -2,7 +2,6 @@
 use Rattle.std.proofs.Common.{◌≡◌, ℕ, ◌+◌, ◌<◌, true, false, ◌||◌, nat_lt, List, Option, Some, None, inl, inr}
 use Rattle.std.proofs.Common.{refl, sym, ◌∙◌, ap, subst, arith, ltb-true, ltb-false, true≢false}
 use Rattle.std.specs.Option.{option_map_or}
-use Rattle.std.specs.Str.{bytes_eq}
 use Rattle.std.proofs.lemmas.Slice.Eq.{bytes_eq-Decides}
 use Rattle.lj_session.specs.declared.command.Command.{Command as Order}
 use Rattle.lj_session.specs.declared.command.Command.TheVariants.{Measure}
@@ -16,7 +15,7 @@ use Rattle.lj_session.proofs.Entries.{by_test}
 use Rattle.lj_session.proofs.Holding.{named-held}
 use Rattle.lj_session.proofs.Turning.{measure-turns-one}
 use Rattle.lj_session.proofs.Passing.{measures}
-use Rattle.lj_session.proofs.Waiting.{passed_user, passed_turns}
+use Rattle.lj_session.proofs.Waiting.{same_name, passed_user, passed_turns}
 use Rattle.lj_wire.specs.Laws.{AlikeIsTold}
 use Rattle.lj_world.specs.OwnerReplies.{CanTurn}
 use Rattle.lj_world.proofs.ConnectionLogs.{GoesOn}
@@ -26,16 +25,6 @@ pub data Turned (owner after : Owner) : Type 0 where
   stays : after.waiting ≡ owner.waiting → user_in after ≡ user_in owner → Turned owner after
   again : (command left : Order) → owner.waiting ≡ Some command → after.waiting ≡ Some left
       → GoesOn (user_in owner) command (user_in after) left → Turned owner after
-
--- the session that a command needs
-waited_name : (command : Order) (name : List ℕ) → is_waited_for (Some command) name ≡ true → waits_for command ≡ Some name
-waited_name command name h = by (waits_for command) refl
-  where
-    by : (o : Option (List ℕ)) → waits_for command ≡ o → o ≡ Some name
-    by None e = absurd (true≢false (sym h ∙ ap (λ o. option_map_or (λ session. bytes_eq session name) o false) e))
-    by (Some session) e =
-        let same = sym (ap (λ o. option_map_or (λ session. bytes_eq session name) o false) e) ∙ h in
-        ap (λ n. Some n) ((bytes_eq-Decides session name).0 same)
 
 there : (owner : Owner) (name : List ℕ) → is_whole_in owner.state name ≡ true
     → (held : LiveSession) × (live_session owner.state name ≡ Some held)
@@ -111,7 +100,7 @@ module _ (alike : AlikeIsTold) (begins : BegunWaitsAlike) where
           → Turned owner (owner_begun_again waiting passed)
       by None e t = absurd (true≢false (sym t))
       by (Some command) e t =
-          let fewer = passed_turns owner.state name command (waited_name command name t) some in
+          let fewer = passed_turns owner.state name command (same_name command name t) some in
           let last : turns_before owner.state command ≡ 1 → ⊥ =
           λ one. more (record {
             waited = ap (λ w. is_waited_for w name) e ∙ t;
