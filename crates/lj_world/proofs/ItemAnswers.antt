@@ -66,22 +66,12 @@ wait_answered owner next name reply text last replied idle number rests others r
           refused = refused_answer owner next command reply (next.state ≡ state_turned name owner.state) answered refused;
         }
 
--- a line that is no command
+-- a line that is no command, and a fault that ends the connection
 pub fault_answered : (owner : Owner) (fault : Fault) (text : List ℕ) → owner.waiting ≡ None
-    → text ≡ texts.text (user_in owner) (Refused (refusal_of fault)) → BeginsAtOnce owner (Bad fault) text owner
-fault_answered owner fault text idle made = record {
-  at_once = refl;
-  answers = record { mark = false; is_answer = ap (λ (t : List ℕ). (t, user_in owner)) made; idle = idle; number = refl };
-  steps = refl;
-  unchanged = refl;
-}
-
--- a fault that ends the connection
-pub last_answered : (owner : Owner) (fault : Fault) (text : List ℕ) → owner.waiting ≡ None
-    → text ≡ texts.text (user_in owner) (Refused (refusal_of fault)) → BeginsAtOnce owner (Last fault) text owner
-last_answered owner fault text idle made = record {
-  at_once = refl;
-  answers = record { mark = false; is_answer = ap (λ (t : List ℕ). (t, user_in owner)) made; idle = idle; number = refl };
-  steps = refl;
-  unchanged = refl;
-}
+    → text ≡ texts.text (user_in owner) (Refused (refusal_of fault))
+    → BeginsAtOnce owner (Bad fault) text owner × BeginsAtOnce owner (Last fault) text owner
+fault_answered owner fault text idle made =
+    let told = ap (λ (t : List ℕ). (t, user_in owner)) made in (
+      record { at_once = refl; answers = record { mark = false; is_answer = told; idle = idle; number = refl }; steps = refl; unchanged = refl },
+      record { at_once = refl; answers = record { mark = false; is_answer = told; idle = idle; number = refl }; steps = refl; unchanged = refl },
+    )

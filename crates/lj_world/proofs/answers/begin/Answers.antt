@@ -4,7 +4,7 @@ use Rattle.lj_session.specs.declared.reply.Reply.{Reply}
 use Rattle.lj_session.specs.declared.reply.Reply.TheVariants.{Refused}
 use Rattle.lj_session.specs.Owner.{Owner, user_in}
 use Rattle.lj_wire.specs.Texts.{text}
-use Rattle.lj_world.proofs.ItemAnswers.{command_answered, fault_answered, last_answered}
+use Rattle.lj_world.proofs.ItemAnswers.{command_answered, fault_answered}
 use Rattle.lj_world.proofs.answers.begin.Goals.{in-Command+in-Answered, in-Bad, in-Last}
 use Rattle.lj_world.proofs.answers.begin.Goals as goal
 
@@ -22,8 +22,8 @@ returns c =
           b.at_once b.answered b.idle w.begin.ensures.number w.begin.ensures.others b.steps b.unchanged (rw (← w.owner-is, ← w.reply-is) made))
       | in-Bad w ↦
           rw (w.in-Bad.is, w.owner-is)
-          (fault_answered c.args.owner.now w.in-Bad.fault c.in_ok-text_of.field-0 c.requires (reply_text w.owner-is _ (w.reply-is ∙ ap Refused w.into.ensures)))
+          (fault_answered c.args.owner.now w.in-Bad.fault c.in_ok-text_of.field-0 c.requires (reply_text w.owner-is _ (w.reply-is ∙ ap Refused w.into.ensures))).0
       | in-Last w ↦
           rw (w.in-Last.is, w.owner-is)
-          (last_answered c.args.owner.now w.in-Last.fault c.in_ok-text_of.field-0 c.requires (reply_text w.owner-is _ (w.reply-is ∙ ap Refused w.into-in-Last.ensures)))
+          (fault_answered c.args.owner.now w.in-Last.fault c.in_ok-text_of.field-0 c.requires (reply_text w.owner-is _ (w.reply-is ∙ ap Refused w.into-in-Last.ensures))).1
     ]
