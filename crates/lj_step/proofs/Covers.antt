@@ -24,8 +24,7 @@ use Rattle.lj_step.specs.Motion.{Simulation, place_at, push_of, force, next_plac
 use Rattle.lj_step.specs.Laws.{tiles_force, next_simulation_by, tiles_energy}
 use Rattle.lj_step.proofs.RingSums.{sum_same, ring_sum_same, ring_sum_zero, sum_plus}
 use Rattle.lj_step.proofs.BlockSums.{int_sum_same, int_sum_none, int_sum_plus}
-use Rattle.lj_tile.proofs.Opposites.{entry_far, along_none}
-use Rattle.lj_step.proofs.Drift.{same_push}
+use Rattle.lj_tile.proofs.Opposites.{entry_far, along_none, same_push}
 
 -- a pair that does not interact neither pushes nor has an energy
 pub push_far : (u : Scale) (p q : Place) → is_in_cutoff u (squared_distance p q) ≡ false → push u p q ≡ no_push

@@ -14,7 +14,7 @@ use Rattle.lj_step.specs.Motion.{reversal}
 use Rattle.lj_step.specs.Laws.{IsOnRing, IsWhole, IsMixture, ring_difference, drift_along, drift, opposite_push}
 use Rattle.lj_step.proofs.BlockClasses.{class_turned}
 use Rattle.lj_step.proofs.RingSums.{ring_sum_same, ring_sum_zero, sum_plus, square_zero}
-use Rattle.lj_tile.proofs.Opposites.{AddToNone, pushes_opposite}
+use Rattle.lj_tile.proofs.Opposites.{AddToNone, pushes_opposite, same_push}
 use Rattle.lj_step.proofs.Undone.{next_frame_at, next_frame_length, stepped_whole}
 
 no_pushes : AddToNone no_push no_push
@@ -77,14 +77,6 @@ axis_kept n p c f m hp hc moves none =
     ∙ one_step (p k) (c k) (f k) (hp k below) (hc k below))
     ∙ ap (λ s. s % 2 ^ 32) (sum_plus n (λ i. ring_difference (c i) (p i)) f)
     ∙ joined (sum_below n (λ i. ring_difference (c i) (p i))) (sum_below n f) none
-
-push_of_axes : ℕ → ℕ → ℕ → Push
-push_of_axes x y z = record { x = x; y = y; z = z }
-
-pub same_push : (a b : Push) → a.x ≡ b.x → a.y ≡ b.y → a.z ≡ b.z → a ≡ b
-unfolding push_of_axes
-same_push a b x y z =
-    ap (λ k. push_of_axes k a.y a.z) x ∙ ap (λ k. push_of_axes b.x k a.z) y ∙ ap (λ k. push_of_axes b.x b.y k) z
 
 module _ (u : Composition) (sim : Simulation) (scale : IsMixture u.mix) (whole : IsWhole sim) where
   pairs : (i j : ℕ) → i < length sim.cur → j < length sim.cur

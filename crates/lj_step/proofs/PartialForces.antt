@@ -19,7 +19,7 @@ use Rattle.lj_step.specs.OpenSteps.{block, sites_of, tile_number}
 use Rattle.lj_step.proofs.BlockClasses.{class_is, class_turned}
 use Rattle.lj_step.specs.Sums.{pair_number, is_pair_awaited, push_so_far, force_so_far}
 use Rattle.lj_step.proofs.RingSums.{sum_same, ring_sum_zero, sum_plus}
-use Rattle.lj_step.proofs.Drift.{same_push}
+use Rattle.lj_tile.proofs.Opposites.{same_push}
 use Rattle.lj_step.proofs.BlockSums.{length_in, block_sum}
 use Rattle.lj_step.proofs.BlockPlaces.{block_length, block_place, in_block}
 use Rattle.lj_step.proofs.Flags.{pair_in, pair_in_turned, pair_second_other, pair_turned_other, pair_outside, flag_in}

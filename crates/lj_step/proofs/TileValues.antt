@@ -27,7 +27,7 @@ use Rattle.lj_step.specs.Sums.{IsOutside}
 use Rattle.lj_step.proofs.RingSums.{sum_same, ring_sum_zero}
 use Rattle.lj_step.proofs.BlockSums.{length_in, block_sum, int_sum_same, int_sum_none}
 use Rattle.lj_step.proofs.BlockPlaces.{block_length, atom_block}
-use Rattle.lj_step.proofs.Drift.{same_push}
+use Rattle.lj_tile.proofs.Opposites.{same_push}
 use Rattle.lj_step.proofs.PartialForces.{block_force, chosen_is, task_is, second_is}
 use Rattle.lj_step.proofs.TaskCovers.{force_cover, energy_cover}
 use Rattle.lj_step.proofs.PartialEnergies.{in_first, block_pairs, block_energy, energy_task_is}
