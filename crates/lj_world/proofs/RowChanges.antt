@@ -15,7 +15,7 @@ use Rattle.lj_world.proofs.ConnectionLogs.{ConnectionLog, history_of, Waits}
 use Rattle.lj_world.proofs.Queues.{Changes, QueueInvariant, Numbered, numbered_changed, queue_invariant_hello}
 use Rattle.lj_world.proofs.LogLookup.{found, queue_in, found_pushed, queue_changes, queue_stays, history_stays}
 use Rattle.lj_world.proofs.RowLemmas.{row_changed, row_other, users_stay, WasRead, read_changed}
-use Rattle.lj_world.proofs.RunInvariant.{RunInvariant, Distinct, Same, Renewed, renewed, distinct_changed, logged_changed}
+use Rattle.lj_world.proofs.RunInvariant.{RunInvariant, OwnQueue, own_stays, Distinct, Same, Renewed, renewed, distinct_changed, logged_changed}
 
 -- a change of a row that leaves its name, its token and its tickets that were granted
 pub record LeavesTickets (change : UserRow → UserRow) : Type 0 where
@@ -33,7 +33,7 @@ pub row_change_keeps : (rows : List UserRow) (user : ℕ) (from : User) (s t : M
     (c : ℕ) (log x : ConnectionLog) (change : UserRow → UserRow) → found c k.logs ≡ Some log → Same log x → history_of x ≡ history_of log → LeavesTickets change
     → t.rows ≡ with_row_changed log.connection.user change s.rows → t.connections ≡ slice_set s.connections c (Some x.connection)
     → (log.connection.user ≡ user → (queue : List ConnectionLog) → Changes c log x (queue_in user k.logs) queue
-    → QueueInvariant from (change k.row).past (change k.row).home queue texts)
+    → QueueInvariant from (change k.own.row).past (change k.own.row).home queue texts)
     → RunInvariant rows user from t hs texts
 row_change_keeps rows user from s t hs texts k c log x change is_found same unrecorded leaves rows_are connections queue_is_valid_after = record {
   logs = r.new;
@@ -43,10 +43,7 @@ row_change_keeps rows user from s t hs texts k c log x change is_found same unre
   distinct = distinct_changed c log x k.logs r.new r.changes same.id k.distinct;
   names = λ name token. ap (λ r. user_with r name token) rows_are ∙ users_stay s.rows log.connection.user change name token (leaves.known name token) ∙ k.names name token;
   granted = granted_is;
-  row = mine.0;
-  there_is = ap (λ r. slice_get r user) rows_are ∙ mine.1;
-  queue_is_valid = mine.2;
-  numbered = mine.3;
+  own = subst (λ rs. OwnQueue rs user from (queue_in user r.new) texts) (sym rows_are) mine;
 }
   where
     r : Renewed k.logs c log x
@@ -63,27 +60,20 @@ row_change_keeps rows user from s t hs texts k c log x change is_found same unre
         by (was, is, inr (inl (_, e))) = as_was was is (ap (λ z. z.granted) e)
         by (was, is, inr (inr (_, e))) = as_was was is (ap (λ z. z.granted) e)
 
-    mine : (row : UserRow) × (slice_get (with_row_changed log.connection.user change s.rows) user ≡ Some row)
-        × QueueInvariant from row.past row.home (queue_in user r.new) texts × Numbered 0 (queue_in user r.new)
+    mine : OwnQueue (with_row_changed log.connection.user change s.rows) user from (queue_in user r.new) texts
     mine = by (eqb_tells log.connection.user user)
       where
         by : ((nat_eq log.connection.user user ≡ true) × (log.connection.user ≡ user)) ⊎ ((nat_eq log.connection.user user ≡ false) × (log.connection.user ≢ user))
-            → (row : UserRow) × (slice_get (with_row_changed log.connection.user change s.rows) user ≡ Some row)
-            × QueueInvariant from row.past row.home (queue_in user r.new) texts × Numbered 0 (queue_in user r.new)
+            → OwnQueue (with_row_changed log.connection.user change s.rows) user from (queue_in user r.new) texts
         by (inl (e, is)) =
-            let queue_ch = queue_changes user c log x k.logs r.new r.changes e same.user in (
-              change k.row,
-              ap (λ v. slice_get (with_row_changed v change s.rows) user) is ∙ row_changed s.rows user change k.row k.there_is,
-              queue_is_valid_after is (queue_in user r.new) queue_ch,
-              numbered_changed c log x 0 (queue_in user k.logs) (queue_in user r.new) queue_ch same.number k.numbered,
-            )
+            let queue_ch = queue_changes user c log x k.logs r.new r.changes e same.user in record {
+              row = change k.own.row;
+              there_is = ap (λ v. slice_get (with_row_changed v change s.rows) user) is ∙ row_changed s.rows user change k.own.row k.own.there_is;
+              queue_is_valid = queue_is_valid_after is (queue_in user r.new) queue_ch;
+              numbered = numbered_changed c log x 0 (queue_in user k.logs) (queue_in user r.new) queue_ch same.number k.own.numbered;
+            }
         by (inr (e, differs)) =
-            let stays = queue_stays user c log x k.logs r.new r.changes e same.user in (
-              k.row,
-              row_other s.rows log.connection.user change user differs ∙ k.there_is,
-              subst (λ l. QueueInvariant from k.row.past k.row.home l texts) (sym stays) k.queue_is_valid,
-              subst (Numbered 0) (sym stays) k.numbered,
-            )
+            own_stays k.own (row_other s.rows log.connection.user change user differs) (queue_stays user c log x k.logs r.new r.changes e same.user)
 
 numbered_pushed : (n : ℕ) (queue : List ConnectionLog) (x : ConnectionLog) → Numbered n queue → x.connection.number ≡ n + length queue → Numbered n (queue ++ x ∷ [])
 unfolding Numbered
@@ -135,10 +125,7 @@ hello_adds_log rows user from s t hs texts k c name token p = record {
   distinct = distinct_pushed c k.logs x none refl k.distinct;
   names = λ n k_token. ap (λ r. user_with r n k_token) rows_are ∙ users_stay s.rows p.user with_ticket n k_token (λ row. refl) ∙ k.names n k_token;
   granted = granted_is;
-  row = mine.0;
-  there_is = ap (λ r. slice_get r user) rows_are ∙ mine.1;
-  queue_is_valid = mine.2;
-  numbered = mine.3;
+  own = subst (λ rs. OwnQueue rs user from (queue_in user (k.logs ++ x ∷ [])) texts) (sym rows_are) mine;
 }
   where
     x : ConnectionLog
@@ -184,29 +171,24 @@ hello_adds_log rows user from s t hs texts k c name token p = record {
             none_some : (a : UserRow) → None ≡ Some a → ⊥
             none_some a h = cc
 
-    mine : (row : UserRow) × (slice_get (with_row_changed p.user with_ticket s.rows) user ≡ Some row)
-        × QueueInvariant from row.past row.home (queue_in user (k.logs ++ x ∷ [])) texts × Numbered 0 (queue_in user (k.logs ++ x ∷ []))
+    mine : OwnQueue (with_row_changed p.user with_ticket s.rows) user from (queue_in user (k.logs ++ x ∷ [])) texts
     mine = by (eqb_tells p.user user)
       where
         same_row : (a b : UserRow) → Some a ≡ Some b → a ≡ b
         same_row a b h = cc
 
         by : ((nat_eq p.user user ≡ true) × (p.user ≡ user)) ⊎ ((nat_eq p.user user ≡ false) × (p.user ≢ user))
-            → (row : UserRow) × (slice_get (with_row_changed p.user with_ticket s.rows) user ≡ Some row)
-            × QueueInvariant from row.past row.home (queue_in user (k.logs ++ x ∷ [])) texts × Numbered 0 (queue_in user (k.logs ++ x ∷ []))
+            → OwnQueue (with_row_changed p.user with_ticket s.rows) user from (queue_in user (k.logs ++ x ∷ [])) texts
         by (inl (e, is)) =
             let queue = queue_pushed user k.logs x true e in
             let w : Waits x = record { waits = refl; inbox = refl; not_finished = refl } in
-            let number : p.row.granted ≡ length (queue_in user k.logs) = k.granted user p.row (ap (slice_get s.rows) (sym is) ∙ p.there) in (
-              with_ticket k.row,
-              ap (λ v. slice_get (with_row_changed v with_ticket s.rows) user) is ∙ row_changed s.rows user with_ticket k.row k.there_is,
-              subst (λ l. QueueInvariant from k.row.past k.row.home l texts) (sym queue) (queue_invariant_hello from k.row.past k.row.home (queue_in user k.logs) x texts w k.queue_is_valid),
-              subst (Numbered 0) (sym queue) (numbered_pushed 0 (queue_in user k.logs) x k.numbered (omega (arith, number))),
-            )
+            let number : p.row.granted ≡ length (queue_in user k.logs) = k.granted user p.row (ap (slice_get s.rows) (sym is) ∙ p.there) in record {
+              row = with_ticket k.own.row;
+              there_is = ap (λ v. slice_get (with_row_changed v with_ticket s.rows) user) is ∙ row_changed s.rows user with_ticket k.own.row k.own.there_is;
+              queue_is_valid = subst (λ l. QueueInvariant from k.own.row.past k.own.row.home l texts) (sym queue)
+                  (queue_invariant_hello from k.own.row.past k.own.row.home (queue_in user k.logs) x texts w k.own.queue_is_valid);
+              numbered = subst (Numbered 0) (sym queue) (numbered_pushed 0 (queue_in user k.logs) x k.own.numbered (omega (arith, number)));
+            }
         by (inr (e, differs)) =
-            let stays = queue_pushed user k.logs x false e ∙ append-nil (queue_in user k.logs) in (
-              k.row,
-              row_other s.rows p.user with_ticket user differs ∙ k.there_is,
-              subst (λ l. QueueInvariant from k.row.past k.row.home l texts) (sym stays) k.queue_is_valid,
-              subst (Numbered 0) (sym stays) k.numbered,
-            )
+            own_stays k.own (row_other s.rows p.user with_ticket user differs)
+            (queue_pushed user k.logs x false e ∙ append-nil (queue_in user k.logs))

@@ -25,6 +25,23 @@ distinct_changed c log x logs new (there {other} {queue = rest} {new = changed} 
   distinct_changed c log x rest changed ch same more,
 )
 
+-- the row of a user, and the logs of its connections: in the order of their tickets, and a valid queue
+pub record OwnQueue (rows : List UserRow) (user : ℕ) (from : User) (queue : List ConnectionLog) (texts : Texts) : Type 0 where
+  pub row : UserRow
+  pub there_is : slice_get rows user ≡ Some row
+  pub queue_is_valid : QueueInvariant from row.past row.home queue texts
+  pub numbered : Numbered 0 queue
+
+-- which stay where other rows and logs change
+pub own_stays : {rows new : List UserRow} {user : ℕ} {from : User} {queue next : List ConnectionLog} {texts : Texts}
+    → OwnQueue rows user from queue texts → slice_get new user ≡ slice_get rows user → next ≡ queue → OwnQueue new user from next texts
+own_stays {from = from} {texts = texts} own same stays = record {
+  row = own.row;
+  there_is = same ∙ own.there_is;
+  queue_is_valid = subst (λ l. QueueInvariant from own.row.past own.row.home l texts) (sym stays) own.queue_is_valid;
+  numbered = subst (Numbered 0) (sym stays) own.numbered;
+}
+
 -- The invariant for a user that begins from a value: a state, the histories and the replies so far. The rows are those in
 -- which the run began.
 pub record RunInvariant (rows : List UserRow) (user : ℕ) (from : User) (s : Machine) (hs : List ConnectionHistory) (texts : Texts) : Type 0 where
@@ -35,10 +52,7 @@ pub record RunInvariant (rows : List UserRow) (user : ℕ) (from : User) (s : Ma
   pub distinct : Distinct logs
   pub names : (name token : List ℕ) → user_with s.rows name token ≡ user_with rows name token
   pub granted : (v : ℕ) (row : UserRow) → slice_get s.rows v ≡ Some row → row.granted ≡ length (queue_in v logs)
-  pub row : UserRow
-  pub there_is : slice_get s.rows user ≡ Some row
-  pub queue_is_valid : QueueInvariant from row.past row.home (queue_in user logs) texts
-  pub numbered : Numbered 0 (queue_in user logs)
+  pub own : OwnQueue s.rows user from (queue_in user logs) texts
 
 -- a connection that is known has a log
 pub log_at : (c : ℕ) (logs : List ConnectionLog) (connection : Connection) → option_map (λ log. log.connection) (found c logs) ≡ Some connection
@@ -142,10 +156,7 @@ change_keeps rows user from s t hs new_hs texts k c log x reply is_found g rows_
   distinct = distinct_changed c log x k.logs r.new r.changes same.id k.distinct;
   names = λ name token. ap (λ r. user_with r name token) rows_stay ∙ k.names name token;
   granted = λ v row e. k.granted v row (sym (ap (λ r. slice_get r v) rows_stay) ∙ e) ∙ sym (r.lengths v);
-  row = k.row;
-  there_is = ap (λ r. slice_get r user) rows_stay ∙ k.there_is;
-  queue_is_valid = (changed_queue (nat_eq log.connection.user user) refl).0;
-  numbered = (changed_queue (nat_eq log.connection.user user) refl).1;
+  own = own_after (nat_eq log.connection.user user) refl;
 }
   where
     same : Same log x
@@ -154,13 +165,16 @@ change_keeps rows user from s t hs new_hs texts k c log x reply is_found g rows_
     r : Renewed k.logs c log x
     r = renewed k c log x is_found same
 
-    changed_queue : (b : Bool) → nat_eq log.connection.user user ≡ b
-        → QueueInvariant from k.row.past k.row.home (queue_in user r.new) (grown texts (reply_if b reply)) × Numbered 0 (queue_in user r.new)
-    changed_queue true e =
-        let queue_ch = queue_changes user c log x k.logs r.new r.changes e same.user in (
-          queue_invariant_change from k.row.past k.row.home c log x (queue_in user k.logs) (queue_in user r.new) texts reply queue_ch g k.queue_is_valid,
-          numbered_changed c log x 0 (queue_in user k.logs) (queue_in user r.new) queue_ch same.number k.numbered,
-        )
-    changed_queue false e =
-        subst (λ l. QueueInvariant from k.row.past k.row.home l texts × Numbered 0 l) (sym (queue_stays user c log x k.logs r.new r.changes e same.user))
-        (k.queue_is_valid, k.numbered)
+    rows_same : slice_get t.rows user ≡ slice_get s.rows user
+    rows_same = ap (λ r. slice_get r user) rows_stay
+
+    own_after : (b : Bool) → nat_eq log.connection.user user ≡ b
+        → OwnQueue t.rows user from (queue_in user r.new) (grown texts (reply_if b reply))
+    own_after true e =
+        let queue_ch = queue_changes user c log x k.logs r.new r.changes e same.user in record {
+          row = k.own.row;
+          there_is = rows_same ∙ k.own.there_is;
+          queue_is_valid = queue_invariant_change from k.own.row.past k.own.row.home c log x (queue_in user k.logs) (queue_in user r.new) texts reply queue_ch g k.own.queue_is_valid;
+          numbered = numbered_changed c log x 0 (queue_in user k.logs) (queue_in user r.new) queue_ch same.number k.own.numbered;
+        }
+    own_after false e = own_stays k.own rows_same (queue_stays user c log x k.logs r.new r.changes e same.user)

@@ -94,10 +94,12 @@ start_keeps users user quota has_quota =
       distinct = tt;
       names = λ name token. refl;
       granted = λ v row e. opened (slice_get users v) row (sym (slice_get-map first_row users v) ∙ e);
-      row = first_row there.0;
-      there_is = slice_get-map first_row users user ∙ ap (option_map first_row) there.1;
-      queue_is_valid = (refl, ap (λ q. user_of (empty_state q)) there.2, tt);
-      numbered = tt;
+      own = record {
+        row = first_row there.0;
+        there_is = slice_get-map first_row users user ∙ ap (option_map first_row) there.1;
+        queue_is_valid = (refl, ap (λ q. user_of (empty_state q)) there.2, tt);
+        numbered = tt;
+      };
     }
 
 take_front : {A : Type 0} (xs ys : List A) → take (length xs) (xs ++ ys) ≡ xs
@@ -121,7 +123,7 @@ are_first_texts marked laws users events entries user quota (last, run) has_quot
     let k = run_kept laws users events entries last user quota run has_quota in
     let reply_texts = replies user entries in
     let marks = map is_memory reply_texts in
-    let a = (progress_of_queue (fresh_user quota) k.row.past k.row.home (queue_in user k.logs) reply_texts k.queue_is_valid).2 in
+    let a = (progress_of_queue (fresh_user quota) k.own.row.past k.own.row.home (queue_in user k.logs) reply_texts k.own.queue_is_valid).2 in
     let items = items_joined (histories_of user (connection_histories users events)) in
     let items_are : items ≡ a.answered ++ a.others = script_items (map first_row users) user (fresh_user quota) last (connection_histories users events) reply_texts k ∙ a.split in
     let all : texts (fresh_user quota) items marks ≡ reply_texts ++ texts a.last a.others [] =

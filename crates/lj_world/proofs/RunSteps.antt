@@ -29,7 +29,7 @@ use Rattle.lj_world.proofs.ConnectionLogs.{ConnectionLog, history_of, log_with, 
 use Rattle.lj_world.proofs.PendingCommands.{Turned, stays, again, begun_goes_on, turn_goes_on}
 use Rattle.lj_world.proofs.Queues.{QueueInvariant, queue_invariant_enter, queue_invariant_leave, progress_of_owner}
 use Rattle.lj_world.proofs.LogLookup.{found, queue_in, found_changes, history_changes, history_stays, history_nowhere, queue_histories, any_found}
-use Rattle.lj_world.proofs.RunInvariant.{RunInvariant, log_at, reply_if, change_keeps}
+use Rattle.lj_world.proofs.RunInvariant.{RunInvariant, own_stays, log_at, reply_if, change_keeps}
 use Rattle.lj_world.proofs.RowChanges.{row_change_keeps, lent_leaves, home_leaves, nowhere, new_log, hello_adds_log}
 
 -- the reply to a user, if the entry is for it
@@ -61,10 +61,7 @@ front_stays rows user from s t hs texts k rows_stay connections_stay = record {
   distinct = k.distinct;
   names = λ name token. ap (λ r. user_with r name token) rows_stay ∙ k.names name token;
   granted = λ v row e. k.granted v row (sym (ap (λ r. slice_get r v) rows_stay) ∙ e);
-  row = k.row;
-  there_is = ap (λ r. slice_get r user) rows_stay ∙ k.there_is;
-  queue_is_valid = k.queue_is_valid;
-  numbered = k.numbered;
+  own = own_stays k.own (ap (λ r. slice_get r user) rows_stay) refl;
 }
 
 -- the reply to a connection is one to its user
@@ -134,11 +131,11 @@ module _ (laws : PendingCommandLaws) (rows : List UserRow) (user : ℕ) (from : 
       (record { id = refl; user = refl; number = refl }) refl lent_leaves
       (ap (λ (z : ConnectionView). z.rows) d.next) (ap (λ (z : ConnectionView). slice_set s.connections c (Some z.connection)) d.next)
       (λ mine queue ch.
-      let row : d.row ≡ k.row = same_row (slice_get s.rows user) d.row k.row (ap (slice_get s.rows) (sym mine) ∙ d.there) k.there_is in
-      let home : k.row.home ≡ Some d.state = ap (λ (r : UserRow). r.home) (sym row) ∙ d.home in
-      let number : connection.number ≡ k.row.past = sym d.may_enter.first.past ∙ ap (λ (r : UserRow). r.past) row in
-      queue_invariant_enter from k.row.past 0 d.state c log owner (queue_in user k.logs) queue texts ch d.waits k.numbered (omega (arith, number)) refl (laws.restart d.state)
-      (subst (λ o. QueueInvariant from k.row.past o (queue_in user k.logs) texts) home k.queue_is_valid))
+      let row : d.row ≡ k.own.row = same_row (slice_get s.rows user) d.row k.own.row (ap (slice_get s.rows) (sym mine) ∙ d.there) k.own.there_is in
+      let home : k.own.row.home ≡ Some d.state = ap (λ (r : UserRow). r.home) (sym row) ∙ d.home in
+      let number : connection.number ≡ k.own.row.past = sym d.may_enter.first.past ∙ ap (λ (r : UserRow). r.past) row in
+      queue_invariant_enter from k.own.row.past 0 d.state c log owner (queue_in user k.logs) queue texts ch d.waits k.own.numbered (omega (arith, number)) refl (laws.restart d.state)
+      (subst (λ o. QueueInvariant from k.own.row.past o (queue_in user k.logs) texts) home k.own.queue_is_valid))
 
   leave_keeps : (text : Option (List ℕ)) (h : ConnectionView) → Leaves old text h → RunInvariant rows user from (with_connection_view c h s) hs texts
   leave_keeps text h d =
@@ -148,11 +145,11 @@ module _ (laws : PendingCommandLaws) (rows : List UserRow) (user : ℕ) (from : 
       (record { id = refl; user = refl; number = refl }) refl (home_leaves (with_steps_restarted d.owner.state))
       (ap (λ (z : ConnectionView). z.rows) d.next) (ap (λ (z : ConnectionView). slice_set s.connections c (Some z.connection)) d.next)
       (λ mine queue ch.
-      let away = (progress_of_owner from k.row.past k.row.home c log x (queue_in user k.logs) queue d.owner texts ch d.owns k.queue_is_valid).0 in
-      subst (λ n. QueueInvariant from n (Some (with_steps_restarted d.owner.state)) queue texts) (sym (add-one k.row.past))
-      (queue_invariant_leave from k.row.past c log d.owner (with_steps_restarted d.owner.state) (queue_in user k.logs) queue texts ch d.owns d.idle d.done
+      let away = (progress_of_owner from k.own.row.past k.own.row.home c log x (queue_in user k.logs) queue d.owner texts ch d.owns k.own.queue_is_valid).0 in
+      subst (λ n. QueueInvariant from n (Some (with_steps_restarted d.owner.state)) queue texts) (sym (add-one k.own.row.past))
+      (queue_invariant_leave from k.own.row.past c log d.owner (with_steps_restarted d.owner.state) (queue_in user k.logs) queue texts ch d.owns d.idle d.done
       (laws.restart d.owner.state)
-      (subst (λ o. QueueInvariant from k.row.past o (queue_in user k.logs) texts) away k.queue_is_valid)))
+      (subst (λ o. QueueInvariant from k.own.row.past o (queue_in user k.logs) texts) away k.own.queue_is_valid)))
 
   -- a turn without a reply
   turn_keeps : (owner after : Owner) (h : ConnectionView) → connection.state ≡ inside owner → h ≡ view_with_connection (with_state (inside after) connection) old
@@ -249,9 +246,9 @@ hello_possible rows user from s hs texts k c name token v is_named granted =
     let fresh = not_true (list_any (λ h. nat_eq h.id c) hs) (and_left _ _ others) in
     let none = no_log (found c k.logs) (sym (has_history rows user from s hs texts k c) ∙ fresh) in
     let connection_view : user_with s.rows name token ≡ Some v = k.names name token ∙ is_named in
-    let within = (position-Some (is_of name token) s.rows v k.row connection_view).0 in
-    let row = slice_index_or s.rows v k.row in
-    let there : slice_get s.rows v ≡ Some row = slice_get-get_or s.rows v k.row within in
+    let within = (position-Some (is_of name token) s.rows v k.own.row connection_view).0 in
+    let row = slice_index_or s.rows v k.own.row in
+    let there : slice_get s.rows v ≡ Some row = slice_get-get_or s.rows v k.own.row within in
     let left = ltb-true (length (histories_of v hs)) 4294967296 (and_right (not (list_any (λ h. nat_eq h.id c) hs)) _ others) in (
       _,
       record {

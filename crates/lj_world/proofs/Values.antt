@@ -79,11 +79,11 @@ holder from (suc past) home (log ∷ queue) texts (between, early, late, left, s
 -- each user has a value
 has_value : (rows : List UserRow) (user : ℕ) (from : Value) (t : Machine) (hs : List ConnectionHistory) (texts : Texts) → RunInvariant rows user from t hs texts
     → (value : Value) × (waits : Option Order) × HasValue t user value waits
-has_value rows user from t hs texts k = by (holder from k.row.past k.row.home (queue_in user k.logs) texts k.queue_is_valid)
+has_value rows user from t hs texts k = by (holder from k.own.row.past k.own.row.home (queue_in user k.logs) texts k.own.queue_is_valid)
   where
-    by : Holder k.row.home (queue_in user k.logs) → (value : Value) × (waits : Option Order) × HasValue t user value waits
+    by : Holder k.own.row.home (queue_in user k.logs) → (value : Value) × (waits : Option Order) × HasValue t user value waits
     by (at_home state e) =
-        let home : IsAtHome t user (user_of state) = record { row = k.row; there = k.there_is; state = state; home = e; is = refl } in
+        let home : IsAtHome t user (user_of state) = record { row = k.own.row; there = k.own.there_is; state = state; home = e; is = refl } in
         (user_of state, None, inl (home, refl))
     by (with_owner log owner i e) =
         let slot = in_queue user log k.logs i in
@@ -103,9 +103,9 @@ has_value rows user from t hs texts k = by (holder from k.row.past k.row.home (q
 progress_of_value : (rows : List UserRow) (user : ℕ) (from : Value) (t : Machine) (hs : List ConnectionHistory) (texts : Texts) (k : RunInvariant rows user from t hs texts)
     (value : Value) (waits : Option Order) → HasValue t user value waits → ScriptProgress from (items_in (queue_in user k.logs)) texts value waits
 progress_of_value rows user from t hs texts k value waits (inl (h, none)) =
-    let row : h.row ≡ k.row = same_some (slice_get t.rows user) h.row k.row h.there k.there_is in
-    let home : k.row.home ≡ Some h.state = ap (λ r. r.home) (sym row) ∙ h.home in
-    let a = progress_at_home from k.row.past k.row.home h.state (queue_in user k.logs) texts home k.queue_is_valid in
+    let row : h.row ≡ k.own.row = same_some (slice_get t.rows user) h.row k.own.row h.there k.own.there_is in
+    let home : k.own.row.home ≡ Some h.state = ap (λ r. r.home) (sym row) ∙ h.home in
+    let a = progress_at_home from k.own.row.past k.own.row.home h.state (queue_in user k.logs) texts home k.own.queue_is_valid in
     subst (λ v. ScriptProgress from (items_in (queue_in user k.logs)) texts v waits) (sym h.is)
     (subst (ScriptProgress from (items_in (queue_in user k.logs)) texts (user_of h.state)) (sym none) a)
 progress_of_value rows user from t hs texts k value waits (inr h) =
@@ -113,7 +113,7 @@ progress_of_value rows user from t hs texts k value waits (inr h) =
     let log = log_with h.connection log0.0 in
     let ch = found_changes h.id k.logs log log log0.1 in
     let queue_ch = queue_changes user h.id log log k.logs ch.0 ch.1 (eq-eqb h.connection.user user h.of_user) refl in
-    let a = (progress_of_owner from k.row.past k.row.home h.id log log (queue_in user k.logs) (queue_in user ch.0) h.owner texts queue_ch h.owns k.queue_is_valid).1 in
+    let a = (progress_of_owner from k.own.row.past k.own.row.home h.id log log (queue_in user k.logs) (queue_in user ch.0) h.owner texts queue_ch h.owns k.own.queue_is_valid).1 in
     subst (λ v. ScriptProgress from (items_in (queue_in user k.logs)) texts v waits) (sym h.is)
     (subst (ScriptProgress from (items_in (queue_in user k.logs)) texts (user_in h.owner)) (sym h.left) a)
 
@@ -188,7 +188,7 @@ tickets_in_order laws users events entries last user quota run has_quota n h e =
     sym (slice_get-map history_of queue n) ∙ ap (λ l. slice_get l n) (sym histories_queue) ∙ e in
     let m = mapped (slice_get queue n) h read in
     let log = m.0 in
-    let at = numbered_at 0 n queue log k.numbered m.1 in
+    let at = numbered_at 0 n queue log k.own.numbered m.1 in
     let slot = in_queue user log k.logs at.0 in
     let ticket : HasTicket last log.id user n = record {
       connection = log.connection;
