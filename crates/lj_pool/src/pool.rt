@@ -49,7 +49,7 @@ pub enum Refused {
 /// Tasks and results are large, so most calls pass them by reference; `post`, `fetch` and `poll` copy them.
 ///
 /// Promise: a task that was posted is owed until its result is handed out, and each result that is handed out is
-/// counted, as owed or as a stray.
+/// counted, as owed or as a stray, or left to be counted by `count` or `count_by_name`.
 pub trait Pool {
     ghost seen: { Self → Seen };
 
