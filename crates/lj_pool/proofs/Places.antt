@@ -3,18 +3,19 @@ use Rattle.std.proofs.Common.{◌≡◌, ℕ, zero, suc, ◌+◌, ◌-◌, ◌<�
 use Rattle.std.proofs.Common.{Option, Some, None, length, take, drop, get_or, set, cond, refl, sym, ap, ◌∙◌}
 use Rattle.std.proofs.Common.{inl, inr, arith, length-append, length-set, get_or-set_same, get_or-set_other}
 use Rattle.std.proofs.Common.{append_assoc, drop-cons}
-use Rattle.std.specs.Prelude.{nat_eq, nat_lt}
-use Rattle.std.specs.List.{remove}
-use Rattle.std.proofs.lemmas.Bool.{cases_Bool, cases_eq, eq-eqb, ne_eqb, ltb-true, ltb-false, lt-ltb, le-ltb}
+use Rattle.std.specs.Prelude.{nat_eq, nat_lt, IsTrue, ◌↔◌}
+use Rattle.std.specs.List.{Contains, remove}
+use Rattle.std.proofs.lemmas.Bool.{cases_Bool, cases_eq, eq-eqb, ne_eqb, ltb-true, ltb-false, lt-ltb, le-ltb, false≢true}
 use Rattle.std.proofs.lemmas.List.{get_or_default, take_more, take-append-drop, take-append-le, length-take-le, length_push, get_or-take}
 use Rattle.std.proofs.lemmas.List.Edits.{length-remove, remove-append_left}
 use Rattle.std.proofs.lemmas.List.Sums.{sum_by-cons, sum_by_push, sum_by_more, sum_by-take-le, sum_by-remove, get_or-le-sum_by}
+use Rattle.lj_tile.specs.Blank.{blank_task}
 use Rattle.lj_tile.specs.Task.{Task}
 use Rattle.lj_pool.specs.declared.pool.TheConstants.{MAX_OWED}
 use Rattle.lj_pool.specs.Gathering.{times}
 use Rattle.lj_pool.specs.InlinePool.{held_task}
-use Rattle.lj_pool.specs.Accounts.{tasks_owed, IsFirst, IsFirstNamed, IsKept, IsKnownByName}
-use Rattle.lj_pool.specs.Seen.{Seen, TakesOff, one_more}
+use Rattle.lj_pool.specs.Accounts.{tasks_owed, IsFirst, IsKept, IsKnownByName, IsNowhere}
+use Rattle.lj_pool.specs.Seen.{Seen, IsStray, TakesOff, one_more}
 
 -- 1 for true
 abbrev bit : Bool → ℕ
@@ -222,31 +223,52 @@ task_at tasks places owed here kept within d =
     ap (λ k. get_or tasks k None) (sym (get_or-take owed places here 0 within))
     ∙ works_at tasks (take owed places) here d (kept.held ∙ sym len) (omega (arith, len, within))
 
--- the first such task is owed no more, and a result is counted
-pub taken_off : (task : Task) (old new : Seen) (here : ℕ) → IsFirst old.owed task here → new.owed ≡ remove old.owed here
-    → new.expected ≡ one_more old.expected → new.strays ≡ old.strays → TakesOff task old new
-taken_off task old new here first left expected strays = record {
-  front = take here old.owed;
-  behind = drop (suc here) old.owed;
-  was = sym (take-append-drop here old.owed)
-      ∙ ap (λ xs. take here old.owed ++ xs) (drop-cons old.owed here task first.within)
-      ∙ ap (λ x. take here old.owed ++ x ∷ drop (suc here) old.owed) first.is;
-  first = λ there.
-      let len : length (take here old.owed) ≡ here = length-take-le here old.owed (omega (arith, first.within)) in
-      let under : there.0 < here = omega (arith, there.1, len) in
-      first.before there.0 under (sym (get_or-take here old.owed there.0 task under) ∙ there.2);
-  owed = left;
-  expected = expected;
-  strays = strays;
-}
+-- where a question tells of each task that is owed whether it is this one
+module _ (Tells : Task → Bool → Type 0) (task : Task) (old : Seen) where
+  abbrev TellsOf : Type 0
+  TellsOf = (other : Task) → Contains old.owed other → (told : Bool) → Tells other told → IsTrue told ↔ (other ≡ task)
 
--- the first task of a name by which one is known is that one
-pub first_named : (owed : List Task) (task : Task) (here : ℕ) → IsKnownByName owed task → IsFirstNamed owed task here
-    → IsFirst owed task here
-first_named owed task here known first =
-    let there = get_or owed here task in
-    record {
-      within = first.within;
-      is = known there (here, first.within, get_or_default owed here there task first.within) first.is;
-      before = λ k below is. first.before k below (ap (λ (t : Task). t.name) is);
-    }
+  -- the first of which it tells true is owed no more, and a result is counted
+  pub taken_off : (new : Seen) (here : ℕ) → IsFirst Tells old.owed here → TellsOf → new.owed ≡ remove old.owed here
+      → new.expected ≡ one_more old.expected → new.strays ≡ old.strays → TakesOff task old new
+  taken_off new here first same left expected strays = record {
+    front = take here old.owed;
+    behind = drop (suc here) old.owed;
+    was = sym (take-append-drop here old.owed)
+        ∙ ap (λ xs. take here old.owed ++ xs) (drop-cons old.owed here blank_task first.within)
+        ∙ ap (λ x. take here old.owed ++ x ∷ drop (suc here) old.owed) is;
+    first = λ there.
+        let len : length (take here old.owed) ≡ here = length-take-le here old.owed (omega (arith, first.within)) in
+        let under : there.0 < here = omega (arith, there.1, len) in
+        let within : there.0 < length old.owed = omega (arith, under, first.within) in
+        let named : get_or old.owed there.0 blank_task ≡ task =
+        get_or_default old.owed there.0 blank_task task within ∙ sym (get_or-take here old.owed there.0 task under) ∙ there.2 in
+        false≢true ((same (get_or old.owed there.0 blank_task) (there.0, within, get_or_default old.owed there.0 _ _ within) false
+        (first.before there.0 under)).1 named);
+    owed = left;
+    expected = expected;
+    strays = strays;
+  }
+    where
+      is : get_or old.owed here blank_task ≡ task
+      is = (same (get_or old.owed here blank_task) (here, first.within, get_or_default old.owed here _ _ first.within) true first.is).0 refl
+
+  -- where it tells false of each, this one is a stray
+  pub is_stray : (new : Seen) → IsNowhere Tells old.owed → TellsOf → new.owed ≡ old.owed
+      → new.expected ≡ old.expected → new.strays ≡ one_more old.strays → IsStray task old new
+  is_stray new none same owed expected strays = record {
+    absent = λ there.
+        let is : get_or old.owed there.0 blank_task ≡ task =
+        get_or_default old.owed there.0 blank_task task there.1 ∙ there.2 in
+        false≢true ((same (get_or old.owed there.0 blank_task)
+        (there.0, there.1, get_or_default old.owed there.0 _ _ there.1) false (none.each there.0 there.1)).1 is);
+    owed = owed;
+    expected = expected;
+    strays = strays;
+  }
+
+-- a name by which one is known tells which task it is
+pub tells_by_name : (owed : List Task) (task other : Task) (told : Bool) → IsKnownByName owed task → Contains owed other
+    → (IsTrue told ↔ (other.name ≡ task.name)) → IsTrue told ↔ (other ≡ task)
+tells_by_name owed task other told known owes tells =
+    (λ yes. known other owes (tells.0 yes), λ is. tells.1 (ap (λ (t : Task). t.name) is))

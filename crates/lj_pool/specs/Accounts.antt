@@ -1,7 +1,8 @@
 -- How an end stores the tasks that are owed to it: each in a place, and the places in the order of the posts.
-use Rattle.std.specs.Prelude.{◌≡◌, ◌≢◌, ℕ, ◌<◌, ◌≤◌, List, [], ◌∷◌, ◌++◌, Option, None, length, take, cond, nat_lt}
+use Rattle.std.specs.Prelude.{◌≡◌, ℕ, ◌<◌, ◌≤◌, Bool, true, false, List, [], ◌∷◌, ◌++◌, Option, None, length, take, cond, nat_lt}
 use Rattle.std.specs.Prelude.{slice_index_or}
 use Rattle.std.specs.List.{Contains}
+use Rattle.lj_tile.specs.Blank.{blank_task}
 use Rattle.lj_tile.specs.Task.{Task}
 use Rattle.lj_pool.specs.declared.pool.TheConstants.{MAX_OWED}
 use Rattle.lj_pool.specs.Gathering.{times}
@@ -20,18 +21,16 @@ pub record IsKept (tasks : List (Option Task)) (places : List ℕ) (owed : ℕ) 
   pub most : owed ≤ MAX_OWED
   pub held : length (tasks_owed tasks (take owed places)) ≡ owed
 
--- this task is at this position, and at none before
-pub record IsFirst (owed : List Task) (task : Task) (here : ℕ) : Type 0 where
-  pub within : here < length owed
-  pub is : slice_index_or owed here task ≡ task
-  pub before : (k : ℕ) → k < here → slice_index_or owed k task ≢ task
-
 -- each owed task of this name is this task
 abbrev pub IsKnownByName : List Task → Task → Type 0
 IsKnownByName owed task = (other : Task) → Contains owed other → other.name ≡ task.name → other ≡ task
 
--- a task of this one's name is at this position, and none at a position before
-pub record IsFirstNamed (owed : List Task) (task : Task) (here : ℕ) : Type 0 where
+-- A question, which tells true or false of a task, tells true of the one at this position, and false of those before it.
+pub record IsFirst (Tells : Task → Bool → Type 0) (owed : List Task) (here : ℕ) : Type 0 where
   pub within : here < length owed
-  pub is : (slice_index_or owed here task).name ≡ task.name
-  pub before : (k : ℕ) → k < here → (slice_index_or owed k task).name ≢ task.name
+  pub is : Tells (slice_index_or owed here blank_task) true
+  pub before : (k : ℕ) → k < here → Tells (slice_index_or owed k blank_task) false
+
+-- It tells false of each.
+pub record IsNowhere (Tells : Task → Bool → Type 0) (owed : List Task) : Type 0 where
+  pub each : (k : ℕ) → k < length owed → Tells (slice_index_or owed k blank_task) false

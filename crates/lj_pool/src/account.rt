@@ -1,10 +1,11 @@
 //! The tasks that an end of a pool has in flight, and the results that it has counted.
 ghost use Rattle.std.specs.Prelude.{◌≡◌, ◌<◌, ◌≤◌, ◌+◌, ◌-◌, ◌↔◌, ℕ, Some, cond, length, nat_lt, option_copied, take, slice_get, slice_index_or, true, false, IfErr, IfSome, IfNone, IsTrue, OnErr, OnOk};
-ghost use Rattle.std.specs.List.{Contains, remove};
+ghost use Rattle.std.specs.Fn.{FnReturnsAt};
+ghost use Rattle.std.specs.List.{remove};
 ghost use Rattle.lj_pool.specs.declared.pool.NotPosted.TheVariants.{Closed, Full};
 ghost use Rattle.lj_pool.specs.Seen.{ArePosted, IsHandedOut, IsPosted, SameOwed, StaysClosed, nothing_seen, one_more};
 ghost use Rattle.lj_pool.specs.Gathering.{times};
-ghost use Rattle.lj_pool.specs.Accounts.{IsFirst, IsFirstNamed, IsKnownByName};
+ghost use Rattle.lj_pool.specs.Accounts.{IsFirst, IsKnownByName, IsNowhere};
 
 use crate::pool::{MAX_OWED, NotPosted};
 use arrayvec::ArrayVec;
@@ -99,7 +100,7 @@ impl Account {
         ensures handed_out { IsHandedOut task.now self.old self.new }
         ensures closed { self.new.closed ≡ self.old.closed }
     {
-        match self.find(task) {
+        match self.find(|owed| owed.is(task)) {
             Some(here) => self.count_owed(here),
             None => self.count_stray(),
         }
@@ -111,7 +112,7 @@ impl Account {
         ensures handed_out { IsHandedOut task.now self.old self.new }
         ensures closed { self.new.closed ≡ self.old.closed }
     {
-        match self.find_named(task) {
+        match self.find(|owed| owed.name().is(task.name())) {
             Some(here) => self.count_owed(here),
             None => self.count_stray(),
         }
@@ -170,52 +171,20 @@ impl Account {
         self.closed
     }
 
-    /// Finds the first task that equals this one.
-    fn find(&self, task: &Task) -> Option<usize>
-        ensures some { IfSome result (IsFirst self.now.owed task.now) }
-        ensures none { IfNone result (Contains self.now.owed task.now → ⊥) }
+    /// Finds the first task for which `is_wanted` is true.
+    fn find<F: Fn(&Task) -> bool>(&self, is_wanted: F) -> Option<usize>
+        requires { F.IsAlwaysCallable is_wanted }
+        ensures some { IfSome result (IsFirst (FnReturnsAt F.Fn is_wanted) self.now.owed) }
+        ensures none { IfNone result (IsNowhere (FnReturnsAt F.Fn is_wanted) self.now.owed) }
     {
         for here in 0..self.owed() {
-            if self.is_at(here, task) {
-                return Some(here);
+            if let Some(owed) = self.at(here) {
+                if is_wanted(owed) {
+                    return Some(here);
+                }
             }
         }
         None
-    }
-
-    /// Finds the first task that has the name of this one.
-    fn find_named(&self, task: &Task) -> Option<usize>
-        ensures some { IfSome result (IsFirstNamed self.now.owed task.now) }
-        ensures none { IfNone result (Contains self.now.owed task.now → ⊥) }
-    {
-        for here in 0..self.owed() {
-            if self.is_named_at(here, task) {
-                return Some(here);
-            }
-        }
-        None
-    }
-
-    /// Returns whether the task at this position equals this one.
-    fn is_at(&self, here: usize, task: &Task) -> bool
-        requires { here < length self.now.owed }
-        ensures { IsTrue result ↔ (slice_index_or self.now.owed here task.now ≡ task.now) }
-    {
-        match self.at(here) {
-            Some(owed) => owed.is(task),
-            None => false,
-        }
-    }
-
-    /// Returns whether the task at this position has the name of this one.
-    fn is_named_at(&self, here: usize, task: &Task) -> bool
-        requires { here < length self.now.owed }
-        ensures { IsTrue result ↔ ((slice_index_or self.now.owed here task.now).name ≡ task.now.name) }
-    {
-        match self.at(here) {
-            Some(owed) => owed.name().is(task.name()),
-            None => false,
-        }
     }
 
     /// Returns the task at this position.

@@ -3,35 +3,34 @@ use Rattle.std.specs.List.{remove}
 use Rattle.std.proofs.lemmas.List.{get_or_default}
 use Rattle.lj_pool.specs.Accounts.{IsKept, tasks_owed}
 use Rattle.lj_pool.proofs.Places.{works_left, kept_left}
+use Rattle.lj_pool.proofs.account.Account.take_off.Goals.{After-push}
 use Rattle.lj_pool.proofs.account.Account.take_off.Goals as goal
+
+inside : (c : After-push) → c.args.here < c.self.inside.owed
+inside c = omega (arith, c.requires, c.self.invariant.held, ap (λ s. length s.owed) c.self.view_is)
+
+-- the place is moved to the end
+places_are : (c : After-push) → c.push.new.self.items
+    ≡ remove c.self.inside.places.items c.args.here ++ get_or c.self.inside.places.items c.args.here 0 ∷ []
+places_are c =
+    let kept = c.self.invariant in
+    let places = c.self.inside.places.items in
+    let here = c.args.here in
+    let within : here < length places = omega (arith, inside c, kept.all, kept.most) in
+    let place : c.remove-place.result ≡ get_or places here 0 =
+    c.remove-place.ensures.value ∙ get_or_default places here c.remove-place.result 0 within in
+    c.push.ensures.items ∙ ap (λ xs. xs ++ c.remove-place.result ∷ []) c.remove-place.ensures.items
+    ∙ ap (λ k. remove places here ++ k ∷ []) place
 
 pub invariant_of-self : goal.invariant_of-self
 invariant_of-self c =
-    let kept = c.self.invariant in
-    let owed = c.self.inside.owed in
-    let places = c.self.inside.places.items in
-    let here = c.args.here in
-    let inside : here < owed = omega (arith, c.requires, kept.held, ap (λ s. length s.owed) c.self.view_is) in
-    let within : here < length places = omega (arith, inside, kept.all, kept.most) in
-    let place : c.remove-place.result ≡ get_or places here 0 =
-    c.remove-place.ensures.value ∙ get_or_default places here c.remove-place.result 0 within in
-    let is = c.push.ensures.items ∙ ap (λ xs. xs ++ c.remove-place.result ∷ []) c.remove-place.ensures.items
-    ∙ ap (λ k. remove places here ++ k ∷ []) place in
-    subst (λ xs. IsKept c.self.inside.tasks xs (owed - 1)) (sym is)
-    (kept_left c.self.inside.tasks places owed here kept inside)
+    let p = (goal.at.invariant_of-self c).After-push in
+    subst (λ xs. IsKept c.self.inside.tasks xs (c.self.inside.owed - 1)) (sym (places_are p))
+    (kept_left c.self.inside.tasks c.self.inside.places.items c.self.inside.owed c.args.here c.self.invariant (inside p))
 
 pub returns-clause-owed : goal.returns-clause-owed
 returns-clause-owed c =
-    let kept = c.self.invariant in
-    let owed = c.self.inside.owed in
-    let places = c.self.inside.places.items in
-    let here = c.args.here in
-    let inside : here < owed = omega (arith, c.requires, kept.held, ap (λ s. length s.owed) c.self.view_is) in
-    let within : here < length places = omega (arith, inside, kept.all, kept.most) in
-    let place : c.remove-place.result ≡ get_or places here 0 =
-    c.remove-place.ensures.value ∙ get_or_default places here c.remove-place.result 0 within in
-    let is = c.push.ensures.items ∙ ap (λ xs. xs ++ c.remove-place.result ∷ []) c.remove-place.ensures.items
-    ∙ ap (λ k. remove places here ++ k ∷ []) place in
-    ap (λ xs. tasks_owed c.self.inside.tasks (take (owed - 1) xs)) is
-    ∙ works_left c.self.inside.tasks places owed here kept inside
-    ∙ ap (λ s. remove s.owed here) c.self.view_is
+    let p = (goal.at.returns-clause-owed c).After-push in
+    ap (λ xs. tasks_owed c.self.inside.tasks (take (c.self.inside.owed - 1) xs)) (places_are p)
+    ∙ works_left c.self.inside.tasks c.self.inside.places.items c.self.inside.owed c.args.here c.self.invariant (inside p)
+    ∙ ap (λ s. remove s.owed c.args.here) c.self.view_is
