@@ -14,7 +14,7 @@ use Rattle.lj_pool.specs.declared.engine.served.Served.{Served}
 use Rattle.lj_pool.specs.declared.engine.served.Served.TheVariants.{End, Bye, Ended, ReadFault, WriteFault, PoolClosed}
 use Rattle.lj_pool.specs.declared.engine.served.Served.TheVariants.{TooManyStrays}
 use Rattle.lj_pool.specs.Seen.{Seen}
-use Rattle.lj_pool.specs.Served.{NoneEnds, EndsByBye, EndsByFault, AnswersAll, Reaches, StopsShort, IsServed}
+use Rattle.lj_pool.specs.Served.{AnswersAll, Reaches, StopsShort, IsServed}
 use Rattle.lj_pool.specs.Served.{Serves}
 use Rattle.lj_pool.proofs.Dialogues.{Takes-on}
 
@@ -66,11 +66,11 @@ module _ (state : UserState) (read written : List ℕ) (old new : Seen) (held : 
     is_item = r.is_item;
   }
 
-  ended-on : (Ending : List Item → Type 0) (next : UserState) (a : AnswersAll Ending state read written old new next)
+  ended-on : (kind : Served) (next : UserState) (a : AnswersAll kind state read written old new next)
       (earlier : List Item) (last : Item)
       → a.dialogue.items ≡ earlier ++ last ∷ [] → is_ending last ≡ true
-      → AnswersAll Ending state (read ++ held) written old new next
-  ended-on Ending next a earlier last items_are over = record {
+      → AnswersAll kind state (read ++ held) written old new next
+  ended-on kind next a earlier last items_are over = record {
     dialogue = record {
       items = a.dialogue.items;
       rest = a.dialogue.rest ++ held;
@@ -110,11 +110,11 @@ module _ (state : UserState) (read written : List ℕ) (old new : Seen) (held : 
   served-on : (served : Served) (next : Option UserState) → (served ≡ End → held ≡ []) → (served ≡ ReadFault → held ≡ [])
       → IsServed served state read written old new next → IsServed served state (read ++ held) written old new next
   served-on End (Some next) at_end at_fault s =
-      subst (λ r. AnswersAll NoneEnds state r written old new next) (same-read (at_end refl)) s
-  served-on Bye (Some next) at_end at_fault s = ended-on EndsByBye next s s.ending.0 _ s.ending.1 refl
-  served-on Ended (Some next) at_end at_fault s = ended-on EndsByFault next s s.ending.0 _ s.ending.2 refl
+      subst (λ r. AnswersAll End state r written old new next) (same-read (at_end refl)) s
+  served-on Bye (Some next) at_end at_fault s = ended-on Bye next s s.ending.0 _ s.ending.1 refl
+  served-on Ended (Some next) at_end at_fault s = ended-on Ended next s s.ending.0 _ s.ending.2 refl
   served-on ReadFault (Some next) at_end at_fault s =
-      subst (λ r. AnswersAll NoneEnds state r written old new next) (same-read (at_fault refl)) s
+      subst (λ r. AnswersAll ReadFault state r written old new next) (same-read (at_fault refl)) s
   served-on WriteFault (Some next) at_end at_fault s = record {
     before = s.before;
     between = s.between;
@@ -127,15 +127,13 @@ module _ (state : UserState) (read written : List ℕ) (old new : Seen) (held : 
     written_is = s.written_is;
     next_is = s.next_is;
   }
-  served-on PoolClosed None at_end at_fault s = stops-on s
-  served-on TooManyStrays None at_end at_fault s = stops-on s
+  served-on PoolClosed next at_end at_fault s = (s.0, stops-on s.1)
+  served-on TooManyStrays next at_end at_fault s = (s.0, stops-on s.1)
   served-on End None at_end at_fault s = absurd s
   served-on Bye None at_end at_fault s = absurd s
   served-on Ended None at_end at_fault s = absurd s
   served-on ReadFault None at_end at_fault s = absurd s
   served-on WriteFault None at_end at_fault s = absurd s
-  served-on PoolClosed (Some next) at_end at_fault s = absurd s
-  served-on TooManyStrays (Some next) at_end at_fault s = absurd s
 
 -- nothing stands before nothing
 none_at_end : (held rest : List ℕ) → held ++ rest ≡ [] → held ≡ []

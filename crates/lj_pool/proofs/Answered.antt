@@ -21,7 +21,7 @@ use Rattle.lj_session.specs.Users.{User}
 use Rattle.lj_session.specs.Answers.{session_named, can_advance, command_result}
 use Rattle.lj_session.specs.Turns.{turns, waits_for, advance_turns}
 use Rattle.lj_session.specs.Begins.{OnRefusal}
-use Rattle.lj_session.specs.UserState.{LiveSession, UserState, IsAtWork, IsIdleIn, StepsAfter, StepsFollow, OthersKept}
+use Rattle.lj_session.specs.UserState.{LiveSession, UserState, IsAtWork, IsIdle, IsIdleIn, StepsAfter, StepsFollow, OthersKept}
 use Rattle.lj_session.specs.UserState.{OtherSessionsKept, settled_session, live_session, owed_in, names, with_session_changed, with_more_owed, with_start, steps_before, turns_before}
 use Rattle.lj_session.specs.UserState.{is_whole_in, is_measured, kind_owed}
 use Rattle.lj_session.specs.Owner.{Owner, IsAnswered, user_in, label_of, is_waited_for, IsLastTurn}
@@ -34,7 +34,7 @@ use Rattle.lj_pool.specs.Gathering.{tasks_posted_of, IsGathered, IsOpenFor, Gath
 use Rattle.lj_pool.specs.Counting.{steps_tiles, advance_tiles, command_tiles}
 use Rattle.lj_pool.specs.Coming.{tiles_of_session, tiles_after, waiting_tiles_of, tiles_to_come, tiles_coming, OwesNoMore, OwesNoneWhereWaited}
 use Rattle.lj_pool.specs.Owing.{OwesAfter, most_after, steps_started}
-use Rattle.lj_pool.proofs.Outcomes.{no-own-tiles, Stays, still-there, start_stays, Outcome, staying, same_name_of, none_named, outcome}
+use Rattle.lj_pool.proofs.Outcomes.{no-own-tiles, Stays, still-there, start_stays, Outcome, StartedThere, staying, same_name_of, none_named, outcome}
 use Rattle.lj_session.proofs.Others.{names-changed}
 use Rattle.lj_pool.proofs.Sessions.{same_name as same_bytes, there-changed, other-changed, sum-changed, sum-below, distinct-answered}
 use Rattle.lj_pool.proofs.Tiles.{idle-tiles, idle-gathered, closed-part, closed-posted, same-posted, same-tiles, same-gathered}
@@ -69,28 +69,43 @@ module _ (owner : Owner) (owed : List Task) (t : Gathers owner owed) (next : Own
     gathered = λ held found. t.gathered name held (sym same ∙ found);
   }
 
-idle_posted : (state : UserState) (name : List ℕ) (label : Label) → IsIdleIn state name → tasks_posted_of label (live_session state name) ≡ []
-idle_posted state name label idle = by (live_session state name) refl
+-- what is so of no session and of each idle one is so where a session is idle
+idle_is : {A : Type 0} (f : Option LiveSession → A) (x : A) → f None ≡ x → ((held : LiveSession) → IsIdle held → f (Some held) ≡ x)
+    → (state : UserState) (name : List ℕ) → IsIdleIn state name → f (live_session state name) ≡ x
+idle_is {A} f x none some state name idle = by (live_session state name) refl
   where
-    by : (o : Option LiveSession) → live_session state name ≡ o → tasks_posted_of label (live_session state name) ≡ []
-    by None e = ap (tasks_posted_of label) e
-    by (Some held) e = ap (tasks_posted_of label) e ∙ closed-posted held label (closed-part held.live.part (idle held e).closed)
+    by : (o : Option LiveSession) → live_session state name ≡ o → f (live_session state name) ≡ x
+    by None e = ap f e ∙ none
+    by (Some held) e = ap f e ∙ some held (idle held e)
 
--- a number of a session, if it is there
-abbrev number_in : (LiveSession → ℕ) → UserState → List ℕ → ℕ
-number_in f state name = option_map_or f (live_session state name) 0
-
--- none is owed to an idle session
-idle_owed : (state : UserState) (name : List ℕ) → IsIdleIn state name → owed_in state name ≡ 0
-idle_owed state name idle = by (live_session state name) refl
-  where
-    by : (o : Option LiveSession) → live_session state name ≡ o → owed_in state name ≡ 0
-    by None e = ap (λ o. option_map_or (λ (h : LiveSession). h.owed) o 0) e
-    by (Some held) e = ap (λ o. option_map_or (λ (h : LiveSession). h.owed) o 0) e ∙ (idle held e).owed
+idle_posted : (label : Label) (state : UserState) (name : List ℕ) → IsIdleIn state name → tasks_posted_of label (live_session state name) ≡ []
+idle_posted label = idle_is (tasks_posted_of label) [] refl (λ held idle. closed-posted held label (closed-part held.live.part idle.closed))
 
 -- how many steps are owed to a session, if it is there
 abbrev owed_of : Option LiveSession → ℕ
 owed_of o = option_map_or (λ (h : LiveSession). h.owed) o 0
+
+-- none is owed to an idle session
+idle_owed : (state : UserState) (name : List ℕ) → IsIdleIn state name → owed_in state name ≡ 0
+idle_owed = idle_is owed_of 0 refl (λ held idle. idle.owed)
+
+-- the number of tiles of a session to come, if it is there
+abbrev tiles_there : Option LiveSession → ℕ
+tiles_there o = option_map_or tiles_of_session o 0
+
+idle_there : (state : UserState) (name : List ℕ) → IsIdleIn state name → tiles_there (live_session state name) ≡ 0
+idle_there = idle_is tiles_there 0 refl idle-tiles
+
+-- as many tiles are to come where as many are of each session
+alike_sums : (a b : UserState) → IsDistinct bytes_eq (names a) → IsDistinct bytes_eq (names b)
+    → ((name : List ℕ) → tiles_there (live_session b name) ≡ tiles_there (live_session a name))
+    → tiles_to_come b ≡ tiles_to_come a
+alike_sums a b distinct distinct_b alike =
+    let below = sum-below tiles_of_session a.sessions b.sessions distinct (λ name held found.
+    let is = ap tiles_there found in let same = alike name in omega (arith, is, same)) in
+    let within = sum-below tiles_of_session b.sessions a.sessions distinct_b (λ name held found.
+    let is = ap tiles_there found in let same = alike name in omega (arith, is, same)) in
+    omega (arith, below, within)
 
 -- a START owes its steps to its session
 more_owed : (n : ℕ) (held : LiveSession) → (with_more_owed n held).owed ≡ held.owed + n
@@ -103,6 +118,12 @@ started_there_is : (user : User) (name : List ℕ) (n : ℕ)
     → steps_started user (Start name n) name ≡ advance_turns (value_named name user.sessions) n
 unfolding steps_started
 started_there_is user name n = ap (λ b. if b then advance_turns (value_named name user.sessions) n else 0) (same_bytes name)
+
+-- a command was answered at once
+pub record AtOnce (owner : Owner) (owed : List Task) (command : Command) (next : Owner) : Type 0 where
+  pub gathers : Gathers next owed
+  pub owes : OwesAfter owner.state (Ordered command) next.state
+  pub tiles : tiles_to_come next.state ≡ tiles_to_come owner.state + command_tiles (user_in owner) command
 
 -- a command that is answered at once
 module _ (owner : Owner) (owed : List Task) (t : Gathers owner owed) (idle : owner.waiting ≡ None)
@@ -146,8 +167,8 @@ module _ (owner : Owner) (owed : List Task) (t : Gathers owner owed) (idle : own
       by : (name : List ℕ) → Outcome owner.state next.state command name
           → Settles owner.state next.state (tasks_posted_of (label_of owner name)) name
       by name (inl rests) = record {
-        posted_is = idle_posted next.state name (label_of owner name) rests.after
-            ∙ sym (idle_posted owner.state name (label_of owner name) rests.before);
+        posted_is = idle_posted (label_of owner name) next.state name rests.after
+            ∙ sym (idle_posted (label_of owner name) owner.state name rests.before);
         gathered = λ held found. idle-gathered held (rests.after held found);
       }
       by name (inr (inl s)) = record {
@@ -165,7 +186,7 @@ module _ (owner : Owner) (owed : List Task) (t : Gathers owner owed) (idle : own
             (started-gathered s.before s.n (work_of name s.before s.was) (t.gathered name s.before s.was));
       }
 
-  pub answered_gathers : Gathers next owed
+  answered_gathers : Gathers next owed
   answered_gathers = gathers_settled owner owed t next number done
       (at_work-follows command owner.state next.state others steps work)
       (distinct-answered owner.state next.state command answered.mark reply answered.answers t.distinct)
@@ -199,7 +220,7 @@ module _ (owner : Owner) (owed : List Task) (t : Gathers owner owed) (idle : own
       ∙ ap (λ o. advance_turns o n) (named-held owner.state name before was) in
       omega (arith, most, old, new, more, started)
 
-  pub answered_owes : OwesAfter owner.state (Ordered command) next.state
+  answered_owes : OwesAfter owner.state (Ordered command) next.state
   answered_owes = of_each {P = λ name. owed_in next.state name
       ≤ most_after (user_in owner) (Ordered command) name (owed_in owner.state name)}
       (λ name same. kept_within name (let is = ap owed_of same in omega (arith, is)))
@@ -215,40 +236,24 @@ module _ (owner : Owner) (owed : List Task) (t : Gathers owner owed) (idle : own
           kept_within name (omega (arith, before, after, same))
       by name (inr (inr s)) = started_within name s.n s.before s.start s.was s.is
 
-  -- the tiles of each session
-  tiles_below : ((name : List ℕ) (n : ℕ) → command ≡ Start name n → ⊥) → (name : List ℕ) (held : LiveSession)
-      → live_session owner.state name ≡ Some held → tiles_of_session held ≤ number_in tiles_of_session next.state name
-  tiles_below no_start name held found = of_each {P = λ name. (held : LiveSession) → live_session owner.state name ≡ Some held
-      → tiles_of_session held ≤ number_in tiles_of_session next.state name}
-      (λ name same held found. let is = ap (λ o. option_map_or tiles_of_session o 0) (same ∙ found) in omega (arith, is))
-      (λ name is. by name (outcome_of name is)) name held found
+  -- as many tiles are to come of a session that is not started
+  tiles_alike : (name : List ℕ) → (StartedThere owner.state next.state command name → ⊥)
+      → tiles_there (live_session next.state name) ≡ tiles_there (live_session owner.state name)
+  tiles_alike = of_each {P = λ name. (StartedThere owner.state next.state command name → ⊥)
+      → tiles_there (live_session next.state name) ≡ tiles_there (live_session owner.state name)}
+      (λ name same never. ap tiles_there same)
+      (λ name is never. by name never (outcome_of name is))
     where
-      by : (name : List ℕ) → Outcome owner.state next.state command name → (held : LiveSession)
-          → live_session owner.state name ≡ Some held → tiles_of_session held ≤ number_in tiles_of_session next.state name
-      by name (inl rests) held found = let none = idle-tiles held (rests.before held found) in omega (arith, none)
-      by name (inr (inl s)) held found =
+      by : (name : List ℕ) → (StartedThere owner.state next.state command name → ⊥)
+          → Outcome owner.state next.state command name
+          → tiles_there (live_session next.state name) ≡ tiles_there (live_session owner.state name)
+      by name never (inl rests) = idle_there next.state name rests.after ∙ sym (idle_there owner.state name rests.before)
+      by name never (inr (inl s)) =
           let same = same-tiles s.before s.after s.same.live s.same.passed s.same.owed in
-          let is = ap (λ o. option_map_or tiles_of_session o 0) s.is in
-          let was = ap tiles_of_session (same_Some s.before held (sym s.was ∙ found)) in
+          let is = ap tiles_there s.is in
+          let was = ap tiles_there s.was in
           omega (arith, same, is, was)
-      by name (inr (inr s)) held found = absurd (no_start name s.n s.start)
-
-  tiles_within : ((name : List ℕ) (n : ℕ) → command ≡ Start name n → ⊥) → (name : List ℕ) (held : LiveSession)
-      → live_session next.state name ≡ Some held → tiles_of_session held ≤ number_in tiles_of_session owner.state name
-  tiles_within no_start name held found = of_each {P = λ name. (held : LiveSession) → live_session next.state name ≡ Some held
-      → tiles_of_session held ≤ number_in tiles_of_session owner.state name}
-      (λ name same held found. let is = ap (λ o. option_map_or tiles_of_session o 0) (sym same ∙ found) in omega (arith, is))
-      (λ name is. by name (outcome_of name is)) name held found
-    where
-      by : (name : List ℕ) → Outcome owner.state next.state command name → (held : LiveSession)
-          → live_session next.state name ≡ Some held → tiles_of_session held ≤ number_in tiles_of_session owner.state name
-      by name (inl rests) held found = let none = idle-tiles held (rests.after held found) in omega (arith, none)
-      by name (inr (inl s)) held found =
-          let same = same-tiles s.before s.after s.same.live s.same.passed s.same.owed in
-          let was = ap (λ o. option_map_or tiles_of_session o 0) s.was in
-          let is = ap tiles_of_session (same_Some s.after held (sym s.is ∙ found)) in
-          omega (arith, same, was, is)
-      by name (inr (inr s)) held found = absurd (no_start name s.n s.start)
+      by name never (inr (inr s)) = absurd (never s)
 
   distinct_next : IsDistinct bytes_eq (names next.state)
   distinct_next = distinct-answered owner.state next.state command answered.mark reply answered.answers t.distinct
@@ -258,9 +263,9 @@ module _ (owner : Owner) (owed : List Task) (t : Gathers owner owed) (idle : own
   answered_quiet no_start =
       let own : turns (user_in owner) command ≡ 0 = omega (arith, at_once) in
       let none = no-own-tiles (user_in owner) command own no_start in
-      let below = sum-below tiles_of_session owner.state.sessions next.state.sessions t.distinct (tiles_below no_start) in
-      let within = sum-below tiles_of_session next.state.sessions owner.state.sessions distinct_next (tiles_within no_start) in
-      omega (arith, none, below, within)
+      let same = alike_sums owner.state next.state t.distinct distinct_next
+      (λ name. tiles_alike name (λ s. no_start name s.n s.start)) in
+      omega (arith, none, same)
 
   -- a START
   module _ (session : List ℕ) (n : ℕ) (which : command ≡ Start session n) where
@@ -291,9 +296,8 @@ module _ (owner : Owner) (owed : List Task) (t : Gathers owner owed) (idle : own
         let tiles : command_tiles (user_in owner) command ≡ advance_tiles (Some (settled_session before)) n =
         ap (command_tiles (user_in owner)) which ∙ start_tiles_is before was in
         let distinct = subst (IsDistinct bytes_eq) (sym (names-changed owner.state session (with_start n))) t.distinct in
-        let below = sum-below tiles_of_session given.sessions next.state.sessions distinct below_each in
-        let within = sum-below tiles_of_session next.state.sessions given.sessions distinct_next within_each in
-        omega (arith, sum, more, tiles, below, within)
+        let same = alike_sums given next.state distinct distinct_next (λ name. sym (ap tiles_there (lookup_is name))) in
+        omega (arith, sum, more, tiles, same)
       where
         lookup_is : (name : List ℕ) → live_session given name ≡ live_session next.state name
         lookup_is name = by_test (bytes_eq session name)
@@ -303,33 +307,6 @@ module _ (owner : Owner) (owed : List Task) (t : Gathers owner owed) (idle : own
             (λ b. let apart : session ≡ name → ⊥ = λ same. true≢false (sym ((bytes_eq-Decides session name).1 same) ∙ b) in
             other-changed owner.state session (with_start n) name apart ∙ sym (kept_else name apart))
 
-        below_each : (name : List ℕ) (held : LiveSession) → live_session given name ≡ Some held
-            → tiles_of_session held ≤ number_in tiles_of_session next.state name
-        below_each name held found =
-            let is = ap (λ o. option_map_or tiles_of_session o 0) (sym (lookup_is name) ∙ found) in omega (arith, is)
-
-        within_each : (name : List ℕ) (held : LiveSession) → live_session next.state name ≡ Some held
-            → tiles_of_session held ≤ number_in tiles_of_session given name
-        within_each name held found =
-            let is = ap (λ o. option_map_or tiles_of_session o 0) (lookup_is name ∙ found) in omega (arith, is)
-
-    -- a session that was not there has no tiles to come
-    absent_within : live_session owner.state session ≡ None → (name : List ℕ) (held : LiveSession)
-        → live_session next.state name ≡ Some held → tiles_of_session held ≤ number_in tiles_of_session owner.state name
-    absent_within w name held found = of_each {P = λ name. (held : LiveSession) → live_session next.state name ≡ Some held
-        → tiles_of_session held ≤ number_in tiles_of_session owner.state name}
-        (λ name same held found. let is = ap (λ o. option_map_or tiles_of_session o 0) (sym same ∙ found) in omega (arith, is))
-        (λ name is. by name (same_name_of session name (sym session_is ∙ is)) (outcome_of name is)) name held found
-      where
-        absent : (name : List ℕ) → session ≡ name → (held : LiveSession) → live_session owner.state name ≡ Some held → ⊥
-        absent name same held there = none-some held (sym w ∙ ap (live_session owner.state) same ∙ there)
-
-        by : (name : List ℕ) → session ≡ name → Outcome owner.state next.state command name → (held : LiveSession)
-            → live_session next.state name ≡ Some held → tiles_of_session held ≤ number_in tiles_of_session owner.state name
-        by name same (inl rests) held found = let none = idle-tiles held (rests.after held found) in omega (arith, none)
-        by name same (inr (inl s)) held found = absurd (absent name same s.before s.was)
-        by name same (inr (inr s)) held found = absurd (absent name same s.before s.was)
-
     answered_start : tiles_to_come next.state ≡ tiles_to_come owner.state + command_tiles (user_in owner) command
     answered_start = by (live_session owner.state session) refl (outcome_of session session_is)
       where
@@ -337,11 +314,10 @@ module _ (owner : Owner) (owed : List Task) (t : Gathers owner owed) (idle : own
             → tiles_to_come next.state ≡ tiles_to_come owner.state + command_tiles (user_in owner) command
         by None w o =
             let none : command_tiles (user_in owner) command ≡ 0 = ap (command_tiles (user_in owner)) which ∙ start_tiles_none w in
-            let below = sum-below tiles_of_session owner.state.sessions next.state.sessions t.distinct (λ name held found.
-            let same = kept_else name (λ is. none-some held (sym w ∙ ap (live_session owner.state) is ∙ found)) in
-            let is = ap (λ o. option_map_or tiles_of_session o 0) (same ∙ found) in omega (arith, is)) in
-            let within = sum-below tiles_of_session next.state.sessions owner.state.sessions distinct_next (absent_within w) in
-            omega (arith, none, below, within)
+            let same = alike_sums owner.state next.state t.distinct distinct_next (λ name. tiles_alike name (λ s.
+            let is = same_name_of session name (sym session_is ∙ ap session_named s.start) in
+            none-some s.before (sym w ∙ ap (live_session owner.state) is ∙ s.was))) in
+            omega (arith, none, same)
         by (Some before) w o = answered_start_at before w (started_by (live_session next.state session) refl)
           where
             started_by : (p : Option LiveSession) → live_session next.state session ≡ p → live_session next.state session ≡ Some (with_start n before)
@@ -355,13 +331,23 @@ module _ (owner : Owner) (owed : List Task) (t : Gathers owner owed) (idle : own
                 subst (λ (k : Command). StepsAfter k (live_session owner.state session) after) which (steps session after session_is e) in
                 e ∙ ap (λ (h : LiveSession). Some h) (subst (λ o. IsSomeAnd o (λ held. after ≡ with_start n held)) w s)
 
-  pub answered_tiles : tiles_to_come next.state ≡ tiles_to_come owner.state + command_tiles (user_in owner) command
+  answered_tiles : tiles_to_come next.state ≡ tiles_to_come owner.state + command_tiles (user_in owner) command
   answered_tiles = by command refl
     where
       by : (k : Command) → command ≡ k
           → tiles_to_come next.state ≡ tiles_to_come owner.state + command_tiles (user_in owner) command
       by (Start session n) e = answered_start session n e
       by k e = answered_quiet (λ name n is. let differ = sym e ∙ is in cc)
+
+  pub answered_at_once : AtOnce owner owed command next
+  answered_at_once = record { gathers = answered_gathers; owes = answered_owes; tiles = answered_tiles }
+
+-- what waited was answered at a turn
+pub record Ended (owner : Owner) (owed : List Task) (next : Owner) : Type 0 where
+  pub gathers : Gathers next owed
+  pub owes : OwesNoMore owner next.state
+  pub rests : OwesNoneWhereWaited owner next.state
+  pub tiles : tiles_to_come next.state ≡ tiles_coming owner
 
 -- the turn at which what waited is answered
 module _ (owner : Owner) (owed : List Task) (t : Gathers owner owed) (name : List ℕ)
@@ -401,11 +387,11 @@ module _ (owner : Owner) (owed : List Task) (t : Gathers owner owed) (name : Lis
       t.at_work other held (sym (others other apart) ∙ found) ∙ rw quiet refl)
       other held found
 
-  pub ended_gathers : Gathers next owed
+  ended_gathers : Gathers next owed
   ended_gathers = gathers_settled owner owed t next number done work_next distinct
       (of_each_session {P = λ other. Settles owner.state next.state (tasks_posted_of (label_of owner other)) other}
       (record {
-        posted_is = idle_posted next.state name (label_of owner name) rests
+        posted_is = idle_posted (label_of owner name) next.state name rests
             ∙ sym (ap (tasks_posted_of (label_of owner name)) (whole-open owner owed t name whole).there
             ∙ whole-owes owner owed t name whole);
         gathered = λ held found. idle-gathered held (rests held found);
@@ -413,32 +399,33 @@ module _ (owner : Owner) (owed : List Task) (t : Gathers owner owed) (name : Lis
       (λ other apart. settles_same owner owed t next number other (others other apart)))
 
   -- no more steps are owed than were, and none to the session
-  pub ended_owes : OwesNoMore owner next.state
+  ended_owes : OwesNoMore owner next.state
   ended_owes other quiet = of_each_session {P = λ other. owed_in next.state other ≤ owed_in owner.state other}
       (let none = idle_owed next.state name rests in omega (arith, none))
-      (λ other apart. let same = ap (λ o. option_map_or (λ (h : LiveSession). h.owed) o 0) (others other apart) in omega (arith, same))
+      (λ other apart. let same = ap owed_of (others other apart) in omega (arith, same))
       other
 
-  pub ended_rests : OwesNoneWhereWaited owner next.state
+  ended_rests : OwesNoneWhereWaited owner next.state
   ended_rests other for_it =
       subst (λ n. owed_in next.state n ≡ 0)
       (same_name_of name other (sym waited.waits ∙ same_name waited.command other (sym (ap (λ w. is_waited_for w other) waited.is) ∙ for_it)))
       (idle_owed next.state name rests)
 
   -- no tile of the session was to come
-  none_here : (held : LiveSession) → live_session owner.state name ≡ Some held → tiles_of_session held ≡ 0
-  none_here held found =
+  none_there : tiles_there (live_session owner.state name) ≡ 0
+  none_there =
       let open_there = whole-open owner owed t name whole in
-      let same = same_Some open_there.held held (sym open_there.there ∙ found) in
+      let held : LiveSession = open_there.held in
       let left = whole-left owner owed t name whole in
-      let owed : held.owed ≤ 1 =
+      let few : held.owed ≤ 1 =
       let steps = ap (λ o. option_map_or (owed_in owner.state) o 0) waited.waits in
-      let is = ap (λ o. option_map_or (λ (h : LiveSession). h.owed) o 0) found in
-      let few = one in omega (arith, steps, is, few) in
+      let is = ap owed_of open_there.there in
+      let last = one in omega (arith, steps, is, last) in
       let later : tiles_after held ≡ 0 =
       ap (λ n. steps_tiles held.live.composition n (next_simulation held.live.composition held.live.sim))
-      (let none : held.owed - 1 ≡ 0 = omega (arith, owed) in none) in
-      subst (λ (h : LiveSession). tiles_after h ≡ 0 → tiles_of_session h ≡ 0) same (λ l. omega (arith, left, l)) later
+      (let none : held.owed - 1 ≡ 0 = omega (arith, few) in none) in
+      let none : tiles_of_session held ≡ 0 = omega (arith, left, later) in
+      ap tiles_there open_there.there ∙ none
 
   own_none : waiting_tiles_of owner owner.waiting ≡ 0
   own_none = ap (waiting_tiles_of owner) waited.is ∙ by_test (nat_lt 0 (steps_before owner.state waited.command))
@@ -447,20 +434,14 @@ module _ (owner : Owner) (owed : List Task) (t : Gathers owner owed) (name : Lis
       (λ n k e. none_named name (sym (start-waits waited.command n k e) ∙ waited.waits))))
       (λ b. rw b refl)
 
-  pub ended_tiles : tiles_coming next ≡ tiles_coming owner
+  ended_tiles : tiles_to_come next.state ≡ tiles_coming owner
   ended_tiles =
-      let below = sum-below tiles_of_session owner.state.sessions next.state.sessions t.distinct
-      (of_each_session {P = λ other. (held : LiveSession) → live_session owner.state other ≡ Some held
-      → tiles_of_session held ≤ number_in tiles_of_session next.state other}
-      (λ held found. let none = none_here held found in omega (arith, none))
-      (λ other apart held found. let is = ap (λ o. option_map_or tiles_of_session o 0) (others other apart ∙ found) in
-      omega (arith, is))) in
-      let within = sum-below tiles_of_session next.state.sessions owner.state.sessions distinct
-      (of_each_session {P = λ other. (held : LiveSession) → live_session next.state other ≡ Some held
-      → tiles_of_session held ≤ number_in tiles_of_session owner.state other}
-      (λ held found. let none = idle-tiles held (rests held found) in omega (arith, none))
-      (λ other apart held found. let is = ap (λ o. option_map_or tiles_of_session o 0) (sym (others other apart) ∙ found) in
-      omega (arith, is))) in
+      let same = alike_sums owner.state next.state t.distinct distinct
+      (of_each_session {P = λ other. tiles_there (live_session next.state other) ≡ tiles_there (live_session owner.state other)}
+      (idle_there next.state name rests ∙ sym none_there)
+      (λ other apart. ap tiles_there (others other apart))) in
       let own = own_none in
-      let next_own = ap (waiting_tiles_of next) done in
-      omega (arith, below, within, own, next_own)
+      omega (arith, same, own)
+
+  pub ended_at_turn : Ended owner owed next
+  ended_at_turn = record { gathers = ended_gathers; owes = ended_owes; rests = ended_rests; tiles = ended_tiles }

@@ -19,7 +19,7 @@ use Rattle.lj_session.specs.declared.command.Command.TheVariants.{Advance, Start
 use Rattle.lj_session.specs.declared.command.Command.TheVariants.{Measure}
 use Rattle.lj_session.specs.Users.{Session, User}
 use Rattle.lj_session.specs.Answers.{can_advance}
-use Rattle.lj_session.specs.Turns.{turns, waits_for, advance_turns}
+use Rattle.lj_session.specs.Turns.{turns, waits_for}
 use Rattle.lj_session.specs.UserState.{LiveSession, UserState, IsAtWork, IsIdle, user_of, settled_session, live_session, owed_in, with_session_changed, with_more_owed, with_step}
 use Rattle.lj_session.specs.UserState.{with_step_finished, steps_before, turns_before, is_whole_in, is_measured}
 use Rattle.lj_session.specs.Owner.{Owner, user_in, owner_begun, state_taking_up, rest_of, label_of, with_state, is_waited_for, owner_turned}
@@ -30,7 +30,7 @@ use Rattle.lj_session.proofs.Holding.{named-held, owed-of}
 use Rattle.lj_session.proofs.Owed.{owed-owing}
 use Rattle.lj_session.proofs.Passing.{Open, opens, energies, measured_last, measures, at_work-passed}
 use Rattle.lj_session.proofs.Turning.{advance-turns-near, measure-turns-one, no-turns}
-use Rattle.lj_session.proofs.Waiting.{Goes, goes, measured_there, passed_user, passed_turns, same_name}
+use Rattle.lj_session.proofs.Waiting.{Goes, goes, measured_there, nothing-turns, passed_user, passed_turns, same_name}
 use Rattle.lj_pool.specs.Gathering.{is_of, tiles_left_in, tasks_posted_of, IsOpenFor, Gathers}
 use Rattle.lj_pool.specs.Counting.{steps_tiles, advance_tiles, measure_tiles, frame_tiles, command_tiles, sum_over}
 use Rattle.lj_pool.specs.Coming.{tiles_of_session, posts_of_session, tiles_after, waiting_tiles, waiting_tiles_of, turns_coming}
@@ -84,14 +84,6 @@ unfolding command_tiles
 none-tiles user name = by (value_named name user.sessions)
   where
     by : (o : Option Session) → advance_tiles o 0 ≡ 0
-    by None = refl
-    by (Some session) = by_test (can_advance session 0) (λ t. rw t refl) (λ t. rw t refl)
-
-none-turns : (user : User) (name : List ℕ) → turns user (Advance name 0) ≡ 0
-unfolding turns
-none-turns user name = by (value_named name user.sessions)
-  where
-    by : (o : Option Session) → advance_turns o 0 ≡ 0
     by None = refl
     by (Some session) = by_test (can_advance session 0) (λ t. rw t refl) (λ t. rw t refl)
 
@@ -166,7 +158,7 @@ module _ (base : Owner) (owed : List Task) (t : Gathers base owed) (idle : base.
       let posts_sum = sum posts_of_session g.held g.there in
       let owed_then = owed-owing n g.held in
       let owed_sum = sum (λ held. held.owed) g.held g.there in
-      let turns_then = none-turns (user_of (with_session_changed name (with_more_owed n) base.state)) name in
+      let turns_then = nothing-turns (user_of (with_session_changed name (with_more_owed n) base.state)) name in
       let turns_before = advance-turns-near (user_in base) name n (settled_session g.held)
       (named-held base.state name g.held g.there) g.near in
       record {

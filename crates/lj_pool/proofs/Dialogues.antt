@@ -44,7 +44,7 @@ use Rattle.lj_pool.specs.Counting.{command_tiles, item_tiles, tiles, tiles_owed,
 use Rattle.lj_pool.specs.Owing.{most_after, most_after_all, most_owed, steps_started, OwesAfter, OwesAfterAll}
 use Rattle.lj_pool.specs.Coming.{tiles_to_come}
 use Rattle.lj_pool.specs.Endings.{served_of, ending_of}
-use Rattle.lj_pool.specs.Served.{NoneEnds, EndsByBye, EndsByFault, AnswersAll, IsServed, Reaches, MayWait, StopsShort, Serves}
+use Rattle.lj_pool.specs.Served.{NoneEnds, EndsAs, AnswersAll, IsServed, Reaches, MayWait, StopsShort, Serves}
 use Rattle.lj_pool.specs.Serving.{AnswersItem, Serving}
 use Rattle.lj_pool.proofs.Going.{rises_more, rises_none}
 use Rattle.lj_pool.proofs.Rested.{rested-tiles, rested-owes}
@@ -232,6 +232,12 @@ told_of between next found item reply handed answers = by_found handed
     by_found (inl same) = with_mark answers.0 (ap (λ i. item_reply between i answers.0) (sym same) ∙ answers.1)
     by_found (inr l) = with_mark true (sym (lost_answered between found item answers.0 l) ∙ answers.1)
 
+-- what is so where the pool is given up
+gives_up : (halt : Halt) {state : UserState} {read written : List ℕ} {old new : Seen} → StopsShort state read written old new
+    → IsServed (served_of halt) state read written old new None
+gives_up halts.PoolClosed short = (refl, short)
+gives_up halts.TooManyStrays short = (refl, short)
+
 -- serving begins with nothing read
 pub serving-start : (start : UserState) (first : LineReader) (was : Option (List ℕ)) (old : Seen)
     → first.items ≡ 0 → first.phase ≡ Open
@@ -308,7 +314,8 @@ module _ (start : UserState) (first now : LineReader) (was is : Option (List ℕ
   pub serving-stops : (halt : Halt) (newer : Seen) → MAX_AHEAD < length newer.owed
       → ((task : Task) → Contains newer.owed task → 0 < owed_in owned task.name.label.session)
       → Serves (served_of halt) start first.left now.left was is old newer None
-  serving-stops halt newer many owed = by halt
+  serving-stops halt newer many owed =
+      record { read = s.read; written = s.written; taken = s.taken; appends = s.appends; is_served = gives_up halt short }
     where
       short : StopsShort start s.read s.written old newer
       short = inr (record {
@@ -331,17 +338,11 @@ module _ (start : UserState) (first now : LineReader) (was is : Option (List ℕ
         many = many;
       })
 
-      by : (halt : Halt) → Serves (served_of halt) start first.left now.left was is old newer None
-      by halts.PoolClosed =
-          record { read = s.read; written = s.written; taken = s.taken; appends = s.appends; is_served = short }
-      by halts.TooManyStrays =
-          record { read = s.read; written = s.written; taken = s.taken; appends = s.appends; is_served = short }
-
   -- the state is handed back
   module _ (back : UserState) (same : user_of back ≡ user_of owned) (few : tiles_to_come owned ≤ tiles_owed back) where
-    serving-part : (part : List ℕ) → IsPart now.items part
-        → AnswersAll NoneEnds start (s.read ++ part) s.written old new back
-    serving-part part p = record {
+    serving-part : (ending : Served) → ((items : List Item) → NoneEnds items → EndsAs ending items) → (part : List ℕ)
+        → IsPart now.items part → AnswersAll ending start (s.read ++ part) s.written old new back
+    serving-part ending none part p = record {
       dialogue = record {
         items = s.items;
         rest = part;
@@ -352,7 +353,7 @@ module _ (start : UserState) (first now : LineReader) (was is : Option (List ℕ
         written_is = s.written_is;
         next_is = same ∙ s.next_is;
       };
-      ending = Takes-none_ends 0 s.read s.items [] s.takes;
+      ending = none s.items (Takes-none_ends 0 s.read s.items [] s.takes);
       counted = rises_more (tiles user s.items s.marks + tiles_owed start - tiles_to_come owned) 0
           (tiles user s.items s.marks + tiles_owed start - tiles_owed back) s.counted (rises_none new new 0 refl refl (omega arith))
           (omega (arith, few));
@@ -361,12 +362,14 @@ module _ (start : UserState) (first now : LineReader) (was is : Option (List ℕ
     -- the input has ended
     pub serving-ceases : (last : LineReader) → Ceases now last
         → Serves served.End start first.left last.left was is old new (Some back)
-    serving-ceases last c = serves-on served.End last c.part new (Some back) c.taken (serving-part c.part c.is_part)
+    serving-ceases last c = serves-on served.End last c.part new (Some back) c.taken
+        (serving-part served.End (λ _ ends. ends) c.part c.is_part)
 
     -- a read has failed
     pub serving-fails : (last : LineReader) → Fails now last
         → Serves served.ReadFault start first.left last.left was is old new (Some back)
-    serving-fails last f = serves-on served.ReadFault last f.part new (Some back) f.taken (serving-part f.part f.is_part)
+    serving-fails last f = serves-on served.ReadFault last f.part new (Some back) f.taken
+        (serving-part served.ReadFault (λ _ ends. ends) f.part f.is_part)
 
   -- an item comes
   module _ (after : LineReader) (item : Item) (h : HandsOut now after item) where
@@ -417,10 +420,8 @@ module _ (start : UserState) (first now : LineReader) (was is : Option (List ℕ
     pub serving-halts : (halt : Halt) (newer : Seen) → 0 < item_before owned item
         → FallsShort (tiles_to_come owned + item_tiles (user_of owned) item) new newer
         → Serves (served_of halt) start first.left after.left was is old newer None
-    serving-halts halts.PoolClosed newer waits missing =
-        serves-on served.PoolClosed after h.front newer None h.taken (stops newer waits missing)
-    serving-halts halts.TooManyStrays newer waits missing =
-        serves-on served.TooManyStrays after h.front newer None h.taken (stops newer waits missing)
+    serving-halts halt newer waits missing =
+        serves-on (served_of halt) after h.front newer None h.taken (gives_up halt (stops newer waits missing))
 
     -- something is written for it
     serves-more : (ending : Served) (more : List ℕ) (now_is : Option (List ℕ)) (newer : Seen) (state : Option UserState)
@@ -463,7 +464,7 @@ module _ (start : UserState) (first now : LineReader) (was is : Option (List ℕ
 
       -- and the text is written
       module _ (now_is : Option (List ℕ)) (appends : Appends is now_is words) (newer : Seen)
-          (risen : CountsRise (item_tiles (user_of owned) item + tiles_to_come owned - tiles_to_come last) new newer)
+          (risen : CountsRise (tiles_to_come owned + item_tiles (user_of owned) item - tiles_to_come last) new newer)
           (handed : HandedWithin (tiles_to_come owned + item_tiles (user_of owned) item) (tiles_to_come last) new newer) where
         abbrev items_more : List Item
         items_more = s.items ++ h.found ∷ []
@@ -508,7 +509,7 @@ module _ (start : UserState) (first now : LineReader) (was is : Option (List ℕ
         counted_more =
             let sum = tiles_sum in
             rises_more (tiles user s.items s.marks + tiles_owed start - tiles_to_come owned)
-            (item_tiles (user_of owned) item + tiles_to_come owned - tiles_to_come last)
+            (tiles_to_come owned + item_tiles (user_of owned) item - tiles_to_come last)
             (tiles user items_more marks_more + tiles_owed start - tiles_to_come last)
             s.counted risen (omega (arith, sum))
 
@@ -537,9 +538,9 @@ module _ (start : UserState) (first now : LineReader) (was is : Option (List ℕ
 
         -- and the connection ends with it
         module _ (back : UserState) (same_back : user_of back ≡ user_of last) (few : tiles_to_come last ≤ tiles_owed back) where
-          ended : (Ending : List Item → Type 0) → Ending items_more → is_ending item ≡ true
-              → AnswersAll Ending start (s.read ++ h.front) (s.written ++ words) old newer back
-          ended Ending ending over = record {
+          ended : (kind : Served) → EndsAs kind items_more → is_ending item ≡ true
+              → AnswersAll kind start (s.read ++ h.front) (s.written ++ words) old newer back
+          ended kind ending over = record {
             dialogue = record {
               items = items_more;
               rest = [];
@@ -560,11 +561,11 @@ module _ (start : UserState) (first now : LineReader) (was is : Option (List ℕ
               → Serves kind start first.left after.left was now_is old newer (Some back)
           serving-ends_by (Command ByeCommand) served.Bye is e =
               serves-more served.Bye words now_is newer (Some back) appends
-              (ended EndsByBye (s.items, ap (λ i. s.items ++ i ∷ []) is)
+              (ended served.Bye (s.items, ap (λ i. s.items ++ i ∷ []) is)
               (ends_alike h.found item h.is_found ∙ ap is_ending is))
           serving-ends_by (Last fault) served.Ended is e =
               serves-more served.Ended words now_is newer (Some back) appends
-              (ended EndsByFault (s.items, fault, ap (λ i. s.items ++ i ∷ []) is)
+              (ended served.Ended (s.items, fault, ap (λ i. s.items ++ i ∷ []) is)
               (ends_alike h.found item h.is_found ∙ ap is_ending is))
           serving-ends_by found kind is e = absurd (cc)
 

@@ -20,7 +20,8 @@ use Rattle.lj_session.proofs.Holding.{changed-quota}
 use Rattle.lj_session.proofs.Waiting.{posted_user, taken_user}
 use Rattle.lj_pool.specs.Seen.{Seen, SameOwed, IsPosted, TakesOff, IsHandedOut, IsStray, one_more}
 use Rattle.lj_pool.specs.Gathering.{Gathers, tiles_left_in}
-use Rattle.lj_pool.specs.Counting.{CountsRise, command_tiles}
+use Rattle.lj_pool.specs.declared.pool.TheConstants.{MAX_STRAYS}
+use Rattle.lj_pool.specs.Counting.{CountsRise, StraysRise, command_tiles}
 use Rattle.lj_pool.specs.Coming.{GoesOn, tiles_of_session, posts_of_session, waiting_tiles, waiting_tiles_of, turns_coming}
 use Rattle.lj_pool.specs.Coming.{tiles_coming, posts_coming}
 use Rattle.lj_pool.proofs.Gathering.{posted_fewer, taken_left, taken_tiles}
@@ -89,6 +90,12 @@ replied_alike old now reply next = by old.waiting now.waiting
     by (Some a) None p r = absurd p
     by (Some a) (Some b) p r = record { mark = r.mark; answers = r.answers ∙ p r.mark; only_memory = r.only_memory }
 
+-- The work goes on, and the last `strays` results were strays, too few of them to end it.
+pub record GoesOnAmong (strays : ℕ) (old : Owner) (before : Seen) (new : Owner) (after : Seen) : Type 0 where
+  pub goes : GoesOn old before new after
+  pub in_a_row : StraysRise strays before after
+  pub few : strays < MAX_STRAYS
+
 -- step after step
 pub goes_then : {a b c : Owner} {p q r : Seen} → GoesOn a p b q → GoesOn b q c r → GoesOn a p c r
 goes_then {a} {b} {c} first second =
@@ -111,21 +118,32 @@ goes_then {a} {b} {c} first second =
       waits = λ name. second.waits name ∙ first.waits name;
     }
 
-pub goes_unchanged : (owner : Owner) (before after : Seen) → Gathers owner before.owed → SameOwed before after
-    → GoesOn owner before owner after
-goes_unchanged owner before after t same = record {
-  gathers = subst (Gathers owner) (sym same.owed) t;
+-- by what changes neither the owner nor what is owed, and counts at most strays
+goes_alike : (owner : Owner) (before after : Seen) → Gathers owner before.owed → after.owed ≡ before.owed
+    → after.expected ≡ before.expected → before.strays ≤ after.strays → GoesOn owner before owner after
+goes_alike owner before after t owed expected strays = record {
+  gathers = subst (Gathers owner) (sym owed) t;
   alike = alike_same owner owner refl refl;
   number = refl;
   quota = refl;
-  counted = rises_none before after (tiles_coming owner - tiles_coming owner) same.expected same.strays (omega arith);
-  handed = let expected = same.expected in omega (arith, expected);
+  counted = record {
+    expected = omega (arith, expected);
+    strays = strays;
+    together = λ _ _. omega (arith, expected, strays);
+  };
+  handed = omega (arith, expected);
   turns = omega arith;
   tiles = omega arith;
   posts = omega arith;
   owes = λ name quiet. omega arith;
   waits = λ name. refl;
 }
+
+pub goes_unchanged : (owner : Owner) (before after : Seen) → Gathers owner before.owed → SameOwed before after
+    → GoesOn owner before owner after
+goes_unchanged owner before after t same =
+    let strays = same.strays in
+    goes_alike owner before after t same.owed same.expected (omega (arith, strays))
 
 pub goes_nothing : (owner : Owner) (seen : Seen) → Gathers owner seen.owed → GoesOn owner seen owner seen
 goes_nothing owner seen t = goes_unchanged owner seen seen t (record { owed = refl; expected = refl; strays = refl })
@@ -310,19 +328,8 @@ module _ (owner : Owner) (before after : Seen) (t : Gathers owner before.owed) (
   goes_stray : (IsAwaitedIn owner work → ⊥) → GoesOn owner before owner after
   goes_stray unwanted =
       let stray = refused_stray unwanted in
-      record {
-        gathers = subst (Gathers owner) (sym stray.owed) t;
-        alike = alike_same owner owner refl refl;
-        number = refl;
-        quota = refl;
-        counted = rises_one work before after (tiles_coming owner - tiles_coming owner) handed (omega arith);
-        handed = let expected = stray.expected in omega (arith, expected);
-        turns = omega arith;
-        tiles = omega arith;
-        posts = omega arith;
-        owes = λ name quiet. omega arith;
-        waits = λ name. refl;
-      }
+      let strays = stray.strays in
+      goes_alike owner before after t stray.owed stray.expected (omega (arith, strays))
 
   module _ {A B : Type 0} (next : Owner) where
     pub comes : (r : Result A B) → (IsOk r ↔ IsAwaitedIn owner work) → OnOk r (next ≡ with_task_in work owner)
@@ -382,11 +389,15 @@ post-coming owner seen t work some =
     with_it = record { owed = seen.owed ++ work ∷ []; expected = seen.expected; strays = seen.strays; closed = seen.closed }
 
 -- a session turned, where that answers nothing
-pub goes_turned : (owner next : Owner) (seen : Seen) (t : Gathers owner seen.owed) (name : List ℕ)
+pub record TurnsOn (owner next : Owner) (seen : Seen) : Type 0 where
+  pub goes : GoesOn owner seen next seen
+  pub fewer : turns_coming next < turns_coming owner
+
+pub turns_on : (owner next : Owner) (seen : Seen) (t : Gathers owner seen.owed) (name : List ℕ)
     → is_whole_in owner.state name ≡ true → (IsLastTurn name owner → ⊥) → next ≡ owner_turned name owner
     → WaitsAlike owner next → next.number ≡ owner.number → next.state.quota ≡ owner.state.quota
-    → GoesOn owner seen next seen
-goes_turned owner next seen t name whole more is alike number quota =
+    → TurnsOn owner next seen
+turns_on owner next seen t name whole more is alike number quota =
     let turned_on = turned owner seen.owed t name whole more in
     let turns_less = turned_on.turns in
     let posts_less = turned_on.posts in
@@ -394,26 +405,21 @@ goes_turned owner next seen t name whole more is alike number quota =
     let turns_is = ap turns_coming is in
     let posts_is = ap posts_coming is in
     record {
-      gathers = subst (λ (o : Owner). Gathers o seen.owed) (sym is) turned_on.gathers;
-      alike = alike;
-      number = number;
-      quota = quota;
-      counted = rises_none seen seen (tiles_coming owner - tiles_coming next) refl refl (omega (arith, tiles));
-      handed = omega (arith, tiles);
-      turns = omega (arith, turns_less, turns_is);
-      tiles = omega (arith, tiles);
-      posts = omega (arith, posts_less, posts_is);
-      owes = λ other quiet.
-          let few = turned-owes name owner other quiet in
-          let same = ap (λ (o : Owner). owed_in o.state other) is in
-          omega (arith, few, same);
-      waits = λ other. ap (λ (o : Owner). is_waited_for o.waiting other) is ∙ turned-waits name owner other;
+      goes = record {
+        gathers = subst (λ (o : Owner). Gathers o seen.owed) (sym is) turned_on.gathers;
+        alike = alike;
+        number = number;
+        quota = quota;
+        counted = rises_none seen seen (tiles_coming owner - tiles_coming next) refl refl (omega (arith, tiles));
+        handed = omega (arith, tiles);
+        turns = omega (arith, turns_less, turns_is);
+        tiles = omega (arith, tiles);
+        posts = omega (arith, posts_less, posts_is);
+        owes = λ other quiet.
+            let few = turned-owes name owner other quiet in
+            let same = ap (λ (o : Owner). owed_in o.state other) is in
+            omega (arith, few, same);
+        waits = λ other. ap (λ (o : Owner). is_waited_for o.waiting other) is ∙ turned-waits name owner other;
+      };
+      fewer = omega (arith, turns_less, turns_is);
     }
-
-pub turned_fewer : (owner next : Owner) (seen : Seen) (t : Gathers owner seen.owed) (name : List ℕ)
-    → is_whole_in owner.state name ≡ true → (IsLastTurn name owner → ⊥) → next ≡ owner_turned name owner
-    → turns_coming next < turns_coming owner
-turned_fewer owner next seen t name whole more is =
-    let less = (turned owner seen.owed t name whole more).turns in
-    let same = ap turns_coming is in
-    omega (arith, less, same)

@@ -1,5 +1,5 @@
 -- Serving goes on before the next item, and the state that is handed back.
-use Rattle.std.proofs.Common.{◌≡◌, ℕ, ◌-◌, ◌<◌, ◌≤◌, List, [], Option, None, refl, sym, ap, subst, arith}
+use Rattle.std.proofs.Common.{◌≡◌, ℕ, ◌-◌, ◌<◌, ◌≤◌, List, [], Option, None, refl, sym, ap, ◌∙◌, subst, arith}
 use Rattle.std.specs.List.{IsDistinct, Contains}
 use Rattle.std.specs.Str.{bytes_eq}
 use Rattle.lj_tile.specs.Task.{Task}
@@ -7,10 +7,14 @@ use Rattle.lj_session.specs.UserState.{UserState, owed_in, with_steps_restarted,
 use Rattle.lj_session.specs.Owner.{Owner, owner_of_state, is_waited_for}
 use Rattle.lj_wire.specs.declared.reader.phase.Phase.TheVariants.{Open}
 use Rattle.lj_wire.specs.LineReader.{LineReader}
+use Rattle.lj_pool.specs.declared.engine.running.Halt.{Halt}
+use Rattle.lj_pool.specs.declared.engine.served.Served.{Served}
+use Rattle.lj_pool.specs.Endings.{served_of}
 use Rattle.lj_pool.specs.Seen.{Seen}
 use Rattle.lj_pool.specs.Gathering.{Gathers, NoneOwed}
 use Rattle.lj_pool.specs.Counting.{tiles_owed}
 use Rattle.lj_pool.specs.Coming.{GoesOn, waiting_tiles_of, tiles_to_come, tiles_coming}
+use Rattle.lj_pool.specs.Served.{HandsBack}
 use Rattle.lj_pool.specs.Serving.{Serving}
 use Rattle.lj_pool.proofs.Dialogues.{serving-start, serving-goes}
 use Rattle.lj_pool.proofs.Ending.{alike_none}
@@ -62,5 +66,14 @@ module _ (owner : Owner) (seen : Seen) (t : Gathers owner seen.owed) (idle : own
   pub back_few : tiles_to_come owner.state ≤ tiles_owed back
   back_few = subst (λ o. tiles_to_come owner.state ≤ tiles_owed o) (sym is) (rested-few owner seen.owed t idle)
 
-  pub back_none : NoneOwed back → seen.owed ≡ []
-  back_none none = none-owed owner seen.owed t idle (subst NoneOwed is none)
+  pub hands_back : (start : UserState) → owner.state.quota ≡ start.quota → HandsBack start seen back
+  hands_back start quota = record {
+    none_owed = λ none. none-owed owner seen.owed t idle (subst NoneOwed is none);
+    quota = ap (λ (state : UserState). state.quota) is ∙ quota;
+  }
+
+-- what is so where the pool is given up is so of the result
+pub given : (P : Served → Option UserState → Type 0) (halt : Halt) (result : Option UserState × Served) → result.0 ≡ None
+    → result.1 ≡ served_of halt → P (served_of halt) None → P result.1 result.0
+given P halt result none served p =
+    subst (λ kind. P kind result.0) (sym served) (subst (P (served_of halt)) (sym none) p)

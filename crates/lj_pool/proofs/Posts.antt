@@ -127,14 +127,6 @@ module _ (owner : Owner) (before : Seen) (t : Gathers owner before.owed) (tasks 
           let e : n + 1 ≡ suc n = omega arith in
           subst (λ m. take m tasks ≡ take n tasks ++ get_or tasks n blank_task ∷ []) e (take_more tasks n blank_task inside)
 
-  pub goes_all : (n : ℕ) → n ≤ length tasks → AreNext n tasks owner → (after : Seen) → ArePosted (take n tasks) before after
-      → GoesOn owner before (after_posts n owner) after
-  goes_all n most next after posted = (goes_each n most next after posted).goes
-
-  pub fewer_all : (n : ℕ) → n ≤ length tasks → AreNext n tasks owner → (after : Seen) → ArePosted (take n tasks) before after
-      → posts_coming (after_posts n owner) + n ≤ posts_coming owner
-  fewer_all n most next after posted = (goes_each n most next after posted).fewer
-
   -- all next tasks are of the owner's user
   pub users_all : (n : ℕ) → n ≤ length tasks → AreNext n tasks owner
       → All (λ task. task.name.label.user ≡ owner.number) (take n tasks)
@@ -156,6 +148,11 @@ eq_of n m told = by (eqb_tells n m)
     by (inl (t, is)) = is
     by (inr (t, differs)) = absurd (true≢false (sym told ∙ t))
 
+-- n of the next tasks were posted; fewer are to be posted then, if those are all that were written, and some were
+pub record PostsFront (owner : Owner) (before : Seen) (written n : ℕ) (next : Owner) (after : Seen) : Type 0 where
+  pub goes : GoesOn owner before next after
+  pub fewer : nat_eq n written ≡ true → written ≢ 0 → posts_coming next < posts_coming owner
+
 -- the rooms in which the next tasks are written are handed to the pool
 module _ (owner : Owner) (before : Seen) (t : Gathers owner before.owed) (rooms : List Task) (written : ℕ)
     (inside : written ≤ length rooms) (next : AreNext written rooms owner) where
@@ -165,16 +162,15 @@ module _ (owner : Owner) (before : Seen) (t : Gathers owner before.owed) (rooms 
       let less : k < written = omega (arith, most, below, count) in
       next k less ∙ ap (λ (x : Task). Some x) (sym (get_or-take written rooms k blank_task less))
 
-  pub goes_front : (n : ℕ) → n ≤ length (take written rooms) → (after : Seen) → ArePosted (take n (take written rooms)) before after
-      → GoesOn owner before (after_posts n owner) after
-  goes_front n most after posted = goes_all owner before t (take written rooms) n most (next_front n most) after posted
-
-  pub fewer_front : (n : ℕ) → n ≤ length (take written rooms) → (after : Seen) → ArePosted (take n (take written rooms)) before after
-      → nat_eq n written ≡ true → written ≢ 0 → posts_coming (after_posts n owner) < posts_coming owner
-  fewer_front n most after posted all some =
-      let less = fewer_all owner before t (take written rooms) n most (next_front n most) after posted in
-      let same = eq_of n written all in
-      omega (arith, less, same, some)
+  pub posts_front : (n : ℕ) → n ≤ length (take written rooms) → (after : Seen) → ArePosted (take n (take written rooms)) before after
+      → PostsFront owner before written n (after_posts n owner) after
+  posts_front n most after posted =
+      let each = goes_each owner before t (take written rooms) n most (next_front n most) after posted in
+      let less = each.fewer in
+      record {
+        goes = each.goes;
+        fewer = λ all some. let same = eq_of n written all in omega (arith, less, same, some);
+      }
 
   pub users_front : All (λ task. task.name.label.user ≡ owner.number) (take written rooms)
   users_front = users_all owner before t rooms written inside next

@@ -7,9 +7,10 @@ use Rattle.lj_session.specs.declared.command.Command.{Command}
 use Rattle.lj_session.specs.Turns.{turns}
 use Rattle.lj_session.specs.UserState.{LiveSession, UserState, owed_in, steps_before}
 use Rattle.lj_session.specs.Owner.{Owner, user_in, is_waited_for, WaitsAlike}
+use Rattle.lj_wire.specs.declared.item.Item.{Item}
 use Rattle.lj_pool.specs.Seen.{Seen}
 use Rattle.lj_pool.specs.Gathering.{Gathers, tiles_left_in}
-use Rattle.lj_pool.specs.Counting.{steps_tiles, command_tiles, sum_over, CountsRise, HandedWithin}
+use Rattle.lj_pool.specs.Counting.{steps_tiles, command_tiles, item_tiles, sum_over, CountsRise, HandedWithin}
 
 -- the number of tiles of the steps owed to a session after the open one
 abbrev pub tiles_after : LiveSession → ℕ
@@ -50,6 +51,10 @@ tiles_coming owner = tiles_to_come owner.state + waiting_tiles owner
 abbrev pub posts_coming : Owner → ℕ
 posts_coming owner = sum_over posts_of_session owner.state + waiting_tiles owner
 
+-- the number of tiles to come of the steps owed and of an item
+abbrev pub tiles_with_item : Owner → Item → ℕ
+tiles_with_item owner item = tiles_to_come owner.state + item_tiles (user_in owner) item
+
 -- No session is owed more steps than before, except the one that the pending command waits for.
 abbrev pub OwesNoMore : Owner → UserState → Type 0
 OwesNoMore old new = (name : List ℕ) → is_waited_for old.waiting name ≡ false → owed_in new name ≤ owed_in old.state name
@@ -58,17 +63,27 @@ OwesNoMore old new = (name : List ℕ) → is_waited_for old.waiting name ≡ fa
 abbrev pub OwesNoneWhereWaited : Owner → UserState → Type 0
 OwesNoneWhereWaited old new = (name : List ℕ) → is_waited_for old.waiting name ≡ true → owed_in new name ≡ 0
 
--- The work goes on: the replies to come stay the same, each tile that came in was counted, each owed result handed out was of one
--- of these, and no session is owed more steps except the one that is waited for, which stays the same.
+-- Work on the owner's steps went on over the pool, and no command was answered.
 pub record GoesOn (old : Owner) (before : Seen) (new : Owner) (after : Seen) : Type 0 where
+  -- The pool owes the tasks that are posted and whose results are not in, and no others.
   pub gathers : Gathers new after.owed
+  -- The pending command will be answered as it would have been; where none is pending, the user is the same.
   pub alike : WaitsAlike old new
+  -- It is the owner of the same user.
   pub number : new.number ≡ old.number
+  -- The user has the same quota.
   pub quota : new.state.quota ≡ old.state.quota
+  -- At least as many results were counted as tiles are no more to come.
   pub counted : CountsRise (tiles_coming old - tiles_coming new) before after
+  -- At most as many results that were owed were handed out.
   pub handed : HandedWithin (tiles_coming old) (tiles_coming new) before after
+  -- No more turns are to come than before.
   pub turns : turns_coming new ≤ turns_coming old
+  -- No more tiles are to come than before.
   pub tiles : tiles_coming new ≤ tiles_coming old
+  -- No more tiles are to be posted than before.
   pub posts : posts_coming new ≤ posts_coming old
+  -- No session is owed more steps than before, except the one that the pending command waits for.
   pub owes : OwesNoMore old new.state
+  -- The pending command waits for the same session.
   pub waits : (name : List ℕ) → is_waited_for new.waiting name ≡ is_waited_for old.waiting name

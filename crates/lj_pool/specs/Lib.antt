@@ -9,6 +9,7 @@ pub mod Running
 pub mod Endings
 pub mod Serving
 pub mod Served
+pub mod Writing
 pub mod Accounts
 pub mod EndBoxes
 pub mod LockEnd

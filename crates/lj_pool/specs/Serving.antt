@@ -27,16 +27,22 @@ pub record Serving (start : UserState) (first now : LineReader) (was is : Option
   pub written : List ℕ
   pub items : List Item
   pub marks : List Bool
+  -- These bytes were read of those left, and these appended to the contents.
   pub taken : Consumes first.left now.left read
   pub appends : Appends was is written
+  -- The bytes read are those of the items, as many as the reader has handed out.
   pub takes : Takes 0 read items []
   pub items_are : length items ≡ now.items
+  -- The bytes written are the replies to the items, under these marks, and the user is that after them.
   pub are_marks : AreMarks marks (texts (user_of start) items marks)
   pub written_is : written ≡ concat (texts (user_of start) items marks)
   pub next_is : user_of state ≡ last_user (user_of start) items marks
+  -- At least as many results were counted as tiles are no more to come, and at most as many that were owed were handed out.
   pub counted : CountsRise
       (tiles (user_of start) items marks + tiles_owed start - tiles_to_come state) old new
   pub handed : HandedWithin (tiles (user_of start) items marks + tiles_owed start) (tiles_to_come state) old new
+  -- No session is owed more steps than its bound after the items.
   pub owes : OwesAfterAll start items marks state
+  -- The reader goes on, and no read has failed.
   pub phase : now.phase ≡ Open
   pub errors : now.errors ≡ first.errors

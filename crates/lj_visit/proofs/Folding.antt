@@ -1,5 +1,5 @@
 -- Visits one after the other: their items, their marks and their texts, joined.
-use Rattle.std.proofs.Common.{◌≡◌, ◌≢◌, ℕ, Bool, true, List, [], ◌∷◌, ◌++◌, length, Some, ◌⊎◌}
+use Rattle.std.proofs.Common.{◌≡◌, ◌≢◌, ℕ, Bool, true, List, [], ◌∷◌, ◌++◌, length, Some, None, ◌⊎◌}
 use Rattle.std.proofs.Common.{refl, sym, ap, ◌∙◌, subst, arith, inl, inr}
 use Rattle.std.specs.List.{concat}
 use Rattle.std.proofs.lemmas.List.Folds.{concat-append}
@@ -91,8 +91,8 @@ answered_by Bye state read written seen next is = inl ((λ e. cc), is.dialogue)
 answered_by Ended state read written seen next is = inl ((λ e. cc), is.dialogue)
 answered_by ReadFault state read written seen next is = inl ((λ e. cc), is.dialogue)
 answered_by WriteFault state read written seen next is = inr (refl, is)
-answered_by PoolClosed state read written seen next is = absurd is
-answered_by TooManyStrays state read written seen next is = absurd is
+answered_by PoolClosed state read written seen next is = absurd (let given : Some next ≡ None = is.0 in cc)
+answered_by TooManyStrays state read written seen next is = absurd (let given : Some next ≡ None = is.0 in cc)
 
 -- each visit is a whole dialogue, or one that is broken off
 pub answered : (visit : Attendance) → IsAttendance visit

@@ -1,6 +1,6 @@
 -- A visit: what is read, what is written and what happens, by how it ends.
-use Rattle.std.specs.Prelude.{◌≡◌, ℕ, ◌<◌, ◌≤◌, true, List, [], ◌∷◌, ◌++◌, length, take, Option, Some, None, IfSome, codes, ◌⊎◌}
-use Rattle.std.specs.Io.KnownBytes.{Appends, IsAtEnd}
+use Rattle.std.specs.Prelude.{◌≡◌, ℕ, ◌<◌, ◌≤◌, List, [], ◌∷◌, ◌++◌, length, take, Option, Some, None, IfSome, codes, ◌⊎◌}
+use Rattle.std.specs.Io.KnownBytes.{Appends}
 use Rattle.lj_session.specs.declared.refusal.Refusal.TheVariants.{Denied as DeniedRefusal}
 use Rattle.lj_session.specs.UserState.{UserState, Reached}
 use Rattle.lj_wire.specs.declared.hello.Hello.{Hello}
@@ -12,12 +12,9 @@ use Rattle.lj_session.specs.Refusals.{refusal_text}
 use Rattle.lj_wire.specs.Texts.{ended_line, ok_line}
 use Rattle.lj_access.specs.Rows.{Ticket}
 use Rattle.lj_pool.specs.declared.engine.served.Served.{Served}
-use Rattle.lj_pool.specs.declared.engine.served.Served.TheVariants.{End, ReadFault, WriteFault, PoolClosed, TooManyStrays}
-use Rattle.lj_pool.specs.declared.pool.TheConstants.{MAX_STRAYS}
-use Rattle.lj_pool.specs.Counting.{StraysRise}
-use Rattle.lj_pool.specs.Gathering.{NoneOwed}
+use Rattle.lj_pool.specs.declared.engine.served.Served.TheVariants.{ReadFault, TooManyStrays}
 use Rattle.lj_pool.specs.Seen.{Seen, nothing_seen}
-use Rattle.lj_pool.specs.Served.{Serves}
+use Rattle.lj_pool.specs.Served.{HandsBack, HasCause, Serves}
 use Rattle.lj_visit.specs.declared.backend.Shut.{Shut}
 use Rattle.lj_visit.specs.declared.visiting.Visited.{Visited}
 use Rattle.lj_visit.specs.declared.visiting.Visited.TheVariants.{NoLine, Denied, ShutOut, NotWelcomed, Attended}
@@ -98,14 +95,9 @@ pub record IsServing (served : Served) (ticket : Ticket) (state : UserState) (fi
   pub seen : Seen
   pub next : Option UserState
   pub serves : Serves served state first.left last.left old.contents new.contents nothing_seen seen next
-  pub at_end : served ≡ End → IsAtEnd last.left
-  pub read_fault : served ≡ ReadFault → Rises first.errors last.errors
-  pub write_fault : served ≡ WriteFault → Rises old.faults new.faults
-  pub pool_closed : served ≡ PoolClosed → seen.closed ≡ true
-  pub strays : served ≡ TooManyStrays → StraysRise MAX_STRAYS nothing_seen seen
+  pub cause : HasCause served last.left first.errors last.errors old.faults new.faults nothing_seen seen
   pub all_read : served ≡ ReadFault → last.held ≡ []
-  pub none_owed : IfSome next (λ owned. NoneOwed owned → seen.owed ≡ [])
-  pub quota : IfSome next (λ owned. owned.quota ≡ state.quota)
+  pub handed_back : IfSome next (HandsBack state seen)
   pub happens : Happens before after (opened ticket.user ∷ withdrawn ticket.user seen 0
       ∷ (events_leaving ticket next ++ events_closing served))
 

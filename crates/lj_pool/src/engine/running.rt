@@ -1,17 +1,14 @@
 //! Runs the pending steps of sessions over a pool, while a command waits for them and before the next command is read. Tasks
 //! are written in slots that the caller owns.
-ghost use Rattle.std.specs.Prelude.{◌≡◌, ◌+◌, ◌-◌, ◌<◌, ◌≤◌, length, ℕ, Bool, true, false, [], ◌∷◌, Some, None, Ok, IsSome, IfOk, IfErr, IfSome, OnErr, OnOk};
-ghost use Rattle.lj_session.specs.Owner.{IsReplied, IsSettled, task_in, user_in, ready_session};
-ghost use Rattle.lj_wire.specs.Runs.{item_before};
+ghost use Rattle.std.specs.Prelude.{◌≡◌, ◌+◌, ◌<◌, ◌≤◌, length, ℕ, Bool, true, false, [], Some, None, Ok, IsSome, IfOk, IfErr, IfSome, OnErr};
+ghost use Rattle.lj_session.specs.Owner.{task_in, ready_session};
 ghost use Rattle.lj_pool.specs.declared.engine.running.Halt.TheVariants.{TooManyStrays};
 ghost use Rattle.lj_pool.specs.Seen.{IsStray, SameOwed};
 ghost use Rattle.lj_pool.specs.Gathering.{Gathers};
-ghost use Rattle.lj_pool.specs.Counting.{CountsRise, FallsShort, HandedWithin, StraysRise, item_tiles};
-ghost use Rattle.lj_pool.specs.Coming.{GoesOn, OwesNoMore, OwesNoneWhereWaited, posts_coming, tiles_coming, tiles_to_come};
-ghost use Rattle.lj_pool.specs.Owing.{OwesAfter};
+ghost use Rattle.lj_pool.specs.Counting.{FallsShort};
+ghost use Rattle.lj_pool.specs.Coming.{GoesOn, posts_coming, tiles_coming};
 ghost use Rattle.lj_pool.specs.Posting.{AreNext, after_posts};
-ghost use Rattle.lj_pool.specs.Running.{IsHalted};
-ghost use Rattle.lj_pool.specs.Serving.{AnswersItem};
+ghost use Rattle.lj_pool.specs.Running.{AnswersNext, AnswersPending, FetchesStray, IsHalted, IsSameUser, LeavesUnanswered};
 
 use crate::pool::{MAX_AHEAD, MAX_POSTS, MAX_STRAYS, NotPosted, Pool};
 use lj_session::{Begin, Owner, Refusal, Reply};
@@ -39,24 +36,12 @@ pub(crate) fn answer<P: Pool>(
     requires idle { owner.old.waiting ≡ None }
     requires number { owner.old.number ≡ user }
     requires gathers { Gathers owner.old (P.seen pool.old).owed }
-    ensures answered { IfOk result (λ reply. AnswersItem (user_in owner.old) item.old reply (user_in owner.new)) }
-    ensures settled { IfOk result (IsSettled owner.new.state) }
-    ensures idle { OnOk result (owner.new.waiting ≡ None) }
-    ensures gathers { OnOk result (Gathers owner.new (P.seen pool.new).owed) }
-    ensures counted { OnOk result (CountsRise
-        (item_tiles (user_in owner.old) item.old + tiles_to_come owner.old.state - tiles_to_come owner.new.state)
-        (P.seen pool.old) (P.seen pool.new)) }
-    ensures handed { OnOk result (HandedWithin
-        (tiles_to_come owner.old.state + item_tiles (user_in owner.old) item.old) (tiles_to_come owner.new.state)
-        (P.seen pool.old) (P.seen pool.new)) }
-    ensures owes { OnOk result (OwesAfter owner.old.state item.old owner.new.state) }
-    ensures waits { OnErr result (0 < item_before owner.old.state item.old) }
-    ensures missing { OnErr result (FallsShort
-        (tiles_to_come owner.old.state + item_tiles (user_in owner.old) item.old)
-        (P.seen pool.old) (P.seen pool.new)) }
+    ensures answered { IfOk result (λ reply.
+        AnswersNext owner.old item.old (P.seen pool.old) reply owner.new (P.seen pool.new)) }
+    ensures unanswered { OnErr result
+        (LeavesUnanswered owner.old item.old (P.seen pool.old) (P.seen pool.new)) }
     ensures halted { IfErr result (λ halt. IsHalted halt (P.seen pool.old) (P.seen pool.new)) }
-    ensures number { owner.new.number ≡ user }
-    ensures quota { owner.new.state.quota ≡ owner.old.state.quota }
+    ensures same { IsSameUser owner.old owner.new }
     ensures own { P.for_others pool.new user ≡ P.for_others pool.old user }
 {
     match item {
@@ -78,20 +63,11 @@ fn run<P: Pool>(
     requires waits { IsSome owner.old.waiting }
     requires number { owner.old.number ≡ user }
     requires gathers { Gathers owner.old (P.seen pool.old).owed }
-    ensures replied { IfOk result (λ reply. IsReplied owner.old reply (user_in owner.new)) }
-    ensures settled { IfOk result (IsSettled owner.new.state) }
-    ensures idle { OnOk result (owner.new.waiting ≡ None) }
-    ensures gathers { OnOk result (Gathers owner.new (P.seen pool.new).owed) }
-    ensures counted { OnOk result
-        (CountsRise (tiles_coming owner.old - tiles_coming owner.new) (P.seen pool.old) (P.seen pool.new)) }
-    ensures handed { OnOk result
-        (HandedWithin (tiles_coming owner.old) (tiles_coming owner.new) (P.seen pool.old) (P.seen pool.new)) }
+    ensures answered { IfOk result (λ reply.
+        AnswersPending owner.old (P.seen pool.old) reply owner.new (P.seen pool.new)) }
     ensures missing { OnErr result (FallsShort (tiles_coming owner.old) (P.seen pool.old) (P.seen pool.new)) }
-    ensures no_more { OnOk result (OwesNoMore owner.old owner.new.state) }
-    ensures rests { OnOk result (OwesNoneWhereWaited owner.old owner.new.state) }
     ensures halted { IfErr result (λ halt. IsHalted halt (P.seen pool.old) (P.seen pool.new)) }
-    ensures number { owner.new.number ≡ user }
-    ensures quota { owner.new.state.quota ≡ owner.old.state.quota }
+    ensures same { IsSameUser owner.old owner.new }
     ensures own { P.for_others pool.new user ≡ P.for_others pool.old user }
 {
     let mut strays = 0;
@@ -314,9 +290,8 @@ fn fetch_next<P: Pool>(owner: &mut Owner, user: u8, pool: &mut P) -> Result<bool
     requires owes { 0 < length (P.seen pool.old).owed }
     ensures goes_on { GoesOn owner.old (P.seen pool.old) owner.new (P.seen pool.new) }
     ensures fewer { IfOk result (λ taken. taken ≡ true → tiles_coming owner.new < tiles_coming owner.old) }
-    ensures stray { IfOk result (λ taken. taken ≡ false → StraysRise 1 (P.seen pool.old) (P.seen pool.new)) }
-    ensures kept { IfOk result (λ taken. taken ≡ false → (P.seen pool.new).owed ≡ (P.seen pool.old).owed) }
-    ensures awaits { IfOk result (λ taken. taken ≡ false → 0 < tiles_coming owner.new) }
+    ensures stray { IfOk result (λ taken. taken ≡ false
+        → FetchesStray owner.new (P.seen pool.old) (P.seen pool.new)) }
     ensures unchanged { OnErr result (SameOwed (P.seen pool.old) (P.seen pool.new)) }
     ensures awaits_still { OnErr result (0 < tiles_coming owner.new) }
     ensures halted { IfErr result (λ halt. IsHalted halt (P.seen pool.old) (P.seen pool.new)) }

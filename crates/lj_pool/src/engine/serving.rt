@@ -1,25 +1,14 @@
 //! A stream of commands served over a pool.
-ghost use Rattle.std.specs.Prelude.{◌≡◌, ◌+◌, ◌-◌, ◌<◌, ℕ, List, Option, [], ◌∷◌, None, IfOk, IfErr, IfSome, OnErr, OnOk};
-ghost use Rattle.std.specs.Prelude.{true};
-ghost use Rattle.std.specs.Io.KnownBytes.{IsAtEnd};
-ghost use Rattle.lj_session.specs.Owner.{IsSettled, user_in};
+ghost use Rattle.std.specs.Prelude.{◌≡◌, [], None, IfSome};
 ghost use Rattle.lj_wire.specs.declared.reader.phase.Phase.TheVariants.{Open};
-ghost use Rattle.lj_wire.specs.Ends.{Rises};
-ghost use Rattle.lj_wire.specs.Runs.{item_before};
 ghost use Rattle.lj_pool.specs.declared.engine.served.Served.TheVariants as served;
-ghost use Rattle.lj_pool.specs.Gathering.{Gathers, NoneOwed};
-ghost use Rattle.lj_pool.specs.Counting.{CountsRise, StraysRise, item_tiles};
-ghost use Rattle.lj_pool.specs.Coming.{tiles_to_come};
-ghost use Rattle.lj_pool.specs.Owing.{OwesAfter};
 ghost use Rattle.lj_pool.specs.Endings.{served_of};
-ghost use Rattle.lj_pool.specs.Running.{IsHalted};
-ghost use Rattle.lj_pool.specs.Serving.{AnswersItem};
-ghost use Rattle.lj_pool.specs.Served.{Serves};
+ghost use Rattle.lj_pool.specs.Served.{HandsBack, HasCause, Serves};
 
 use crate::engine::running::{Halt, answer, work_ahead};
 use crate::engine::served::{Served, ending_of};
 use crate::engine::writing::put_reply;
-use crate::pool::{MAX_STRAYS, Pool};
+use crate::pool::Pool;
 use lj_session::{Command, Owner, UserState};
 use lj_tile::Task;
 use lj_wire::{Fault, Item, Line, LineReader, ReadFault, Sink, Source, WriteFault};
@@ -44,15 +33,10 @@ pub fn serve<R: Source, W: Sink, P: Pool>(
     requires none_owed { (P.seen pool.old).owed ≡ [] }
     ensures dialogue { Serves result.1 state (R.remaining reader) (R.remaining result.2)
         (W.contents writer.old) (W.contents writer.new) (P.seen pool.old) (P.seen pool.new) result.0 }
-    ensures end { result.1 ≡ served.End → IsAtEnd (R.remaining result.2) }
-    ensures read_fault { result.1 ≡ served.ReadFault → Rises (R.errors reader) (R.errors result.2) }
-    ensures write_fault { result.1 ≡ served.WriteFault → Rises (W.faults writer.old) (W.faults writer.new) }
-    ensures closed { result.1 ≡ served.PoolClosed → (P.seen pool.new).closed ≡ true }
-    ensures strays { result.1 ≡ served.TooManyStrays
-        → StraysRise MAX_STRAYS (P.seen pool.old) (P.seen pool.new) }
-    ensures none_owed { IfSome result.0 (λ owned. NoneOwed owned → (P.seen pool.new).owed ≡ []) }
+    ensures cause { HasCause result.1 (R.remaining result.2) (R.errors reader) (R.errors result.2)
+        (W.faults writer.old) (W.faults writer.new) (P.seen pool.old) (P.seen pool.new) }
+    ensures handed_back { IfSome result.0 (HandsBack state (P.seen pool.new)) }
     ensures own { P.for_others pool.new user ≡ P.for_others pool.old user }
-    ensures quota { IfSome result.0 (λ owned. owned.quota ≡ state.quota) }
 {
     let mut lines = LineReader::new(alloc, reader);
     let (state, served) = serve_lines(state, user, &mut lines, writer, pool);
@@ -73,16 +57,11 @@ pub fn serve_lines<R: Source, W: Sink, P: Pool>(
     requires none_owed { (P.seen pool.old).owed ≡ [] }
     ensures dialogue { Serves result.1 state lines.old.left lines.new.left
         (W.contents writer.old) (W.contents writer.new) (P.seen pool.old) (P.seen pool.new) result.0 }
-    ensures end { result.1 ≡ served.End → IsAtEnd lines.new.left }
+    ensures cause { HasCause result.1 lines.new.left lines.old.errors lines.new.errors
+        (W.faults writer.old) (W.faults writer.new) (P.seen pool.old) (P.seen pool.new) }
     ensures all_read { result.1 ≡ served.ReadFault → lines.new.held ≡ [] }
-    ensures read_fault { result.1 ≡ served.ReadFault → Rises lines.old.errors lines.new.errors }
-    ensures write_fault { result.1 ≡ served.WriteFault → Rises (W.faults writer.old) (W.faults writer.new) }
-    ensures closed { result.1 ≡ served.PoolClosed → (P.seen pool.new).closed ≡ true }
-    ensures strays { result.1 ≡ served.TooManyStrays
-        → StraysRise MAX_STRAYS (P.seen pool.old) (P.seen pool.new) }
-    ensures none_owed { IfSome result.0 (λ owned. NoneOwed owned → (P.seen pool.new).owed ≡ []) }
+    ensures handed_back { IfSome result.0 (HandsBack state (P.seen pool.new)) }
     ensures own { P.for_others pool.new user ≡ P.for_others pool.old user }
-    ensures quota { IfSome result.0 (λ owned. owned.quota ≡ state.quota) }
 {
     let mut owner = Owner::new(state, user);
     let mut line = Line::new();

@@ -1,10 +1,9 @@
 //! Replies, written line by line.
-ghost use Rattle.std.specs.Prelude.{◌≡◌, ◌≤◌, ◌+◌, ℕ, OnErr, OnOk, length, take};
-ghost use Rattle.std.specs.Io.KnownBytes.{Appends};
+ghost use Rattle.std.specs.Prelude.{OnErr, OnOk};
 ghost use Rattle.lj_session.specs.UserState.{user_of};
 ghost use Rattle.lj_session.specs.Owner.{IsSettled};
-ghost use Rattle.lj_wire.specs.Ends.{Rises};
 ghost use Rattle.lj_wire.specs.Texts.{text};
+ghost use Rattle.lj_pool.specs.Writing.{PutsAll, PutsPart};
 
 use lj_session::{Reply, UserState};
 use lj_wire::{Line, Sink, WriteFault, last_line, listed_session, put_all, put_line_at};
@@ -19,13 +18,10 @@ pub(crate) fn put_reply<W: Sink>(
     flushes: bool,
 ) -> Result<(), WriteFault>
     requires settled { IsSettled state.now reply.now }
-    ensures written { OnOk result
-        (Appends (W.contents writer.old) (W.contents writer.new) (text (user_of state.now) reply.now)) }
-    ensures counted { OnOk result (W.faults writer.new ≡ W.faults writer.old) }
-    ensures begun { OnErr result ((n : ℕ) × (n ≤ length (text (user_of state.now) reply.now))
-        × Appends (W.contents writer.old) (W.contents writer.new)
-        (take n (text (user_of state.now) reply.now))) }
-    ensures risen { OnErr result (Rises (W.faults writer.old) (W.faults writer.new)) }
+    ensures whole { OnOk result (PutsAll (text (user_of state.now) reply.now)
+        (W.contents writer.old) (W.contents writer.new) (W.faults writer.old) (W.faults writer.new)) }
+    ensures part { OnErr result (PutsPart (text (user_of state.now) reply.now)
+        (W.contents writer.old) (W.contents writer.new) (W.faults writer.old) (W.faults writer.new)) }
 {
     put_lines(writer, line, state, reply)?;
     if flushes {
@@ -42,13 +38,10 @@ fn put_lines<W: Sink>(
     reply: &Reply,
 ) -> Result<(), WriteFault>
     requires settled { IsSettled state.now reply.now }
-    ensures written { OnOk result
-        (Appends (W.contents writer.old) (W.contents writer.new) (text (user_of state.now) reply.now)) }
-    ensures counted { OnOk result (W.faults writer.new ≡ W.faults writer.old) }
-    ensures begun { OnErr result ((n : ℕ) × (n ≤ length (text (user_of state.now) reply.now))
-        × Appends (W.contents writer.old) (W.contents writer.new)
-        (take n (text (user_of state.now) reply.now))) }
-    ensures risen { OnErr result (Rises (W.faults writer.old) (W.faults writer.new)) }
+    ensures whole { OnOk result (PutsAll (text (user_of state.now) reply.now)
+        (W.contents writer.old) (W.contents writer.new) (W.faults writer.old) (W.faults writer.new)) }
+    ensures part { OnErr result (PutsPart (text (user_of state.now) reply.now)
+        (W.contents writer.old) (W.contents writer.new) (W.faults writer.old) (W.faults writer.new)) }
 {
     let last = last_line(state, reply);
     let session = listed_session(state, reply);

@@ -1,8 +1,6 @@
 use Rattle.std.proofs.Common.{◌≡◌, [], ◌∷◌, ◌++◌, ap, ◌∙◌, subst}
-use Rattle.lj_pool.specs.declared.pool.TheConstants.{MAX_STRAYS}
-use Rattle.lj_pool.specs.Counting.{StraysRise}
 use Rattle.lj_pool.specs.Seen.{Seen}
-use Rattle.lj_pool.specs.Served.{Serves}
+use Rattle.lj_pool.specs.Served.{HasCause, Serves}
 use Rattle.lj_visit.specs.Events.{Happens}
 use Rattle.lj_visit.specs.Events.Event.{opened, withdrawn}
 use Rattle.lj_visit.specs.Visits.{events_closing, events_leaving}
@@ -39,14 +37,12 @@ returns g c =
           subst (λ (s : Seen). Serves served c.args.lent.state c.args.lines.now.left c.serve_lines-state.new.lines.left
           (g.W.Sink.contents c.args.writer.now) (g.W.Sink.contents c.serve_lines-state.new.writer) s seen next)
           c.open-end.ensures.seen c.serve_lines-state.ensures.dialogue;
-      at_end = c.serve_lines-state.ensures.end;
-      read_fault = c.serve_lines-state.ensures.read_fault;
-      write_fault = c.serve_lines-state.ensures.write_fault;
-      pool_closed = c.serve_lines-state.ensures.closed;
-      strays = λ e. subst (λ (s : Seen). StraysRise MAX_STRAYS s seen) c.open-end.ensures.seen (c.serve_lines-state.ensures.strays e);
+      cause =
+          subst (λ (s : Seen). HasCause served c.serve_lines-state.new.lines.left c.args.lines.now.errors
+          c.serve_lines-state.new.lines.errors (g.W.Sink.faults c.args.writer.now)
+          (g.W.Sink.faults c.serve_lines-state.new.writer) s seen) c.open-end.ensures.seen c.serve_lines-state.ensures.cause;
       all_read = c.serve_lines-state.ensures.all_read;
-      none_owed = c.serve_lines-state.ensures.none_owed;
-      quota = c.serve_lines-state.ensures.quota;
+      handed_back = c.serve_lines-state.ensures.handed_back;
       happens =
           Happens-more was made is (opened ticket.user ∷ []) (withdrawn ticket.user seen 0 ∷ (leaving ++ closing)) opens
           (Happens-more made dropped is (withdrawn ticket.user seen 0 ∷ []) (leaving ++ closing) drops ends);

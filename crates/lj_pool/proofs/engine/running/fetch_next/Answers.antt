@@ -6,9 +6,18 @@ pub returns-then-not-fetch_uncounted-clause-awaits_still : goal.returns-then-not
 returns-then-not-fetch_uncounted-clause-awaits_still g c =
     owed-coming c.args.owner.now (g.P.Pool.seen c.args.pool.now) c.requires.gathers c.requires.owes
 
-pub returns-clause-awaits : goal.returns-clause-awaits
-returns-clause-awaits g c taken =
-    let same = ap length ((c.take_in_and_count.ensures.stray taken).owed ∙ c.fetch_uncounted.ensures.unchanged.owed) in
+pub returns-clause-stray : goal.returns-clause-stray
+returns-clause-stray g c taken =
+    let is = c.take_in_and_count.ensures.stray taken in
+    let same = c.fetch_uncounted.ensures.unchanged in
+    let counted = is.strays in
+    let before = same.strays in
+    let kept = is.owed ∙ same.owed in
+    let many = ap length kept in
     let some = c.requires.owes in
-    owed-coming c.take_in_and_count.new.owner (g.P.Pool.seen c.take_in_and_count.new.pool)
-    c.take_in_and_count.ensures.goes_on.gathers (omega (arith, same, some))
+    record {
+      stray = λ below. omega (arith, counted, before, below);
+      kept = kept;
+      awaits = owed-coming c.take_in_and_count.new.owner (g.P.Pool.seen c.take_in_and_count.new.pool)
+          c.take_in_and_count.ensures.goes_on.gathers (omega (arith, many, some));
+    }

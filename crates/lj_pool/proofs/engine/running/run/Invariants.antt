@@ -1,14 +1,12 @@
-use Rattle.std.proofs.Common.{◌≡◌, ◌+◌, ◌-◌, ◌*◌, ◌<◌}
+use Rattle.std.proofs.Common.{◌≡◌, ◌+◌, ◌-◌, ◌*◌}
 use Rattle.lj_pool.specs.declared.pool.TheConstants.{MAX_STRAYS}
-use Rattle.lj_pool.specs.Counting.{StraysRise}
-use Rattle.lj_pool.specs.Coming.{GoesOn, turns_coming, tiles_coming, posts_coming}
+use Rattle.lj_pool.specs.Coming.{turns_coming, tiles_coming, posts_coming}
+use Rattle.lj_pool.proofs.Going.{GoesOnAmong}
 use Rattle.lj_pool.proofs.engine.running.run.Given as goal
 
 abbrev pub invariant-loop-name : goal.invariant-loop-name
 invariant-loop-name g l = record {
-  goes : GoesOn l.initial.owner (g.P.Pool.seen l.initial.pool) l.owner (g.P.Pool.seen l.pool);
-  in_a_row : StraysRise l.strays (g.P.Pool.seen l.initial.pool) (g.P.Pool.seen l.pool);
-  few : l.strays < MAX_STRAYS;
+  among : GoesOnAmong l.strays l.initial.owner (g.P.Pool.seen l.initial.pool) l.owner (g.P.Pool.seen l.pool);
   own : g.P.Pool.for_others l.pool l.user ≡ g.P.Pool.for_others l.initial.pool l.user;
 }
 

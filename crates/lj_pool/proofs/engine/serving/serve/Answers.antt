@@ -1,5 +1,6 @@
-use Rattle.std.proofs.Common.{sym, ap, ◌∙◌}
+use Rattle.std.proofs.Common.{◌≡◌, sym, ap, ◌∙◌, subst}
 use Rattle.std.specs.Io.KnownBytes.{prepend_known}
+use Rattle.lj_wire.specs.Ends.{Rises}
 use Rattle.lj_pool.proofs.AllRead.{serves-all, at_end-unread}
 use Rattle.lj_pool.proofs.engine.serving.serve.Goals as goal
 
@@ -13,11 +14,22 @@ returns-clause-dialogue g c =
     c.serve_lines-state.result.0
     lines.left (g.R.Source.remaining c.into_source.result) lines.held
     (c.into_source.ensures.ahead ∙ ap (prepend_known lines.held) (sym c.into_source.ensures.remaining))
-    c.serve_lines-state.ensures.end c.serve_lines-state.ensures.all_read dialogue
+    c.serve_lines-state.ensures.cause.end c.serve_lines-state.ensures.all_read dialogue
 
-pub returns-clause-end : goal.returns-clause-end
-returns-clause-end g c = λ ended.
+pub returns-clause-cause : goal.returns-clause-cause
+returns-clause-cause g c =
     let lines = c.serve_lines-state.new.lines in
-    at_end-unread lines.left (g.R.Source.remaining c.into_source.result) lines.held
-    (c.into_source.ensures.ahead ∙ ap (prepend_known lines.held) (sym c.into_source.ensures.remaining))
-    (c.serve_lines-state.ensures.end ended)
+    let cause = c.serve_lines-state.ensures.cause in
+    let first : c.new-lines.result.errors ≡ g.R.Source.errors c.args.reader = c.new-lines.ensures.errors in
+    record {
+      end = λ ended.
+          at_end-unread lines.left (g.R.Source.remaining c.into_source.result) lines.held
+          (c.into_source.ensures.ahead ∙ ap (prepend_known lines.held) (sym c.into_source.ensures.remaining))
+          (cause.end ended);
+      read_fault = λ failed.
+          subst (λ errors. Rises errors (g.R.Source.errors c.into_source.result)) first
+          (subst (Rises c.new-lines.result.errors) (sym c.into_source.ensures.errors) (cause.read_fault failed));
+      write_fault = cause.write_fault;
+      closed = cause.closed;
+      strays = cause.strays;
+    }
