@@ -1,5 +1,5 @@
 -- What a writer was given of a text: all of it, or its first bytes where a write failed.
-use Rattle.std.specs.Prelude.{◌≡◌, ◌≤◌, ℕ, List, Option, length, take}
+use Rattle.std.specs.Prelude.{◌≡◌, ◌≤◌, ℕ, List, Option, Result, Ok, Err, length, take}
 use Rattle.std.specs.Io.KnownBytes.{Appends}
 use Rattle.lj_wire.specs.Ends.{Rises}
 
@@ -16,3 +16,8 @@ pub record PutsPart (bytes : List ℕ) (was is : Option (List ℕ)) (faults more
   pub begun : (n : ℕ) × (n ≤ length bytes) × Appends was is (take n bytes)
   -- A fault was counted.
   pub risen : Rises faults more_faults
+
+-- The text is written, or a write failed, as the result says.
+abbrev pub Puts : {A B : Type 0} → Result A B → List ℕ → Option (List ℕ) → Option (List ℕ) → Option ℕ → Option ℕ → Type 0
+Puts (Ok done) bytes was is faults more_faults = PutsAll bytes was is faults more_faults
+Puts (Err fault) bytes was is faults more_faults = PutsPart bytes was is faults more_faults

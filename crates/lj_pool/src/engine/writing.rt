@@ -1,9 +1,8 @@
 //! Replies, written line by line.
-ghost use Rattle.std.specs.Prelude.{OnErr, OnOk};
 ghost use Rattle.lj_session.specs.UserState.{user_of};
 ghost use Rattle.lj_session.specs.Owner.{IsSettled};
 ghost use Rattle.lj_wire.specs.Texts.{text};
-ghost use Rattle.lj_pool.specs.Writing.{PutsAll, PutsPart};
+ghost use Rattle.lj_pool.specs.Writing.{Puts};
 
 use lj_session::{Reply, UserState};
 use lj_wire::{Line, Sink, WriteFault, last_line, listed_session, put_all, put_line_at};
@@ -18,10 +17,8 @@ pub(crate) fn put_reply<W: Sink>(
     flushes: bool,
 ) -> Result<(), WriteFault>
     requires settled { IsSettled state.now reply.now }
-    ensures whole { OnOk result (PutsAll (text (user_of state.now) reply.now)
-        (W.contents writer.old) (W.contents writer.new) (W.faults writer.old) (W.faults writer.new)) }
-    ensures part { OnErr result (PutsPart (text (user_of state.now) reply.now)
-        (W.contents writer.old) (W.contents writer.new) (W.faults writer.old) (W.faults writer.new)) }
+    ensures { Puts result (text (user_of state.now) reply.now)
+        (W.contents writer.old) (W.contents writer.new) (W.faults writer.old) (W.faults writer.new) }
 {
     put_lines(writer, line, state, reply)?;
     if flushes {
@@ -38,10 +35,8 @@ fn put_lines<W: Sink>(
     reply: &Reply,
 ) -> Result<(), WriteFault>
     requires settled { IsSettled state.now reply.now }
-    ensures whole { OnOk result (PutsAll (text (user_of state.now) reply.now)
-        (W.contents writer.old) (W.contents writer.new) (W.faults writer.old) (W.faults writer.new)) }
-    ensures part { OnErr result (PutsPart (text (user_of state.now) reply.now)
-        (W.contents writer.old) (W.contents writer.new) (W.faults writer.old) (W.faults writer.new)) }
+    ensures { Puts result (text (user_of state.now) reply.now)
+        (W.contents writer.old) (W.contents writer.new) (W.faults writer.old) (W.faults writer.new) }
 {
     let last = last_line(state, reply);
     let session = listed_session(state, reply);

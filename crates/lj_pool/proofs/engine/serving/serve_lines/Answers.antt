@@ -127,7 +127,7 @@ returns-in-Err-answer-clause-cause g c =
 pub returns-in-Err-put_reply-clause-dialogue : goal.returns-in-Err-put_reply-clause-dialogue
 returns-in-Err-put_reply-clause-dialogue g c =
     let item = c.in-Ok-true.ensures.item c.in-Ok-true.field-0-test in
-    let begun = rw c.state.ensures at c.in-Err-put_reply.ensures.part.begun in
+    let begun = rw c.state.ensures at c.in-Err-put_reply.ensures.begun in
     let s = ahead_serving c.items.invariant.idle c.work_ahead.ensures.goes_on c.items.invariant.serving in
     serving-breaks c.args.state c.args.lines.now c.items.lines (g.W.Sink.contents c.args.writer.now)
     (g.W.Sink.contents c.items.writer) (g.P.Pool.seen c.args.pool.now) (g.P.Pool.seen c.work_ahead.new.pool)
@@ -142,7 +142,7 @@ returns-in-Err-put_reply-clause-cause g c =
     (g.W.Sink.faults c.put_reply.new.writer) (g.P.Pool.seen c.args.pool.now) (g.P.Pool.seen c.answer.new.pool)
     served.WriteFault
     (subst (λ faults. Rises faults (g.W.Sink.faults c.put_reply.new.writer)) c.items.invariant.faults
-    c.in-Err-put_reply.ensures.part.risen)
+    c.in-Err-put_reply.ensures.risen)
 
 pub returns-in-Err-put_reply-clause-handed_back : goal.returns-in-Err-put_reply-clause-handed_back
 returns-in-Err-put_reply-clause-handed_back g c =
@@ -154,7 +154,7 @@ returns-in-Err-put_reply-clause-handed_back g c =
 pub returns-in-Some-clause-dialogue : goal.returns-in-Some-clause-dialogue
 returns-in-Some-clause-dialogue g c =
     let item = c.in-Ok-true.ensures.item c.in-Ok-true.field-0-test in
-    let written = rw c.state.ensures at c.in_default-put_reply.ensures.whole.written in
+    let written = rw c.state.ensures at c.in_default-put_reply.ensures.written in
     let s = ahead_serving c.items.invariant.idle c.work_ahead.ensures.goes_on c.items.invariant.serving in
     let finished = c.in-Ok-answer.ensures.answered.finished in
     serving-ends c.args.state c.args.lines.now c.items.lines (g.W.Sink.contents c.args.writer.now)
@@ -187,7 +187,7 @@ returns-in-Some-clause-handed_back g c =
 pub items-preserved : goal.items-preserved
 items-preserved g c =
     let item = c.in-Ok-true.ensures.item c.in-Ok-true.field-0-test in
-    let written = rw c.state.ensures at c.in_default-put_reply.ensures.whole.written in
+    let written = rw c.state.ensures at c.in_default-put_reply.ensures.written in
     let s = ahead_serving c.items.invariant.idle c.work_ahead.ensures.goes_on c.items.invariant.serving in
     let answered = c.in-Ok-answer.ensures.answered in
     record {
@@ -201,7 +201,7 @@ items-preserved g c =
       gathers = answered.finished.gathers;
       idle = answered.finished.idle;
       number = c.answer.ensures.same.number ∙ c.work_ahead.ensures.goes_on.number ∙ c.items.invariant.number;
-      faults = c.in_default-put_reply.ensures.whole.counted ∙ c.items.invariant.faults;
+      faults = c.in_default-put_reply.ensures.counted ∙ c.items.invariant.faults;
       own = c.answer.ensures.own ∙ c.work_ahead.ensures.own ∙ c.items.invariant.own;
       quota = c.answer.ensures.same.quota ∙ c.work_ahead.ensures.goes_on.quota ∙ c.items.invariant.quota;
     }

@@ -10,8 +10,8 @@ use Rattle.lj_wire.proofs.ReplyTexts.{text-lines}
 use Rattle.lj_wire.proofs.LineCounts.{line_more, line_part, lines_all, lines_past}
 use Rattle.lj_pool.proofs.engine.writing.put_lines.Goals as goal
 
-pub returns-in_err-put_all-clause-part : goal.returns-in_err-put_all-clause-part
-returns-in_err-put_all-clause-part g c =
+pub returns-in_err-put_all : goal.returns-in_err-put_all
+returns-in_err-put_all g c =
     let user = user_of c.args.state.now in
     let lines = reply_lines user c.args.reply.now in
     let begun = rw c.as_slice.ensures.value at c.in_err-put_all.ensures.begun in
@@ -40,8 +40,8 @@ loop-writer-preserved g c =
       within = omega (arith, c.loop-writer.invariant.within, c.if-k-last.false);
     }
 
-pub returns-then-k-last-clause-whole : goal.returns-then-k-last-clause-whole
-returns-then-k-last-clause-whole g c =
+pub returns-then-k-last : goal.returns-then-k-last
+returns-then-k-last g c =
     let user = user_of c.args.state.now in
     let lines = reply_lines user c.args.reply.now in
     let written = rw c.as_slice.ensures.value at c.in_ok-put_all.ensures.written in
@@ -57,8 +57,8 @@ returns-then-k-last-clause-whole g c =
       counted = c.in_ok-put_all.ensures.counted ∙ c.loop-writer.invariant.faults;
     }
 
-pub returns-in_default-clause-whole : goal.returns-in_default-clause-whole
-returns-in_default-clause-whole g c =
+pub returns-in_default : goal.returns-in_default
+returns-in_default g c =
     let user = user_of c.args.state.now in
     let lines = reply_lines user c.args.reply.now in
     record {
