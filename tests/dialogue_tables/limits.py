@@ -35,25 +35,18 @@ def without_sessions(stream: Tuple[Part, ...], replies: str, ending: Ending) -> 
     return Dialogue(f"stream {stream}", stream, replies, "OK LIST 0\n", ending=ending)
 
 
+def long_body(name: str, size: int) -> Dialogue:
+    """A LOAD of one atom, whose body goes on up to this size."""
+    atom = "1\nc\nX 1 0 0\n"
+    stream = ((f"LOAD a 256 1 1 rest {size}\n{atom}", 1), ("#", size - len(atom)), ("SHOW a 0\n", 1))
+    replies = "OK LOAD a 0 1\nOK SHOW a 0 0 16777216 0 0\n"
+    return Dialogue(f"a LOAD of one atom with {name}", stream, replies, "OK LIST 1\na 0 1 0\n")
+
+
 BODIES = (
-    Dialogue(
-        "a LOAD of one atom with a body of 65,536 bytes",
-        (("LOAD a 256 1 1 rest 65536\n1\nc\nX 1 0 0\n", 1), ("#", 65_524), ("SHOW a 0\n", 1)),
-        "OK LOAD a 0 1\nOK SHOW a 0 0 16777216 0 0\n",
-        "OK LIST 1\na 0 1 0\n",
-    ),
-    Dialogue(
-        "a LOAD of one atom with a long body",
-        (("LOAD a 256 1 1 rest 65537\n1\nc\nX 1 0 0\n", 1), ("#", 65_525), ("SHOW a 0\n", 1)),
-        "OK LOAD a 0 1\nOK SHOW a 0 0 16777216 0 0\n",
-        "OK LIST 1\na 0 1 0\n",
-    ),
-    Dialogue(
-        "a LOAD of one atom with the longest body",
-        (("LOAD a 256 1 1 rest 1048576\n1\nc\nX 1 0 0\n", 1), ("#", 1_048_564), ("SHOW a 0\n", 1)),
-        "OK LOAD a 0 1\nOK SHOW a 0 0 16777216 0 0\n",
-        "OK LIST 1\na 0 1 0\n",
-    ),
+    long_body("a body of 65,536 bytes", 65_536),
+    long_body("a long body", 65_537),
+    long_body("the longest body", 1_048_576),
     Dialogue(
         "a LOAD of 256 atoms",
         (
