@@ -7,7 +7,7 @@ import time
 from typing import Dict, Tuple
 
 import pytest
-from shared.loads import LOAD
+from shared.loads import IN_PARTS, LOAD
 from shared.processes import finished
 from shared.program import SECONDS, Program, contents
 from shared.texts import must_be
@@ -58,20 +58,10 @@ def read_line(output: int) -> bytes:
 def test_replies_come_before_more_is_asked_for(program: Program) -> None:
     child = subprocess.Popen([program.path], stdin=subprocess.PIPE, stdout=subprocess.PIPE, stderr=subprocess.PIPE, bufsize=0)
     assert child.stdin and child.stdout
-    for item, reply in [
-        (LOAD, b"OK LOAD a 0 2\n"),
-        (b"ADVANCE a 1\n", b"OK ADVANCE a 1\n"),
-        (b"SHOW a 0\n", b"OK SHOW a 1 0 589 0 0\n"),
-        (b"SHOW a 1\nLI", b"OK SHOW a 1 1 25165235 0 0\n"),
-        (b"ST\n", b"OK LIST 1\n"),
-        (b"", b"a 1 2 0\n"),
-        (b"\n", b"ERR 03 SYNTAX\n"),
-        (b"LOAD b 256 1 1 rest 12\n1\nc\n", b""),
-        (b"X 0 0 0\n", b"OK LOAD b 0 1\n"),
-        (b"BYE\n", b"OK BYE\n"),
-    ]:
+    for item, replies in [*IN_PARTS, (b"BYE\n", b"OK BYE\n")]:
         child.stdin.write(item)
-        assert reply == b"" or read_line(child.stdout.fileno()) == reply
+        for reply in replies.splitlines(keepends=True):
+            assert read_line(child.stdout.fileno()) == reply
     # BYE ends the program while its input is open.
     assert finished(child) == (0, b"")
     child.stdin.close()

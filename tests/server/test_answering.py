@@ -4,7 +4,7 @@ import time
 import pytest
 from shared.argon import TILES, load_argon, paced_steps
 from shared.frames import over_blocks
-from shared.loads import LOAD, LOADED
+from shared.loads import IN_PARTS, LOAD, LOADED
 from shared.program import contents
 from shared.served import Servers
 from shared.serving import POOLS
@@ -12,12 +12,12 @@ from shared.tiles import tiles_of
 from shared.words import hello, token, user, welcome
 
 
+# One step, and its energies, which are those of another tile.
+STEPPED = [*IN_PARTS[:3], (b"MEASURE a\n", b"OK MEASURE a 1 2 0 0 0 693842 -5399727\n")]
+
 DIALOGUE = [
     (hello("A"), welcome("A")),
-    (LOAD, LOADED),
-    (b"ADVANCE a 1\n", b"OK ADVANCE a 1\n"),
-    (b"SHOW a 0\n", b"OK SHOW a 1 0 589 0 0\n"),
-    (b"MEASURE a\n", b"OK MEASURE a 1 2 0 0 0 693842 -5399727\n"),
+    *STEPPED,
     (b"HELLO A " + token("A").encode() + b"\n", b"ERR 06 COMMAND\n"),
     (b"LIST\n", b"OK LIST 1\na 1 2 0\n"),
     (b"BYE\n", b"OK BYE\n"),
@@ -80,20 +80,10 @@ def test_replies_come_before_more_is_asked_for(serve: Servers) -> None:
     client = server.connect()
     client.send(hello("A")[:-1])
     assert client.is_quiet()
-    for item, reply in [
-        (b"\n", welcome("A")),
-        (LOAD, LOADED),
-        (b"SHOW a 1\nLI", b"OK SHOW a 0 1 25165824 0 0\n"),
-        (b"ST\n", b"OK LIST 1\na 0 2 0\n"),
-        (b"\n", b"ERR 03 SYNTAX\n"),
-        (b"LOAD b 256 1 1 rest 12\n1\nc\n", b""),
-        (b"X 0 0 0\n", b"OK LOAD b 0 1\n"),
-        (b"SHOW b 0\nLOAD c 256 1 1 rest 12\n1\nc\n", b"OK SHOW b 0 0 0 0 0\n"),
-        (b"X 0 0 0\n", b"OK LOAD c 0 1\n"),
-    ]:
+    for item, reply in [(b"\n", welcome("A")), *IN_PARTS]:
         client.says(item, reply)
     client.leaves()
-    server.finish(tiles=0)
+    server.finish(tiles=1)
 
 
 def test_other_users_are_answered_while_one_advances(serve: Servers) -> None:
@@ -103,10 +93,8 @@ def test_other_users_are_answered_while_one_advances(serve: Servers) -> None:
     paced, steps = paced_steps(first, seconds=1.5)
     first.send(f"ADVANCE a {steps}\n".encode())
     start = time.monotonic()
-    second.says(LOAD, LOADED)
-    second.says(b"ADVANCE a 1\n", b"OK ADVANCE a 1\n")
-    second.says(b"SHOW a 0\n", b"OK SHOW a 1 0 589 0 0\n")
-    second.says(b"MEASURE a\n", b"OK MEASURE a 1 2 0 0 0 693842 -5399727\n")
+    for item, reply in STEPPED:
+        second.says(item, reply)
     second.leaves()
     assert first.is_quiet(0), f"the ADVANCE ended before the others, which took {time.monotonic() - start} s"
     first.is_told(f"OK ADVANCE a {paced + steps}\n".encode(), b"ADVANCE")

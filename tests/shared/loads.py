@@ -20,6 +20,20 @@ def load(name: str, body: str) -> bytes:
 LOAD = load("a", DIMER)
 LOADED = b"OK LOAD a 0 2\n"
 
+# Commands in parts that end anywhere, and what is told of each part before the next one comes. Their one step has a tile.
+IN_PARTS = [
+    (LOAD, LOADED),
+    (b"ADVANCE a 1\n", b"OK ADVANCE a 1\n"),
+    (b"SHOW a 0\n", b"OK SHOW a 1 0 589 0 0\n"),
+    (b"SHOW a 1\nLI", b"OK SHOW a 1 1 25165235 0 0\n"),
+    (b"ST\n", b"OK LIST 1\na 1 2 0\n"),
+    (b"\n", b"ERR 03 SYNTAX\n"),
+    (b"LOAD b 256 1 1 rest 12\n1\nc\n", b""),
+    (b"X 0 0 0\n", b"OK LOAD b 0 1\n"),
+    (b"SHOW b 0\nLOAD c 256 1 1 rest 12\n1\nc\n", b"OK SHOW b 0 0 0 0 0\n"),
+    (b"X 0 0 0\n", b"OK LOAD c 0 1\n"),
+]
+
 
 def liquid_stream(atoms: Union[int, str], *words: str) -> bytes:
     """What `bench/liquid` prints for so many atoms, by these words."""
