@@ -41,6 +41,25 @@ SMALLER_UNITS = f"{EDGE} 0.016777216"
 # Atoms out of reach of each other and of the edges of the box, 8 sigma apart.
 SPARE = [f"{8 * (i % 16)} {8 * (i // 16) + 32} 128" for i in range(127)]
 
+
+def in_two_blocks(first: float, second: float, energy: int, places: Tuple[int, int]) -> Sequence[Row]:
+    """A step of two atoms on the axis of x, with their energy before it and their places after it: the last atom of the second
+    block, and the one atom of the third one."""
+    return [
+        load("256 1 131072", "rest", [*SPARE, f"{first} 0 0", f"{second} 0 0"]),
+        *rows(
+            f"""
+            MEASURE a = 0 129 0 0 0 0 {energy}
+            ADVANCE a 1 = 1
+            SHOW a 127 = 1 127 {places[0]} 0 0
+            SHOW a 128 = 1 128 {places[1]} 0 0
+            SHOW a 0 = 1 0 0 536870912 2147483648
+            SHOW a 126 = 1 126 1879048192 1476395008 2147483648
+            """
+        ),
+    ]
+
+
 WORKED: Dict[str, Sequence[Row]] = {
     "two atoms are measured and walked back": [
         DIMER,
@@ -115,42 +134,9 @@ WORKED: Dict[str, Sequence[Row]] = {
         *rows("ADVANCE a 1 = 1 | 1\nSHOW a 1 = 1 1 2147483648 0 0\nMEASURE a = 1 2 0 0 0 0 0 | 1"),
     ],
     "sigma does not fit in a box of less than five of it": [(load("4.99 1 131072", "rest", ["0 0 0", "2.5 0 0"])[0], "ERR 37 SIGMA", NONE)],
-    # The last atom of the second block, and the one atom of the third one.
-    "one atom in each of two blocks": [
-        load("256 1 131072", "rest", [*SPARE, "0 0 0", "1.5 0 0"]),
-        *rows(
-            """
-            MEASURE a = 0 129 0 0 0 0 -5349132
-            ADVANCE a 1 = 1
-            SHOW a 127 = 1 127 589 0 0
-            SHOW a 128 = 1 128 25165235 0 0
-            SHOW a 0 = 1 0 0 536870912 2147483648
-            SHOW a 126 = 1 126 1879048192 1476395008 2147483648
-            """
-        ),
-    ],
-    "the same, the later atom before the earlier one": [
-        load("256 1 131072", "rest", [*SPARE, "1.5 0 0", "0 0 0"]),
-        *rows(
-            """
-            MEASURE a = 0 129 0 0 0 0 -5349132
-            ADVANCE a 1 = 1
-            SHOW a 127 = 1 127 25165235 0 0
-            SHOW a 128 = 1 128 589 0 0
-            """
-        ),
-    ],
-    "atoms of two blocks at one place": [
-        load("256 1 131072", "rest", [*SPARE, "0 0 0", "0 0 0"]),
-        *rows(
-            """
-            MEASURE a = 0 129 0 0 0 0 3574550947
-            ADVANCE a 1 = 1
-            SHOW a 127 = 1 127 0 0 0
-            SHOW a 128 = 1 128 0 0 0
-            """
-        ),
-    ],
+    "one atom in each of two blocks": in_two_blocks(0, 1.5, energy=-5349132, places=(589, 25165235)),
+    "the same, the later atom before the earlier one": in_two_blocks(1.5, 0, energy=-5349132, places=(25165235, 589)),
+    "atoms of two blocks at one place": in_two_blocks(0, 0, energy=3574550947, places=(0, 0)),
     "names": [
         (DIMER[0].replace("LOAD a", "LOAD dimer_1"), "OK LOAD dimer_1 0 2", NONE),
         (DIMER[0].replace("LOAD a", "LOAD sixteen_letters_"), "OK LOAD sixteen_letters_ 0 2", NONE),
