@@ -248,6 +248,18 @@ def test_a_warning_that_is_an_error_leaves_the_session_as_it_is() -> None:
 # What sets the start anew, and what does not.
 
 
+def told_of_another_energy(act: Any, steps: int) -> Tuple[List[Any], Any]:
+    """What is told of so many steps after the first 1000, and the stand-in. Between both something is done, and the energy rises."""
+    energies = [0.0]
+    a, wire = opened(lambda step: energies[0])
+    a.advance(1000)
+    energies[0] = 7.0
+    act(a)
+    with told() as texts:
+        a.advance(steps)
+    return texts, wire
+
+
 @pytest.mark.parametrize(
     "change",
     [
@@ -261,13 +273,7 @@ def test_a_warning_that_is_an_error_leaves_the_session_as_it_is() -> None:
     ],
 )
 def test_what_sets_the_start_anew(change: Any) -> None:
-    energies = [0.0]
-    a, wire = opened(lambda step: energies[0])
-    a.advance(1000)
-    energies[0] = 7.0
-    change(a)
-    with told() as texts:
-        a.advance(1000)
+    texts, wire = told_of_another_energy(change, 1000)
     assert texts == []
     assert wire.measured == [0, 1, 999, 1000, 1000, 1001, 1999, 2000]
 
@@ -283,13 +289,7 @@ def test_heat_sets_the_start_anew() -> None:
 
 @pytest.mark.parametrize("keep", [lambda a: a.reverse(), lambda a: a.branch("k"), lambda a: a.measure(), lambda a: a.step])
 def test_what_keeps_the_start(keep: Any) -> None:
-    energies = [0.0]
-    a, wire = opened(lambda step: energies[0])
-    a.advance(1000)
-    energies[0] = 7.0
-    keep(a)
-    with told() as texts:
-        a.advance(20_000)
+    texts, _ = told_of_another_energy(keep, 20_000)
     assert len(texts) == 1 and "risen by 7 epsilon" in texts[0]
 
 
