@@ -19,8 +19,15 @@ LINES = DIMER_TEXT.splitlines()
 BEGINS = [number for number, line in enumerate(LINES, 1) if line.startswith("> ")]
 ENDS = [number + (LINES[number][:1] == "+") for number, line in enumerate(LINES, 1) if line.startswith("< ")]
 
+LOADED = DIMER_TEXT[DIMER_TEXT.index("> LOAD") : DIMER_TEXT.index("> ADVANCE")]
+MOVED = "moved\n" + LOADED
+QUOTA = "quota sessions 1 atoms 2 branches 1"  # the one that stands above the first BRANCH
 
-MOVED = "moved\n" + DIMER_TEXT[DIMER_TEXT.index("> LOAD") : DIMER_TEXT.index("> ADVANCE")]
+# What is told of lines that do not belong where they stand.
+NO_COMMAND = "this is no command of a session a"
+NO_LOAD = "here a session should begin with a LOAD or LOADMIX"
+NO_QUOTA = "a quota is of sessions, atoms and branches, at most 64, 65536 and 256"
+NO_REPLY = "here a reply should stand"
 
 
 @pytest.fixture
@@ -199,34 +206,24 @@ def test_files_that_are_no_records(path: Any, head: Any, why: Any) -> None:
 @pytest.mark.parametrize(
     ("wanted", "other", "line", "why"),
     [
-        ("> LIST a", "> LIST", 24, "this is no command of a session a"),
-        ("> LIST a", "> DROP b", 24, "this is no command of a session a"),
-        ("> LIST a", "> BYE", 24, "this is no command of a session a"),
-        ("> LIST a", "? HELLO a", 24, "this is no command of a session a"),
+        ("> LIST a", "> LIST", 24, NO_COMMAND),
+        ("> LIST a", "> DROP b", 24, NO_COMMAND),
+        ("> LIST a", "> BYE", 24, NO_COMMAND),
+        ("> LIST a", "? HELLO a", 24, NO_COMMAND),
         ("> LOAD a 256", "> LOAD a/b 256", 4, "this is no command of a session"),
-        ("> LOAD a 256", "> MEASURE a 256", 5, "here a reply should stand"),
+        ("> LOAD a 256", "> MEASURE a 256", 5, NO_REPLY),
         ("rest 28", "rest 30", 9, "the body has 30 bytes, and only 28 stand here"),
         ("rest 28", "rest 26", 8, "the body has 26 bytes, and 28 stand here"),
-        ("rest 28", "rest 17", 8, "here a reply should stand"),
-        ("rest 28", "rest x", 5, "here a reply should stand"),
-        ("< OK SHOW a 1 0 589 0 0", "quota sessions 1 atoms 2 branches 0", 13, "here a reply should stand"),
-        (
-            "quota sessions 1 atoms 2 branches 1",
-            "quota sessions 1 atoms 2 branches 257",
-            14,
-            "a quota is of sessions, atoms and branches, at most 64, 65536 and 256",
-        ),
-        ("quota sessions 1 atoms 2 branches 1", "quota 1 2 1", 14, "a quota is of sessions, atoms and branches, at most 64, 65536 and 256"),
-        ("quota sessions 1 atoms 2 branches 1", "< OK SHOW a 1 0 589 0 0", 14, "the line stands below no command"),
-        ("quota sessions 1 atoms 2 branches 1", "branches 1", 14, "there is no line of this kind"),
-        ("quota sessions 1 atoms 2 branches 1", "end", 15, "the record goes on below its end"),
-        ("quota sessions 1 atoms 2 branches 1", "moved", 15, "here a session should begin with a LOAD or LOADMIX"),
-        (
-            "> LOAD a 256 1 131072 rest 28\n: 2\n: dimer\n: Ar 0 0 0\n: Ar 1.5 0 0\n< OK LOAD a 0 2\n",
-            "",
-            4,
-            "here a session should begin with a LOAD or LOADMIX",
-        ),
+        ("rest 28", "rest 17", 8, NO_REPLY),
+        ("rest 28", "rest x", 5, NO_REPLY),
+        ("< OK SHOW a 1 0 589 0 0", "quota sessions 1 atoms 2 branches 0", 13, NO_REPLY),
+        (QUOTA, "quota sessions 1 atoms 2 branches 257", 14, NO_QUOTA),
+        (QUOTA, "quota 1 2 1", 14, NO_QUOTA),
+        (QUOTA, "< OK SHOW a 1 0 589 0 0", 14, "the line stands below no command"),
+        (QUOTA, "branches 1", 14, "there is no line of this kind"),
+        (QUOTA, "end", 15, "the record goes on below its end"),
+        (QUOTA, "moved", 15, NO_LOAD),
+        (LOADED, "", 4, NO_LOAD),
         ("< OK DUMP a 2 4\n+", "< OK DUMP a 2 4\n>", 21, "here the sum of the lines of a reply should stand"),
     ],
 )
