@@ -13,7 +13,7 @@ from __future__ import annotations
 import sys
 from typing import Any, List, Sequence, Tuple
 
-from shared import Frame, distance, hot_crystal, ljclient, options_of, print_table, save_picture, there_and_back, user_of
+from shared import Frame, distance, hot_crystal, ljclient, options_of, show, there_and_back, user_of
 
 MELTING = 1000
 STEPS = 1200
@@ -52,10 +52,8 @@ def main(words: Sequence[str]) -> int:
     with user_of(options) as user:
         alone, tugged = fly(user, options.steps)
     made, apart = distances(alone, tugged)
-    if options.plot:
-        save_picture(lambda axes: draw(axes, alone, tugged), options.plot)
-    else:
-        print_table(["steps made", "distance / sigma"], [(step, f"{far:.3e}") for step, far in zip(made[::5], apart[::5])])
+    rows = [(step, f"{far:.3e}") for step, far in zip(made[::5], apart[::5])]
+    show(options.plot, lambda axes: draw(axes, alone, tugged), ["steps made", "distance / sigma"], rows)
     returned = alone[0] == alone[-1] == tugged[-1]
     print("both runs are back where they began, to the bit" if returned else "a run is not back where it began")
     return 0 if returned else 1

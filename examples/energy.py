@@ -11,7 +11,7 @@ import math
 import sys
 from typing import Any, Dict, List, Sequence, Tuple
 
-from shared import ATOMS, RING, TIME, hot_crystal, ljclient, options_of, print_table, save_picture, user_of
+from shared import ATOMS, RING, TIME, hot_crystal, ljclient, options_of, show, user_of
 
 FACTORS = [32768, 131072, 524288, 1179648]
 STEPS = 20_000
@@ -46,12 +46,11 @@ def draw(axes: Any, found: Found) -> None:
     axes.legend(loc="upper left", fontsize="small")
 
 
-def print_energies(found: Found) -> None:
-    """Prints every tenth energy, with a column for each step factor."""
+def rows_of(found: Found) -> List[Sequence[object]]:
+    """Every tenth energy, with a column for each step factor."""
     steps, _ = found[FACTORS[0]]
     rows = list(zip(steps, *(energy for _, energy in found.values())))
-    heads = ["step", *(f"h = {h}" for h in FACTORS)]
-    print_table(heads, [(step, *(f"{one:.5f}" for one in energies)) for step, *energies in rows[::10]])
+    return [(step, *(f"{one:.5f}" for one in energies)) for step, *energies in rows[::10]]
 
 
 def main(words: Sequence[str]) -> int:
@@ -62,10 +61,7 @@ def main(words: Sequence[str]) -> int:
             found[h] = energies(user, h, options.steps)
             _, energy = found[h]
             print(f"h = {h}: {energy[0]:.5f} epsilon per atom at first, {energy[-1]:.5f} at last", flush=True)
-    if options.plot:
-        save_picture(lambda axes: draw(axes, found), options.plot)
-    else:
-        print_energies(found)
+    show(options.plot, lambda axes: draw(axes, found), ["step", *(f"h = {h}" for h in FACTORS)], rows_of(found))
     return 0
 
 

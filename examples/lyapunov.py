@@ -29,7 +29,7 @@ from concurrent.futures import ProcessPoolExecutor
 from typing import Any, Iterator, List, Sequence, Tuple
 
 from shared import EDGE, H, HEAT, RING, TIME, add_plot, crystal, distance
-from shared import ljclient, needed, prepare_picture, print_table, save_picture
+from shared import ljclient, needed, prepare_picture, show
 
 RUNS, STEPS, PIECE, MELTING = 64, 700, 20, 1000
 NEAR, FAR = 1 / 256, 1 / 10
@@ -142,11 +142,8 @@ def main(words: Sequence[str]) -> int:
     except (ImportError, ljclient.ClientError) as error:
         sys.exit(f"{os.path.basename(sys.argv[0])}: {error}")
     slopes, means, _ = exponent_of(runs)
-    if options.plot:
-        save_picture(lambda axes: draw(axes, runs), options.plot)
-    else:
-        rows = [(number * PIECE, f"{math.exp(mean):.3e}", f"{max(run[number] for run in runs):.3e}") for number, mean in enumerate(means)]
-        print_table(["step", "distance / sigma", "the greatest"], rows[1::5])
+    rows = [(number * PIECE, f"{math.exp(mean):.3e}", f"{max(run[number] for run in runs):.3e}") for number, mean in enumerate(means)]
+    show(options.plot, lambda axes: draw(axes, runs), ["step", "distance / sigma", "the greatest"], rows[1::5])
     print(told_of(slopes))
     return 0
 

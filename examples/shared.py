@@ -203,6 +203,14 @@ def save_picture(draw: Callable[[Any], None], path: str) -> None:
     save_figure(figure, path)
 
 
+def show(path: Optional[str], draw: Callable[[Any], None], heads: Sequence[str], rows: Iterable[Sequence[object]]) -> None:
+    """Draws into a file, or prints a table where no file is named."""
+    if path:
+        save_picture(draw, path)
+    else:
+        print_table(heads, rows)
+
+
 def save_figure(figure: Any, path: str) -> None:
     """Writes a figure into a file. The example ends and says why if that fails."""
     try:

@@ -10,7 +10,7 @@ import contextlib
 import sys
 from typing import Any, List, Sequence, Tuple
 
-from shared import ATOMS, distance, hot_crystal, ljclient, options_of, print_table, save_picture, user_of, whole
+from shared import ATOMS, distance, hot_crystal, ljclient, options_of, show, user_of, whole
 
 HEATS = [0.25 * number for number in range(1, 9)]  # temperatures of the copies when they start
 STEPS = 2000
@@ -40,12 +40,9 @@ def main(words: Sequence[str]) -> int:
     options = options_of(words, __doc__, STEPS, PIECE)
     with user_of(options) as user:
         found = melt(user, options.steps)
-    if options.plot:
-        save_picture(lambda axes: draw(axes, found), options.plot)
-    else:
-        heads = ["at first", "temperature", "potential energy / epsilon", "distance / sigma"]
-        rows = [(f"{heat:.2f}", *(f"{number:.4f}" for number in row)) for heat, row in zip(HEATS, found)]
-        print_table(heads, rows)
+    heads = ["at first", "temperature", "potential energy / epsilon", "distance / sigma"]
+    rows = [(f"{heat:.2f}", *(f"{number:.4f}" for number in row)) for heat, row in zip(HEATS, found)]
+    show(options.plot, lambda axes: draw(axes, found), heads, rows)
     return 0
 
 

@@ -9,7 +9,7 @@ from __future__ import annotations
 import sys
 from typing import Any, List, Sequence, Tuple
 
-from shared import ATOMS, Frame, distance, hot_crystal, ljclient, options_of, print_table, save_picture, there_and_back, user_of
+from shared import ATOMS, Frame, distance, hot_crystal, ljclient, options_of, show, there_and_back, user_of
 
 STEPS = 2000
 PIECE = 40
@@ -42,11 +42,9 @@ def main(words: Sequence[str]) -> int:
     options = options_of(words, __doc__, STEPS, PIECE)
     with user_of(options) as user:
         frames = travel(user, options.steps)
-    if options.plot:
-        save_picture(lambda axes: draw(axes, frames), options.plot)
-    else:
-        made, away = distances(frames)
-        print_table(["steps made", "distance / sigma"], [(step, f"{far:.6f}") for step, far in zip(made[::5], away[::5])])
+    made, away = distances(frames)
+    rows = [(step, f"{far:.6f}") for step, far in zip(made[::5], away[::5])]
+    show(options.plot, lambda axes: draw(axes, frames), ["steps made", "distance / sigma"], rows)
     back = sum(one == other for one, other in zip(frames[0], frames[-1]))
     print(f"{back} of {ATOMS} atoms are back at their places, to the bit")
     return 0 if back == ATOMS else 1
