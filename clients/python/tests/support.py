@@ -12,7 +12,7 @@ import threading
 import time
 from typing import Any, Dict, Iterator, List, Optional, TypeVar
 
-from ljclient import units
+from ljclient import connect, units
 
 TOP = pathlib.Path(__file__).resolve().parents[3]
 EXAMPLES = TOP / "examples"
@@ -100,6 +100,11 @@ def interrupt_when(holds: Any) -> Any:
     thread = threading.Thread(target=interrupt, daemon=True)
     thread.start()
     return thread
+
+
+def joined(port: int, timeout: Any = SECONDS) -> Any:
+    """The user `ann`, at a server on this port."""
+    return connect("127.0.0.1", port, "ann", TOKEN, timeout=timeout)
 
 
 class Server:

@@ -8,23 +8,13 @@ from typing import Any, Iterator
 import pytest
 
 import support
-from ljclient import ConnectionLost, connect, refusals, user as users
+from ljclient import ConnectionLost, refusals, user as users
 from ljclient.prompt.link import Link
-from support import SECONDS, TOKEN, Server, dimer
+from support import TOKEN, Server, dimer, joined
 from terminals import ARGON, PROMPT, Terminal, environment
 
 LOST = "the server no longer has it: the server was started again, or another connection has dropped it"
 NEVER = "there is no session of that name"
-
-
-@pytest.fixture
-def server() -> Iterator[Any]:
-    with Server() as server:
-        yield server
-
-
-def joined(server: Any) -> Any:
-    return connect("127.0.0.1", server.port, "ann", TOKEN, timeout=SECONDS)
 
 
 def started_again(server: Any) -> Any:
@@ -64,7 +54,7 @@ def after_a_list(session: Any) -> None:
     ],
 )
 def test_a_server_that_was_started_again(server: Any, few_commands: Any, ask: Any) -> None:
-    with joined(server) as user:
+    with joined(server.port) as user:
         session = dimer(user)
         before_the_last(user)
         with started_again(server):
@@ -77,13 +67,13 @@ def test_a_server_that_was_started_again(server: Any, few_commands: Any, ask: An
 
 
 def test_a_session_that_another_connection_has_dropped(server: Any, few_commands: Any) -> None:
-    with joined(server) as user:
+    with joined(server.port) as user:
         session = dimer(user)
         before_the_last(user)
         reopen = user._reopen
 
         def after_another() -> Any:
-            with joined(server) as other:
+            with joined(server.port) as other:
                 other.session("a").drop()
             return reopen()
 
@@ -92,7 +82,7 @@ def test_a_session_that_another_connection_has_dropped(server: Any, few_commands
 
 
 def test_sessions_that_are_there_after_a_new_connection(server: Any, few_commands: Any) -> None:
-    with joined(server) as user:
+    with joined(server.port) as user:
         session = dimer(user)
         for _ in range(3):
             before_the_last(user)
@@ -100,7 +90,7 @@ def test_sessions_that_are_there_after_a_new_connection(server: Any, few_command
 
 
 def test_what_never_was_there_or_was_dropped_here(server: Any) -> None:
-    with joined(server) as user:
+    with joined(server.port) as user:
         dimer(user, "a").drop()
         dimer(user, "b")
         user.ask("DROP b")
@@ -125,7 +115,7 @@ def test_a_refusal_in_words_of_its_own_is_the_same_when_it_was_sent() -> None:
 
 
 def test_a_link_tells_once_what_is_lost(server: Any) -> None:
-    link = Link(functools.partial(joined, server), "")
+    link = Link(functools.partial(joined, server.port), "")
     for name in "abc":
         dimer(link.ready(), name)
     link.user.session("c").drop()
@@ -138,7 +128,7 @@ def test_a_link_tells_once_what_is_lost(server: Any) -> None:
         assert (link.lost(), link.lost()) == (["a", "b"], [])
         dimer(link.ready(), "a")
         link.user.close()
-        with joined(server) as other:
+        with joined(server.port) as other:
             dimer(other, "d")
         assert [row.name for row in link.ready().sessions()] == ["a", "d"]
         assert link.lost() == []
@@ -146,7 +136,7 @@ def test_a_link_tells_once_what_is_lost(server: Any) -> None:
 
 
 def test_a_link_whose_server_is_away_for_some_time(server: Any) -> None:
-    link = Link(functools.partial(joined, server), "")
+    link = Link(functools.partial(joined, server.port), "")
     dimer(link.ready())
     server.end()
     with pytest.raises(ConnectionLost):

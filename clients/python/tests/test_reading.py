@@ -6,18 +6,14 @@ import unittest
 from unittest import mock
 from typing import Any, List
 
-from ljclient import BadReply, Closed, ConnectionLost, arrays, connect, reading, refusals, run
+from ljclient import BadReply, Closed, ConnectionLost, arrays, reading, refusals, run
 from ljclient.wire import Reply
-from support import PROGRAM, RING, SECONDS, TOKEN, dimer, interrupt_when, interruptible, listed, peer, read_line, says, stays
+from support import PROGRAM, RING, SECONDS, dimer, interrupt_when, interruptible, joined, listed, peer, read_line, says, stays
 
 LISTED = b"OK LIST 1\na 7 2 0\n"
 SHOWN = [b"OK SHOW a 7 0 589 0 4294967295\n", b"OK SHOW a 7 1 25165235 1 2\n"]
 PLACES = [(589, 0, 4294967295), (25165235, 1, 2)]
 KINDS = [arrays.numpy, None] if arrays.numpy else [None]
-
-
-def joined(port: Any) -> Any:
-    return connect("127.0.0.1", port, "ann", TOKEN, timeout=SECONDS)
 
 
 def by(kind: Any) -> Any:

@@ -11,9 +11,10 @@ from typing import Any, Dict, Iterator, List
 import pytest
 
 import support
-from ljclient import ClientError, ConnectionLost, NotRecorded, Refused, connect, recording, refusals, run, user as users
+from ljclient import ClientError, ConnectionLost, NotRecorded, Refused, recording, refusals, run, user as users
 from record_texts import COMMANDS, DIMER_TEXT, commands, is_the_same, replied, twisted, verified, with_checks, without_checks
-from support import ARGON, DIMER, EXAMPLES, PROGRAM, SECONDS, TOKEN, TOP, Server, dimer, interrupt_when, listed, present, process_of
+from support import ARGON, DIMER, EXAMPLES, PROGRAM, SECONDS, TOKEN, TOP, Server
+from support import dimer, interrupt_when, joined, listed, present, process_of
 from terminals import environment
 
 MIX: Dict[str, Any] = {"edge": 256, "species": ("Na", "Cl"), "classes": [(1, 131072, 256), (1, 262144, 512), (1, 131072, 256)]}
@@ -439,18 +440,8 @@ def test_a_file_that_can_no_longer_be_written(user: Any, path: Any) -> None:
 # Over a server
 
 
-@pytest.fixture
-def server() -> Iterator[Any]:
-    with Server() as server:
-        yield server
-
-
-def joined(server: Any) -> Any:
-    return connect("127.0.0.1", server.port, "ann", TOKEN, timeout=SECONDS)
-
-
 def test_a_user_of_a_server(server: Any, path: Any) -> None:
-    with joined(server) as user:
+    with joined(server.port) as user:
         played(user, path)
     assert TOKEN not in path.read_text()
     assert "\n".join([*without_checks(path), ""]) == DIMER_TEXT
@@ -459,7 +450,7 @@ def test_a_user_of_a_server(server: Any, path: Any) -> None:
 
 
 def test_a_connection_that_has_used_up_its_commands(server: Any, path: Any) -> None:
-    with mock.patch.object(users, "MAX_ITEMS", 100), joined(server) as user:
+    with mock.patch.object(users, "MAX_ITEMS", 100), joined(server.port) as user:
         a = dimer(user, record=path)
         for step in range(1, 120):
             assert a.advance(1) == step
@@ -471,13 +462,13 @@ def test_a_connection_that_has_used_up_its_commands(server: Any, path: Any) -> N
 
 def test_another_connection_that_changes_the_session(server: Any, path: Any) -> None:
     """The record can't know of it, and verify says where it may have been."""
-    with mock.patch.object(users, "MAX_ITEMS", 100), joined(server) as user:
+    with mock.patch.object(users, "MAX_ITEMS", 100), joined(server.port) as user:
         a = dimer(user, record=path)
         user.ask_all(["LIST"] * (users.MAX_ITEMS - 1 - user._wire.asked))
         reopen = user._reopen
 
         def after_another() -> Any:
-            with joined(server) as other:
+            with joined(server.port) as other:
                 other.session("a").tug(0, (5, 0, 0))
             return reopen()
 
@@ -493,7 +484,7 @@ def test_another_connection_that_changes_the_session(server: Any, path: Any) -> 
 
 
 def test_replies_that_are_on_their_way_when_a_new_connection_begins(server: Any, path: Any, interruptible: Any) -> None:
-    with mock.patch.object(users, "MAX_ITEMS", 100), joined(server) as user:
+    with mock.patch.object(users, "MAX_ITEMS", 100), joined(server.port) as user:
         argon = user.load("argon", EXAMPLES / "argon_256.xyz", record=path, watch=False, **ARGON)
         user.ask_all(["LIST"] * (users.MAX_ITEMS - 2 - user._wire.asked))
         interrupt = interrupt_when(lambda: user.unanswered == ["ADVANCE argon 10000"] and not user._wire._outgoing)
@@ -512,7 +503,7 @@ def test_replies_that_are_on_their_way_when_a_new_connection_begins(server: Any,
 
 
 def test_a_server_that_was_started_again(server: Any, path: Any) -> None:
-    with mock.patch.object(users, "MAX_ITEMS", 100), joined(server) as user:
+    with mock.patch.object(users, "MAX_ITEMS", 100), joined(server.port) as user:
         a = dimer(user, record=path)
         a.advance(1)
         user.ask_all(["LIST"] * (users.MAX_ITEMS - 1 - user._wire.asked))

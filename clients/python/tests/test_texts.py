@@ -6,19 +6,15 @@ from typing import Any
 
 import pytest
 
-from ljclient import BadReply, ConnectionLost, connect, refusals
+from ljclient import BadReply, ConnectionLost, refusals
 from ljclient.arrays import LONG_TEXT, count_of_lines
-from support import SECONDS, TOKEN, interrupt_when, peer, read_line, says, stays
+from support import SECONDS, interrupt_when, joined, peer, read_line, says, stays
 
 ATOMS = 700
 ROWS = [f"Ar {atom}.000001 2.500000 {atom % 7}.250000" for atom in range(ATOMS)]
 TEXT = "\n".join([str(ATOMS), "step 7", *ROWS, ""]).encode()
 REPLY = f"OK DUMP a 7 {ATOMS + 2}\n".encode() + TEXT
 NOTHING = b"OK LIST 0\n"
-
-
-def joined(port: Any) -> Any:
-    return connect("127.0.0.1", port, "ann", TOKEN, timeout=SECONDS)
 
 
 def in_pieces(size: Any) -> Any:

@@ -9,10 +9,10 @@ from typing import Any, Callable, List, Tuple
 
 import pytest
 
-from ljclient import Damaged, Refused, connect, run, verify
+from ljclient import Damaged, Refused, run, verify
 from ljclient.record_file import RecordFile
 from record_texts import COMMANDS, DIMER_TEXT, sums, twisted, verified, with_checks
-from support import PROGRAM, SECONDS, TOKEN, TOP, Server, dimer
+from support import PROGRAM, TOKEN, TOP, Server, dimer, joined
 
 LINES = DIMER_TEXT.splitlines()
 # The lines at which a command begins, and those at which its reply ends.
@@ -289,16 +289,16 @@ def over(server: Any, name: str = "ann") -> List[Any]:
 def test_a_user_of_a_server(path: Any) -> None:
     """The sessions that are there stay as they are, and that of the record is gone at the end."""
     with Server() as server:
-        with connect("127.0.0.1", server.port, "ann", TOKEN, timeout=SECONDS) as user:
+        with joined(server.port) as user:
             dimer(user, "b").advance(3)
         status, told, faults = verified(path, *over(server), LJSERVE_TOKEN=TOKEN)
         assert (status, len(told), faults) == (0, len(COMMANDS) + 2, [])
-        with connect("127.0.0.1", server.port, "ann", TOKEN, timeout=SECONDS) as user:
+        with joined(server.port) as user:
             assert [(row.name, row.step) for row in user.sessions()] == [("b", 3)]
             dimer(user, "a").advance(5)
         why = f"ann has a session a at 127.0.0.1:{server.port} already: drop it, or verify as another user"
         assert verified("--quiet", path, *over(server), LJSERVE_TOKEN=TOKEN) == (2, [], [f"ljclient: {why}"])
-        with connect("127.0.0.1", server.port, "ann", TOKEN, timeout=SECONDS) as user:
+        with joined(server.port) as user:
             assert [(row.name, row.step) for row in user.sessions()] == [("b", 3), ("a", 5)]
 
 

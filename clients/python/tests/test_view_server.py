@@ -10,9 +10,8 @@ from typing import Any, Iterator, Tuple
 import pytest
 
 from browsing import CHROMIUM, Browser
-from ljclient import connect
 from ljclient.view import connection
-from support import DIMER, RING, SECONDS, TOKEN, Server, dimer
+from support import DIMER, RING, SECONDS, TOKEN, dimer, joined
 from viewing import View, command
 
 SCALE = ["--edge", 256, "--sigma", 1, "--h", 131072]
@@ -26,15 +25,9 @@ def picture(page: Any, name: Any) -> None:
 
 
 @pytest.fixture
-def server() -> Iterator[Any]:
-    with Server() as one:
-        yield one
-
-
-@pytest.fixture
 def ann(server: Any) -> Any:
     """Opens a connection of the user, as a prompt does."""
-    return lambda timeout=SECONDS: connect("127.0.0.1", server.port, "ann", TOKEN, timeout=timeout)
+    return lambda timeout=SECONDS: joined(server.port, timeout)
 
 
 @pytest.fixture

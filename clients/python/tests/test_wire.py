@@ -7,11 +7,7 @@ from typing import Any
 
 import ljclient
 from ljclient import BadReply, Closed, ConnectionLost, Refused, TimedOut, connect, refusals
-from support import SECONDS, TOKEN, interrupt_when, interruptible, peer, read_line, says, stays
-
-
-def joined(port: Any, timeout: Any = SECONDS) -> Any:
-    return connect("127.0.0.1", port, "ann", TOKEN, timeout=timeout)
+from support import SECONDS, TOKEN, interrupt_when, interruptible, joined, peer, read_line, says, stays
 
 
 def read_whole_line(connection: Any) -> Any:
