@@ -12,6 +12,8 @@ import threading
 import time
 from typing import Any, Dict, Iterator, List, Optional, TypeVar
 
+import pytest
+
 from ljclient import connect, units
 
 TOP = pathlib.Path(__file__).resolve().parents[3]
@@ -63,9 +65,14 @@ def go_on_alike(case: Any, one: Any, other: Any) -> None:
     case.assertEqual(listed(one.places()), listed(other.places()))
 
 
-def interruptible(case: Any) -> None:
-    """Has an interrupt raise KeyboardInterrupt in a test. Where tests run in the background it is ignored from the start."""
-    case.addCleanup(signal.signal, signal.SIGINT, signal.signal(signal.SIGINT, signal.default_int_handler))
+@contextlib.contextmanager
+def interruptible() -> Iterator[None]:
+    """Has an interrupt raise KeyboardInterrupt. Where tests run in the background it is ignored from the start."""
+    before = signal.signal(signal.SIGINT, signal.default_int_handler)
+    try:
+        yield
+    finally:
+        signal.signal(signal.SIGINT, before)
 
 
 def heed_signals() -> None:
@@ -90,16 +97,19 @@ def wait_until(holds: Any) -> None:
         time.sleep(0.01)
 
 
-def interrupt_when(holds: Any) -> Any:
-    """The thread that interrupts the main one as soon as this holds."""
+@contextlib.contextmanager
+def interrupted_when(holds: Any) -> Iterator[None]:
+    """What is done within is interrupted as soon as this holds, and ends by KeyboardInterrupt."""
 
     def interrupt() -> None:
         wait_until(holds)
         os.kill(os.getpid(), signal.SIGINT)
 
     thread = threading.Thread(target=interrupt, daemon=True)
-    thread.start()
-    return thread
+    with interruptible(), pytest.raises(KeyboardInterrupt):
+        thread.start()
+        yield
+    thread.join()
 
 
 def joined(port: int, timeout: Any = SECONDS) -> Any:

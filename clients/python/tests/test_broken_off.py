@@ -11,7 +11,7 @@ from typing import Any, Iterator
 import pytest
 
 from ljclient import ClientError, run
-from support import PROGRAM, dimer, listed
+from support import PROGRAM, dimer, interruptible, listed
 
 WAY = [[(0, 0, 0), (25165824, 0, 0)], [(589, 0, 0), (25165235, 0, 0)], [(1774, 0, 0), (25164050, 0, 0)]]
 
@@ -66,20 +66,17 @@ def test_an_error_on_the_way_to_the_next_row(a: Any) -> None:
 
 
 def test_an_interrupt_while_a_row_is_measured(user: Any, a: Any) -> None:
-    ask_all, before = user.ask_all, signal.signal(signal.SIGINT, signal.default_int_handler)
+    ask_all = user.ask_all
 
     def interrupted(lines: Any) -> Any:
         replies = ask_all(lines)
         signal.raise_signal(signal.SIGINT)
         return replies
 
-    try:
-        with mock.patch.object(user, "ask_all", interrupted):
-            rows = a.thermo(every=2, rows=5)
-        with pytest.raises(KeyboardInterrupt):
-            next(rows)
-    finally:
-        signal.signal(signal.SIGINT, before)
+    with mock.patch.object(user, "ask_all", interrupted):
+        rows = a.thermo(every=2, rows=5)
+    with interruptible(), pytest.raises(KeyboardInterrupt):
+        next(rows)
     assert stands_at(a, 0)
 
 

@@ -12,7 +12,7 @@ import unittest
 from typing import Any, Callable, List
 
 from ljclient import ConnectionLost, Measurement, Saved, distance, least_images, refusals, run
-from support import DIMER_SCALE, EXAMPLES, PROGRAM, SECONDS, dimer, interrupt_when, interruptible, is_running, listed, process_of
+from support import DIMER_SCALE, EXAMPLES, PROGRAM, SECONDS, dimer, interrupted_when, is_running, listed, process_of
 
 
 class Alone(unittest.TestCase):
@@ -253,17 +253,11 @@ class SideBySide(Alone):
 
 
 class Interrupts(Alone):
-    def setUp(self) -> None:
-        super().setUp()
-        interruptible(self)
-
     def test_a_run_can_be_interrupted_and_undone(self) -> None:
         a = dimer(self.user)
         told: List[Any] = []
-        interrupt = interrupt_when(lambda: any(told))
-        with self.assertRaises(KeyboardInterrupt):
+        with interrupted_when(lambda: any(told)):
             a.advance(10**7, progress=lambda done, total: told.append(done))
-        interrupt.join()
         step = a.step
         self.assertGreater(step, 0)
         self.assertLess(step, 10**7)

@@ -13,15 +13,13 @@ from ljclient import connect, run
 from ljclient.prompt.dialogue import TerminalTalk
 from ljclient.prompt.link import Link
 from ljclient.prompt.reading import PlainReader, TerminalInput
-from support import PROGRAM, SECONDS, TOKEN, peer, read_line, says, stays
+from support import PROGRAM, SECONDS, TOKEN, interruptible, peer, read_line, says, stays
 
 
 @pytest.fixture(autouse=True)
 def interrupts() -> Iterator[Any]:
-    """Has an interrupt raise KeyboardInterrupt. Where tests run in the background it is ignored from the start."""
-    before = signal.signal(signal.SIGINT, signal.default_int_handler)
-    yield
-    signal.signal(signal.SIGINT, before)
+    with interruptible():
+        yield
 
 
 def interrupt_beside() -> None:

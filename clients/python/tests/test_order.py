@@ -271,7 +271,6 @@ class Renewals(Sessions):
 
     def test_interrupts_lose_nothing(self) -> None:
         """An interrupt comes while the motion is turned back to be read, and while the session is gone to be loaded again."""
-        interruptible(self)
         plain, ordered = self.both()
         ask = self.user.ask_commands
         for word in ("REVERSE", "LOAD"):
@@ -285,8 +284,9 @@ class Renewals(Sessions):
                 return first + ask(commands[half:])
 
             ordered.advance(250)
-            with mock.patch.object(self.user, "ask_commands", side_effect=interrupted), self.assertRaises(KeyboardInterrupt):
-                ordered.advance(10)
+            with mock.patch.object(self.user, "ask_commands", side_effect=interrupted), interruptible():
+                with self.assertRaises(KeyboardInterrupt):
+                    ordered.advance(10)
             plain.advance(ordered.step - plain.step)
             self.same(plain, ordered)
 

@@ -8,7 +8,7 @@ from typing import Any, List
 
 from ljclient import BadReply, Closed, ConnectionLost, arrays, reading, refusals, run
 from ljclient.wire import Reply
-from support import PROGRAM, RING, SECONDS, dimer, interrupt_when, interruptible, joined, listed, peer, read_line, says, stays
+from support import PROGRAM, RING, SECONDS, dimer, interrupted_when, joined, listed, peer, read_line, says, stays
 
 LISTED = b"OK LIST 1\na 7 2 0\n"
 SHOWN = [b"OK SHOW a 7 0 589 0 4294967295\n", b"OK SHOW a 7 1 25165235 1 2\n"]
@@ -129,7 +129,6 @@ class Refusals(unittest.TestCase):
 
 class Interrupts(unittest.TestCase):
     def test_rows_that_nobody_came_for_are_passed_over(self) -> None:
-        interruptible(self)
         caught = threading.Event()
 
         def slowly(connection: Any, stop: Any) -> None:
@@ -143,10 +142,8 @@ class Interrupts(unittest.TestCase):
             stays(connection, stop)
 
         with peer(says(LISTED, then=slowly)) as port, joined(port) as user:
-            interrupt = interrupt_when(lambda: len(user.unanswered) == 2 and user._wire._lines)
-            with self.assertRaises(KeyboardInterrupt):
+            with interrupted_when(lambda: len(user.unanswered) == 2 and user._wire._lines):
                 unasked(user).places()
-            interrupt.join()
             caught.set()
             self.assertEqual(user.sessions(), [])
             user._wire.close()

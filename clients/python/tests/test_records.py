@@ -14,7 +14,7 @@ import support
 from ljclient import ClientError, ConnectionLost, NotRecorded, Refused, recording, refusals, run, user as users
 from record_texts import COMMANDS, DIMER_TEXT, commands, is_the_same, replied, twisted, verified, with_checks, without_checks
 from support import ARGON, DIMER, EXAMPLES, PROGRAM, SECONDS, TOKEN, TOP, Server
-from support import dimer, interrupt_when, joined, listed, present, process_of
+from support import dimer, interrupted_when, joined, listed, present, process_of
 from terminals import environment
 
 MIX: Dict[str, Any] = {"edge": 256, "species": ("Na", "Cl"), "classes": [(1, 131072, 256), (1, 262144, 512), (1, 131072, 256)]}
@@ -324,20 +324,11 @@ def test_what_is_asked_as_it_stands(user: Any, path: Any) -> None:
     assert is_the_same(path) == []
 
 
-@pytest.fixture
-def interruptible() -> Iterator[Any]:
-    before = signal.signal(signal.SIGINT, signal.default_int_handler)
-    yield
-    signal.signal(signal.SIGINT, before)
-
-
-def test_an_interrupt(user: Any, path: Any, interruptible: Any) -> None:
+def test_an_interrupt(user: Any, path: Any) -> None:
     argon = user.load("argon", EXAMPLES / "argon_256.xyz", record=path, **ARGON)
     told: List[Any] = []
-    interrupt = interrupt_when(lambda: any(told))
-    with pytest.raises(KeyboardInterrupt):
+    with interrupted_when(lambda: any(told)):
         argon.advance(10**6, progress=lambda done, total: told.append(done))
-    interrupt.join()
     step = argon.step
     argon.reverse()
     user.close()
@@ -346,12 +337,10 @@ def test_an_interrupt(user: Any, path: Any, interruptible: Any) -> None:
     assert is_the_same(path) == []
 
 
-def test_a_reply_that_did_not_come(user: Any, path: Any, interruptible: Any) -> None:
+def test_a_reply_that_did_not_come(user: Any, path: Any) -> None:
     argon = user.load("argon", EXAMPLES / "argon_256.xyz", record=path, **ARGON)
-    interrupt = interrupt_when(lambda: user.unanswered == ["ADVANCE argon 1000000"] and not user._wire._outgoing)
-    with pytest.raises(KeyboardInterrupt):
+    with interrupted_when(lambda: user.unanswered == ["ADVANCE argon 1000000"] and not user._wire._outgoing):
         argon.advance(10**6, piece=10**6)
-    interrupt.join()
     user.close()
     assert without_checks(path)[-2:] == ["? ADVANCE argon 1000000", "end"]
     assert is_the_same(path) == []
@@ -483,14 +472,12 @@ def test_another_connection_that_changes_the_session(server: Any, path: Any) -> 
     )
 
 
-def test_replies_that_are_on_their_way_when_a_new_connection_begins(server: Any, path: Any, interruptible: Any) -> None:
+def test_replies_that_are_on_their_way_when_a_new_connection_begins(server: Any, path: Any) -> None:
     with mock.patch.object(users, "MAX_ITEMS", 100), joined(server.port) as user:
         argon = user.load("argon", EXAMPLES / "argon_256.xyz", record=path, watch=False, **ARGON)
         user.ask_all(["LIST"] * (users.MAX_ITEMS - 2 - user._wire.asked))
-        interrupt = interrupt_when(lambda: user.unanswered == ["ADVANCE argon 10000"] and not user._wire._outgoing)
-        with pytest.raises(KeyboardInterrupt):
+        with interrupted_when(lambda: user.unanswered == ["ADVANCE argon 10000"] and not user._wire._outgoing):
             argon.advance(10**6, piece=10000)
-        interrupt.join()
         assert argon.step == 10000
         argon.drop()
     assert [line for line in without_checks(path) if line[0] in ">c"][-4:] == [

@@ -7,7 +7,7 @@ from typing import Any, Iterator, List, Tuple
 import pytest
 
 from ljclient import arrays, heating, run, units
-from support import EXAMPLES, PROGRAM, RING, dimer, listed
+from support import EXAMPLES, PROGRAM, RING, dimer, interruptible, listed
 
 KINDS = [arrays.numpy, None] if arrays.numpy else [None]
 CRYSTAL = EXAMPLES / "argon_256.xyz"
@@ -151,12 +151,8 @@ def test_an_interrupt_waits_until_all_atoms_have_theirs(user: Any) -> None:
             signal.raise_signal(signal.SIGINT)
         return ask_rows(lines)
 
-    before = signal.signal(signal.SIGINT, signal.default_int_handler)
-    try:
-        with mock.patch.object(user, "ask_rows", interrupted), pytest.raises(KeyboardInterrupt):
-            a.rescale(90)
-    finally:
-        signal.signal(signal.SIGINT, before)
+    with mock.patch.object(user, "ask_rows", interrupted), interruptible(), pytest.raises(KeyboardInterrupt):
+        a.rescale(90)
     assert both(a) == both(twin)
 
 

@@ -1,5 +1,4 @@
 """Frames whose text is taken as it came, from peers that send it in pieces, break it off, or send something else."""
-import signal
 import threading
 import time
 from typing import Any
@@ -8,7 +7,7 @@ import pytest
 
 from ljclient import BadReply, ConnectionLost, refusals
 from ljclient.arrays import LONG_TEXT, count_of_lines
-from support import SECONDS, interrupt_when, joined, peer, read_line, says, stays
+from support import SECONDS, interrupted_when, joined, peer, read_line, says, stays
 
 ATOMS = 700
 ROWS = [f"Ar {atom}.000001 2.500000 {atom % 7}.250000" for atom in range(ATOMS)]
@@ -81,18 +80,12 @@ def test_a_frame_that_nobody_came_for_is_passed_over() -> None:
         connection.sendall(NOTHING)
         stays(connection, stop)
 
-    before = signal.signal(signal.SIGINT, signal.default_int_handler)
-    try:
-        with peer(says(then=slowly)) as port, joined(port) as user:
-            interrupt = interrupt_when(lambda: len(user._wire._partial) == 5000)
-            with pytest.raises(KeyboardInterrupt):
-                user.ask_text("DUMP a")
-            interrupt.join()
-            caught.set()
-            assert user.sessions() == []
-            user._wire.close()
-    finally:
-        signal.signal(signal.SIGINT, before)
+    with peer(says(then=slowly)) as port, joined(port) as user:
+        with interrupted_when(lambda: len(user._wire._partial) == 5000):
+            user.ask_text("DUMP a")
+        caught.set()
+        assert user.sessions() == []
+        user._wire.close()
 
 
 def test_line_ends_are_counted_in_texts_of_any_length() -> None:

@@ -9,7 +9,7 @@ from typing import Any, Iterator, List
 import pytest
 
 from ljclient import run
-from support import PROGRAM, SECONDS, dimer, listed, present
+from support import PROGRAM, SECONDS, dimer, interruptible, listed, present
 
 ROUNDS = 30
 NAMES = "abcd"
@@ -177,16 +177,14 @@ def test_an_interrupt_ends_the_wait_for_another_thread(user: Any) -> None:
         assert begun.wait(SECONDS)
         signal.pthread_kill(present(threading.main_thread().ident), signal.SIGINT)
 
-    before = signal.signal(signal.SIGINT, signal.default_int_handler)
     threads = [threading.Thread(target=target) for target in (hold, press)]
     try:
-        with pytest.raises(KeyboardInterrupt):
+        with interruptible(), pytest.raises(KeyboardInterrupt):
             for thread in threads:
                 thread.start()
             assert begun.wait(SECONDS)
             a.advance(1)
     finally:
-        signal.signal(signal.SIGINT, before)
         over.set()
         for thread in threads:
             thread.join(SECONDS)

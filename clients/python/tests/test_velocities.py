@@ -11,7 +11,7 @@ from typing import Any, Iterator, List, Tuple
 import pytest
 
 from ljclient import arrays, connect, refusals, run, units
-from support import EXAMPLES, PROGRAM, SECONDS, TOKEN, dimer, listed, peer, read_line
+from support import EXAMPLES, PROGRAM, SECONDS, TOKEN, dimer, interruptible, listed, peer, read_line
 
 KINDS = [arrays.numpy, None] if arrays.numpy else [None]
 PLACES = [0, 0, 589, 1774, 3555]  # of atom 0, from one step before step 0
@@ -134,12 +134,8 @@ def test_an_interrupt_leaves_it_as_it_was(user: Any) -> None:
         signal.raise_signal(signal.SIGINT)
         return ask_rows(lines)
 
-    before = signal.signal(signal.SIGINT, signal.default_int_handler)
-    try:
-        with mock.patch.object(user, "ask_rows", interrupted), pytest.raises(KeyboardInterrupt):
-            a.velocities()
-    finally:
-        signal.signal(signal.SIGINT, before)
+    with mock.patch.object(user, "ask_rows", interrupted), interruptible(), pytest.raises(KeyboardInterrupt):
+        a.velocities()
     assert (a.step, listed(a.places())) == (1, [(589, 0, 0), (25165235, 0, 0)])
     assert a.advance(1) == 2 and listed(a.places())[0] == (1774, 0, 0)
 

@@ -72,8 +72,8 @@ class Ends(unittest.TestCase):
         time.sleep(pages.GRACE_SECONDS + 0.5)
         self.assertIsNone(shown.child.poll())
 
+    @interruptible()
     def test_an_interrupt_ends_it(self) -> None:
-        interruptible(self)
         shown = self.view()
         with shown.page() as page:
             (program,) = children_of(shown.child.pid)

@@ -7,7 +7,7 @@ from typing import Any
 
 import ljclient
 from ljclient import BadReply, Closed, ConnectionLost, Refused, TimedOut, connect, refusals
-from support import SECONDS, TOKEN, interrupt_when, interruptible, joined, peer, read_line, says, stays
+from support import SECONDS, TOKEN, interrupted_when, joined, peer, read_line, says, stays
 
 
 def read_whole_line(connection: Any) -> Any:
@@ -262,9 +262,6 @@ class ManyUnderWay(unittest.TestCase):
 
 
 class Interrupts(unittest.TestCase):
-    def setUp(self) -> None:
-        interruptible(self)
-
     def test_a_reply_that_nobody_waited_for_is_passed_over(self) -> None:
         caught = threading.Event()
 
@@ -277,10 +274,8 @@ class Interrupts(unittest.TestCase):
             stays(connection, stop)
 
         with peer(says(then=late)) as port, joined(port) as user:
-            interrupt = interrupt_when(lambda: user.unanswered and not user._wire._outgoing)
-            with self.assertRaises(KeyboardInterrupt):
+            with interrupted_when(lambda: user.unanswered and not user._wire._outgoing):
                 user.sessions()
-            interrupt.join()
             caught.set()
             self.assertEqual(user.sessions(), [])
             user._wire.close()
