@@ -10,6 +10,23 @@ from support import SECONDS
 
 HERE = "DNS:localhost,IP:127.0.0.1"
 
+# What clients say of a server whose issuer is not known, of one without TLS, and of one that ends the connection.
+UNKNOWN = "the issuer of its certificate is not known here: say ca=FILE or --ca FILE, a file with that of the issuer, from its operator"
+NO_TLS = "it does not speak TLS there: say the port that does, or leave TLS out if the network may see the token"
+ENDED = "it has ended the connection before it was encrypted: does it speak TLS at this port?"
+
+
+def of_another_issuer(file: Any) -> str:
+    """What clients say of a server whose certificate is of another issuer than the one in a file."""
+    return f"its certificate is of another issuer than that in {file}: ask its operator for the right file"
+
+
+def denies(connection: Any, stop: Any) -> None:
+    """A peer without TLS, that refuses what it takes for a first line."""
+    connection.recv(1)
+    connection.sendall(b"ERR 01 DENIED\n")
+    stop.wait(SECONDS)
+
 
 def certificate(folder: Any, name: Any, names: Any = HERE) -> Any:
     """A certificate for these names that is its own issuer, and its key, in files of this name."""

@@ -5,39 +5,17 @@ import ssl
 import subprocess
 import sys
 from unittest import mock
-from typing import Any, Dict, Iterator, Tuple
+from typing import Any, Dict, Tuple
 
 import pytest
 
 from ljclient import ClientError, ConnectionLost, connect, refusals, tls, user as users
 from record_texts import DIMER_TEXT, verified, with_checks
-from relays import Relay, certificate, expired
-from support import EXAMPLES, SECONDS, TOKEN, Server, dimer, free_port, listed, peer
+from relays import ENDED, NO_TLS, UNKNOWN, Relay, certificate, denies, expired, of_another_issuer
+from support import EXAMPLES, SECONDS, TOKEN, dimer, free_port, listed, peer
 from terminals import environment
 
 pytestmark = pytest.mark.skipif(shutil.which("openssl") is None, reason="openssl is not installed")
-
-
-@pytest.fixture(scope="module")
-def good(tmp_path_factory: pytest.TempPathFactory) -> Any:
-    return certificate(tmp_path_factory.mktemp("good"), "good")
-
-
-@pytest.fixture(scope="module")
-def other(tmp_path_factory: pytest.TempPathFactory) -> Any:
-    return certificate(tmp_path_factory.mktemp("other"), "other")
-
-
-@pytest.fixture(scope="module")
-def server() -> Iterator[Any]:
-    with Server() as server:
-        yield server
-
-
-@pytest.fixture
-def relay(server: Any, good: Any) -> Iterator[Any]:
-    with Relay(server.port, good) as relay:
-        yield relay
 
 
 def joined(relay: Any, host: str = "127.0.0.1", **words: Any) -> Any:
@@ -80,11 +58,8 @@ def test_long_replies_and_many_commands(server: Any, relay: Any, good: Any) -> N
 
 
 def test_an_issuer_that_is_not_known(relay: Any, other: Any) -> None:
-    file = "ca=FILE or --ca FILE, a file with that of the issuer, from its operator"
-    text = f"the issuer of its certificate is not known here: say {file}"
-    assert why(relay) == text
-    text = f"its certificate is of another issuer than that in {other[0]}: ask its operator for the right file"
-    assert why(relay, ca=other[0]) == text
+    assert why(relay) == UNKNOWN
+    assert why(relay, ca=other[0]) == of_another_issuer(other[0])
     assert relay.heard == b""
 
 
@@ -105,15 +80,7 @@ def test_a_certificate_of_another_time(server: Any, tmp_path: pathlib.Path) -> N
         assert relay.heard == b""
 
 
-NO_TLS = "it does not speak TLS there: say the port that does, or leave TLS out if the network may see the token"
-
-
 def test_a_plain_server(good: Any) -> None:
-    def denies(connection: Any, stop: Any) -> None:
-        connection.recv(1)
-        connection.sendall(b"ERR 01 DENIED\n")
-        stop.wait(SECONDS)
-
     with peer(denies) as port:
         assert why(mock.Mock(port=port), ca=good[0]) == NO_TLS
 
@@ -126,14 +93,12 @@ def test_a_plain_server_that_waits_for_the_end_of_a_line(server: Any, good: Any)
 
 def test_what_ends_the_connection_at_once(good: Any) -> None:
     with peer(lambda connection, stop: None) as port:
-        text = "it has ended the connection before it was encrypted: does it speak TLS at this port?"
-        assert why(mock.Mock(port=port), ca=good[0]) == text
+        assert why(mock.Mock(port=port), ca=good[0]) == ENDED
 
 
 @pytest.mark.parametrize("kind", [ssl.SSLEOFError, ssl.SSLZeroReturnError, ConnectionResetError, BrokenPipeError])
 def test_each_way_in_which_a_handshake_ends(good: Any, kind: Any) -> None:
-    text = "it has ended the connection before it was encrypted: does it speak TLS at this port?"
-    assert tls.Trust(good[0]).fault(kind(1, "no"), "here") == text
+    assert tls.Trust(good[0]).fault(kind(1, "no"), "here") == ENDED
 
 
 def test_no_server(good: Any) -> None:
@@ -187,15 +152,6 @@ def prompt(*words: Any) -> Tuple[Any, Any, Any]:
     return done.returncode, done.stdout, done.stderr
 
 
-@pytest.fixture
-def emptied(server: Any) -> None:
-    """The user has no session, whatever tests came before in this process."""
-    with connect("127.0.0.1", server.port, "ann", TOKEN, timeout=SECONDS) as user:
-        for row in user.sessions():
-            user.session(row.name).drop()
-
-
-@pytest.mark.usefixtures("emptied")
 def test_a_prompt(relay: Any, good: Any) -> None:
     where = f"127.0.0.1:{relay.port}", "ann"
     assert prompt(*where, "--tls", "--ca", good[0]) == (0, "OK LIST 0\n", "")
@@ -207,7 +163,6 @@ def test_a_prompt(relay: Any, good: Any) -> None:
     assert prompt("--tls")[2].endswith("ljclient: --tls is for a server: say HOST:PORT NAME\n")
 
 
-@pytest.mark.usefixtures("emptied")
 def test_a_record_that_is_verified(relay: Any, good: Any, tmp_path: pathlib.Path) -> None:
     path = tmp_path / "run.lj"
     path.write_text(with_checks(DIMER_TEXT))

@@ -9,46 +9,19 @@ from typing import Any, Dict, Iterator, Tuple
 import pytest
 
 from browsing import CHROMIUM, Browser
-from ljclient import connect
-from relays import Relay, certificate
-from support import SECONDS, TOKEN, Server, dimer, free_port, peer
+from relays import ENDED, NO_TLS, UNKNOWN, Relay, certificate, denies, of_another_issuer
+from support import SECONDS, TOKEN, dimer, free_port, joined, peer
 from viewing import View, command
 
 pytestmark = pytest.mark.skipif(shutil.which("openssl") is None, reason="openssl is not installed")
 SCALE = ["--edge", 256, "--sigma", 1, "--h", 131072]
-FROM_OPERATOR = "a file with that of the issuer, from its operator"
-UNKNOWN = f"the issuer of its certificate is not known here: say ca=FILE or --ca FILE, {FROM_OPERATOR}"
-NO_TLS = "it does not speak TLS there: say the port that does, or leave TLS out if the network may see the token"
-ENDED = "it has ended the connection before it was encrypted: does it speak TLS at this port?"
 WAITS = "ann is in by another connection, such as a prompt or a notebook. This page goes on when that one has ended."
-
-
-@pytest.fixture(scope="module")
-def good(tmp_path_factory: pytest.TempPathFactory) -> Any:
-    return certificate(tmp_path_factory.mktemp("good"), "good")
-
-
-@pytest.fixture(scope="module")
-def other(tmp_path_factory: pytest.TempPathFactory) -> Any:
-    return certificate(tmp_path_factory.mktemp("other"), "other")
-
-
-@pytest.fixture
-def server() -> Iterator[Any]:
-    with Server() as one:
-        yield one
-
-
-@pytest.fixture
-def relay(server: Any, good: Any) -> Iterator[Any]:
-    with Relay(server.port, good) as one:
-        yield one
 
 
 @pytest.fixture
 def ann(server: Any) -> Any:
     """Opens a connection of the user, as a prompt does, at the server itself."""
-    return lambda: connect("127.0.0.1", server.port, "ann", TOKEN, timeout=SECONDS)
+    return lambda: joined(server.port)
 
 
 @pytest.fixture
@@ -142,7 +115,7 @@ def test_a_server_that_is_not_trusted_is_told_before_a_page(
     (tmp_path / "bad.pem").write_text("no certificate\n")
     elsewhere = certificate(tmp_path, "elsewhere", "DNS:md.example.org,IP:192.0.2.1")
     name = "its certificate is of another name than 127.0.0.1: say the name that its operator gives, or ask for a new one"
-    issuer = f"its certificate is of another issuer than that in {other[0]}: ask its operator for the right file"
+    issuer = of_another_issuer(other[0])
     with Relay(server.port, elsewhere) as far:
         cases = [
             (relay.port, [], cannot_connect(relay.port, UNKNOWN)),
@@ -161,11 +134,6 @@ def test_a_server_that_is_not_trusted_is_told_before_a_page(
 
 
 def test_a_server_without_tls_is_told_before_a_page(token_file: Any) -> None:
-    def denies(connection: Any, stop: Any) -> None:
-        connection.recv(1)
-        connection.sendall(b"ERR 01 DENIED\n")
-        stop.wait(SECONDS)
-
     with peer(denies) as port:
         told = refused(f"127.0.0.1:{port}", "ann", "--token-file", token_file, "--tls")
     assert told == (1, f"view: {cannot_connect(port, NO_TLS)}\n")
@@ -200,8 +168,7 @@ def test_a_page_that_connects_again_says_why_it_cannot(view: Any, server: Any, g
     """Its server's certificate is exchanged for that of another issuer, and then the server for one without TLS, that says nothing
     for a while. When the first is there again, the page goes on."""
     port = free_port()
-    issuer = f"its certificate is of another issuer than that in {good[0]}: ask its operator for the right file"
-
+    issuer = of_another_issuer(good[0])
     with ann() as user:
         dimer(user)
     with contextlib.ExitStack() as stack:
