@@ -1,4 +1,5 @@
-"""What the tests of the client share: the package on the path, a server, and a relay that speaks TLS in front of it."""
+"""What the tests of the client share: the package on the path, a program, a server, a relay that speaks TLS in front of it, and a
+browser."""
 import pathlib
 import sys
 from typing import Any, Iterator
@@ -6,8 +7,17 @@ from typing import Any, Iterator
 import pytest
 
 sys.path.insert(0, str(pathlib.Path(__file__).resolve().parents[1]))
+from browsing import Browser  # noqa: E402
+from ljclient import run  # noqa: E402
 from relays import Relay, certificate  # noqa: E402
-from support import Server  # noqa: E402
+from support import PROGRAM, Server  # noqa: E402
+
+
+@pytest.fixture
+def user() -> Iterator[Any]:
+    """The user of a program of its own."""
+    with run(PROGRAM) as user:
+        yield user
 
 
 @pytest.fixture
@@ -32,4 +42,10 @@ def other(tmp_path_factory: pytest.TempPathFactory) -> Any:
 @pytest.fixture
 def relay(server: Any, good: Any) -> Iterator[Any]:
     with Relay(server.port, good) as one:
+        yield one
+
+
+@pytest.fixture(scope="module")
+def browser() -> Iterator[Any]:
+    with Browser() as one:
         yield one

@@ -10,11 +10,12 @@ import subprocess
 import tempfile
 import threading
 import time
+import unittest
 from typing import Any, Dict, Iterator, List, Optional, TypeVar
 
 import pytest
 
-from ljclient import connect, units
+from ljclient import User, connect, run, units
 
 TOP = pathlib.Path(__file__).resolve().parents[3]
 EXAMPLES = TOP / "examples"
@@ -43,6 +44,23 @@ def process_of(user: Any) -> int:
 def python_blocks(path: Any) -> Any:
     """The examples in Python of a document."""
     return re.findall(r"```python\n(.*?)```", path.read_text(), re.S)
+
+
+class Alone(unittest.TestCase):
+    """Tests with a program of their own."""
+
+    user: User
+
+    def setUp(self) -> None:
+        self.user = run(PROGRAM)
+        self.addCleanup(self.user.close)
+
+
+def folder_of(case: unittest.TestCase) -> pathlib.Path:
+    """A folder that is there until a test ends."""
+    folder = tempfile.TemporaryDirectory()
+    case.addCleanup(folder.cleanup)
+    return pathlib.Path(folder.name)
 
 
 def dimer(user: Any, name: str = "a", **words: Any) -> Any:

@@ -1,24 +1,18 @@
 """What may be said as a number or as a symbol: numbers of numpy too, and clear errors for what is none."""
 import importlib.util
 import re
-from typing import Any, Dict, Iterator
+from typing import Any, Dict
 
 import pytest
 
-from ljclient import Mixture, Scale, run
-from support import DIMER_SCALE, PROGRAM, dimer, listed, present
+from ljclient import Mixture, Scale
+from support import DIMER_SCALE, dimer, listed, present
 
 numpy = importlib.import_module("numpy") if importlib.util.find_spec("numpy") else None
 with_numpy = pytest.mark.skipif(numpy is None, reason="numpy is not installed")
 ARGON: Dict[str, Any] = {"edge": 21.04, "sigma": 3.4, "epsilon": 0.01, "mass": 40.0, "dt": 2}
 PAIRS: Dict[str, Any] = {"edge": 21, "species": ("Ar", "Kr"), "first": (3.4, 0.01), "second": (3.6, 0.012), "mass": 40, "dt": 2}
 TWO = [[0, 0, 0], [1.5, 0, 0]]
-
-
-@pytest.fixture
-def user() -> Iterator[Any]:
-    with run(PROGRAM) as user:
-        yield user
 
 
 def names(message: Any) -> Any:

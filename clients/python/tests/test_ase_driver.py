@@ -7,11 +7,11 @@ import pathlib
 import subprocess
 import sys
 from unittest import mock
-from typing import Any, Dict, Iterator, List, Tuple
+from typing import Any, Dict, List, Tuple
 
 import pytest
 
-from ljclient import run, units
+from ljclient import units
 from support import PROGRAM, present
 
 pytest.importorskip("ase", reason="ASE is not installed")
@@ -34,12 +34,6 @@ DT = 2**-7.5
 WAY = [0, 589, 1774, 3555]  # of atom 0, in 2^-24; 596 more for each step, as in test_sampling
 ONE: Dict[str, Any] = {"sigma": 1, "epsilon": 1}
 ARGON: Dict[str, Any] = {"sigma": 3.4, "epsilon": 119.8 * units.kelvin}
-
-
-@pytest.fixture
-def user() -> Iterator[Any]:
-    with run(PROGRAM) as user:
-        yield user
 
 
 @pytest.fixture

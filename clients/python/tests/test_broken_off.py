@@ -6,20 +6,14 @@ import gc
 import pathlib
 import signal
 from unittest import mock
-from typing import Any, Iterator
+from typing import Any
 
 import pytest
 
-from ljclient import ClientError, run
-from support import PROGRAM, dimer, interruptible, listed
+from ljclient import ClientError
+from support import dimer, interruptible, listed
 
 WAY = [[(0, 0, 0), (25165824, 0, 0)], [(589, 0, 0), (25165235, 0, 0)], [(1774, 0, 0), (25164050, 0, 0)]]
-
-
-@pytest.fixture
-def user() -> Iterator[Any]:
-    with run(PROGRAM) as user:
-        yield user
 
 
 @pytest.fixture

@@ -3,16 +3,14 @@
 What is expected is what a session does that was never saved.
 """
 import os
-import pathlib
 import re
-import tempfile
 import unittest
 import zlib
 from unittest import mock
 from typing import Any, Dict
 
 from ljclient import Damaged, connect, refusals, run, units
-from support import ARGON, DIMER, EXAMPLES, PROGRAM, RING, TOKEN, TOP, Server, dimer, go_on_alike, listed
+from support import ARGON, DIMER, EXAMPLES, PROGRAM, RING, TOKEN, TOP, Server, dimer, folder_of, go_on_alike, listed
 
 MIX: Dict[str, Any] = {"species": ("Ar", "Kr"), "edge": 21.04, "first": (3.4, 119.8 * units.kelvin), "second": (3.65, 164 * units.kelvin)}
 # The dimer after one step, by hand: each atom has moved by the push of the other, 589 units.
@@ -41,9 +39,7 @@ def with_checks(text: Any) -> str:
 
 class Saves(unittest.TestCase):
     def setUp(self) -> None:
-        folder = tempfile.TemporaryDirectory()
-        self.addCleanup(folder.cleanup)
-        self.path = pathlib.Path(folder.name) / "a.saved"
+        self.path = folder_of(self) / "a.saved"
         self.user = run(PROGRAM, atoms=40_000)
         self.addCleanup(self.user.close)
 

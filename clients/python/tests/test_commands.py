@@ -12,15 +12,7 @@ import unittest
 from typing import Any, Callable, List
 
 from ljclient import ConnectionLost, Measurement, Saved, distance, least_images, refusals, run
-from support import DIMER_SCALE, EXAMPLES, PROGRAM, SECONDS, dimer, interrupted_when, is_running, listed, process_of
-
-
-class Alone(unittest.TestCase):
-    """Tests with a program of their own."""
-
-    def setUp(self) -> None:
-        self.user = run(PROGRAM)
-        self.addCleanup(self.user.close)
+from support import DIMER_SCALE, EXAMPLES, PROGRAM, SECONDS, Alone, dimer, interrupted_when, is_running, listed, process_of
 
 
 class Commands(Alone):

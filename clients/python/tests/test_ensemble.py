@@ -7,7 +7,6 @@ import pathlib
 import shutil
 import subprocess
 import sys
-import tempfile
 import unittest
 from concurrent.futures import BrokenExecutor, ProcessPoolExecutor, ThreadPoolExecutor
 from functools import partial
@@ -16,7 +15,7 @@ from typing import Any, Dict
 import ensemble_jobs
 from ensemble_jobs import begin, begin_two, jobs, jobs_that_lose, look, look_and_die, look_and_fail, look_at_two
 from ljclient import ConnectionLost, Job, ensemble
-from support import EXAMPLES, PROGRAM, SECONDS, TOP
+from support import EXAMPLES, PROGRAM, SECONDS, TOP, folder_of
 
 
 def has(name: Any) -> bool:
@@ -25,9 +24,7 @@ def has(name: Any) -> bool:
 
 class Ensembles(unittest.TestCase):
     def setUp(self) -> None:
-        folder = tempfile.TemporaryDirectory()
-        self.addCleanup(folder.cleanup)
-        self.folder = pathlib.Path(folder.name)
+        self.folder = folder_of(self)
 
     def ensemble(self, made: Any, *words: Any, **options: Any) -> Any:
         return ensemble(made, *words, program=PROGRAM, **options)

@@ -1,15 +1,13 @@
 """The examples: what they say of the Python that they run under, and a file that is run on a server."""
 import json
 import os
-import pathlib
 import platform
 import subprocess
 import sys
-import tempfile
 import unittest
 from typing import Any, Dict, List, Tuple
 
-from support import EXAMPLES, PROGRAM, SECONDS, TOKEN, TOP, Server
+from support import EXAMPLES, PROGRAM, SECONDS, TOKEN, TOP, Server, folder_of
 
 MISSING = "raise ModuleNotFoundError(\"No module named '{0}'\", name='{0}')\n"
 NOTEBOOK = json.loads((EXAMPLES / "ljserve.ipynb").read_text())
@@ -17,9 +15,7 @@ NOTEBOOK = json.loads((EXAMPLES / "ljserve.ipynb").read_text())
 
 class WithoutModules(unittest.TestCase):
     def setUp(self) -> None:
-        folder = tempfile.TemporaryDirectory()
-        self.addCleanup(folder.cleanup)
-        self.folder = pathlib.Path(folder.name)
+        self.folder = folder_of(self)
 
     def lacks(self, name: Any, text: Any = None) -> None:
         """Has an import of a module fail, or do what this text does."""

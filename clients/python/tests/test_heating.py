@@ -3,18 +3,14 @@ import math
 import unittest
 from typing import Any, Dict
 
-from ljclient import heating, run, units
-from support import DIMER_SCALE, EXAMPLES, PROGRAM, RING, dimer, listed
+from ljclient import heating, units
+from support import DIMER_SCALE, EXAMPLES, RING, Alone, dimer, listed
 
 ARGON: Dict[str, Any] = {"edge": 21.04, "dt": 10, **units.ARGON}
 CRYSTAL = EXAMPLES / "argon_256.xyz"
 
 
-class Heating(unittest.TestCase):
-    def setUp(self) -> None:
-        self.user = run(PROGRAM)
-        self.addCleanup(self.user.close)
-
+class Heating(Alone):
     def argon(self, name: str = "argon", **words: Any) -> Any:
         return self.user.load(name, CRYSTAL, **{**ARGON, **words})
 

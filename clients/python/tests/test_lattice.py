@@ -1,23 +1,17 @@
 """The edge of the box that extended XYZ says itself, by a cubic Lattice in its comment line."""
 import io
 import pathlib
-from typing import Any, Iterator
+from typing import Any
 
 import pytest
 
-from ljclient import Scale, run, xyz
+from ljclient import Scale, xyz
 from ljclient.view import scenes
-from support import PROGRAM, listed
+from support import listed
 
 CUBE = 'Lattice="256 0 0 0 256.0 0 0 0 2.56e2"'
 ATOM = "1\n{} step=3\nAr 64 0 128\n"
 NO_CUBES = ["5 0 0 0 5 0 0 0 6", "5 0 0 1 5 0 0 0 5", "-5 0 0 0 -5 0 0 0 -5", "5 5 5", "inf 0 0 0 inf 0 0 0 inf", "a", ""]
-
-
-@pytest.fixture
-def user() -> Iterator[Any]:
-    with run(PROGRAM) as user:
-        yield user
 
 
 def load(user: Any, source: Any, **words: Any) -> Any:

@@ -9,8 +9,8 @@ import unittest
 from fractions import Fraction
 from typing import Any, Dict, List
 
-from ljclient import Measurement, Mixture, Scale, connect, mixture as mixtures, refusals, run
-from support import DIMER, DIMER_SCALE, PROGRAM, TOKEN, Server, peer, present, read_line, says
+from ljclient import Measurement, Mixture, Scale, connect, mixture as mixtures, refusals
+from support import DIMER, DIMER_SCALE, TOKEN, Alone, Server, peer, present, read_line, says
 
 try:
     import ase
@@ -180,11 +180,7 @@ class Commands(unittest.TestCase):
         self.assertEqual(heard[2:], [b"LIST\n", b"DROP m\n", words % (b"131072 1", b"pair 52"), 2 * MIX.encode()])
 
 
-class Dialogues(unittest.TestCase):
-    def setUp(self) -> None:
-        self.user = run(PROGRAM)
-        self.addCleanup(self.user.close)
-
+class Dialogues(Alone):
     def mix(self, classes: Any = STRONGER, source: Any = MIX, name: str = "m", **words: Any) -> Any:
         return self.user.load_mix(name, source, **{"edge": 256, "species": SALT, "classes": classes, **words})
 

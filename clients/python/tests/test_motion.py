@@ -9,7 +9,7 @@ from unittest import mock
 from typing import Any, Dict, List
 
 from ljclient import Measurement, connect, run, units
-from support import DIMER, EXAMPLES, PROGRAM, TOKEN, Server, present
+from support import DIMER, EXAMPLES, PROGRAM, TOKEN, Alone, Server, present
 
 try:
     import ase
@@ -43,11 +43,7 @@ class Stand:
         return self.velocities
 
 
-class Velocities(unittest.TestCase):
-    def setUp(self) -> None:
-        self.user = run(PROGRAM)
-        self.addCleanup(self.user.close)
-
+class Velocities(Alone):
     def load(self, velocities: Any, name: str = "a", positions: Any = FAR, **words: Any) -> Any:
         return self.user.load(name, Stand(positions, velocities), **{**SCALE, **words})
 

@@ -3,19 +3,17 @@
 What is expected is what the same atoms do in the order of their file.
 """
 import os
-import pathlib
 import random
 import signal
 import subprocess
 import sys
-import tempfile
 import unittest
 from unittest import mock
 from typing import Any, Dict, List, Tuple
 
-from ljclient import ConnectionLost, Order, connect, run, xyz
+from ljclient import ConnectionLost, Order, connect, xyz
 from ljclient.order import by_halves
-from support import PROGRAM, TOKEN, TOP, Server, dimer, interruptible, listed, present, process_of
+from support import TOKEN, TOP, Alone, Server, dimer, folder_of, interruptible, listed, present, process_of
 
 SCALE: Dict[str, Any] = {"edge": 8.4, "sigma": 1, "h": 131072}
 CLASSES = [(1, 131072, 256), (0.9, 150000, 300), (0.95, 140000, 200)]
@@ -75,14 +73,11 @@ class Halves(unittest.TestCase):
             order.for_user("ab")
 
 
-class Sessions(unittest.TestCase):
+class Sessions(Alone):
     def setUp(self) -> None:
-        self.user = run(PROGRAM)
-        self.addCleanup(self.user.close)
+        super().setUp()
         self.rows = liquid()
-        folder = tempfile.TemporaryDirectory()
-        self.addCleanup(folder.cleanup)
-        self.folder = pathlib.Path(folder.name)
+        self.folder = folder_of(self)
 
     def both(self) -> Tuple[Any, Any]:
         """The same atoms in the order of their list, and in that of space."""

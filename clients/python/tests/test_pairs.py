@@ -6,19 +6,15 @@ import unittest
 import warnings
 from typing import Any, Dict, Iterator, List
 
-from ljclient import Refused, refusals, run, xyz
+from ljclient import Refused, refusals, xyz
 from ljclient.overlap import closest
-from support import DIMER, DIMER_SCALE, EXAMPLES, PROGRAM, dimer, listed, present
+from support import DIMER, DIMER_SCALE, EXAMPLES, Alone, dimer, listed, present
 
 STEP = "1\nbefore\nH 0.75 0 0\n1\nnow\nH 1 0 0\n"
 CLASSES = [(1, 131072, 256), (0.8, 131072, 256), (0.5, 131072, 256)]
 
 
-class TwoFrames(unittest.TestCase):
-    def setUp(self) -> None:
-        self.user = run(PROGRAM)
-        self.addCleanup(self.user.close)
-
+class TwoFrames(Alone):
     def test_the_second_frame_is_the_present_one(self) -> None:
         # One ring unit is 2^-24 of sigma, so the atom goes on by 2^24 / 4 of them in each step.
         b = self.user.load("b", STEP, edge=256, sigma=1, h=1, pair=True)
@@ -49,11 +45,7 @@ class TwoFrames(unittest.TestCase):
         self.assertEqual(self.user.sessions(), [])
 
 
-class Close(unittest.TestCase):
-    def setUp(self) -> None:
-        self.user = run(PROGRAM)
-        self.addCleanup(self.user.close)
-
+class Close(Alone):
     def told(self, load: Any, source: Any, **words: Any) -> List[Any]:
         with warnings.catch_warnings(record=True) as caught:
             warnings.simplefilter("always")

@@ -9,7 +9,7 @@ import pathlib
 import random
 import sys
 import tempfile
-from typing import Any, Iterator, List, NamedTuple
+from typing import Any, List, NamedTuple
 from unittest import mock
 
 if __name__ == "__main__":
@@ -75,12 +75,6 @@ def figures(frames: Any, folder: Any) -> Any:
     error = numpy.sqrt(((forces - told.forces) ** 2).sum(axis=2).mean())
     largest = abs(pressures - told.pressures).max()
     return Figures(*map(float, (pressures.mean(), told.pressures.mean(), largest, force, error / force)))
-
-
-@pytest.fixture(name="user")
-def user_of_a_program() -> Iterator[Any]:
-    with run(PROGRAM) as user:
-        yield user
 
 
 @needs_lammps

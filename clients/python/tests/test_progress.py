@@ -14,7 +14,7 @@ from typing import Any, Dict, Iterator, List
 
 import pytest
 
-from ljclient import progress, run
+from ljclient import progress
 from support import PROGRAM, SECONDS, dimer, present
 from terminals import ARGON, PROMPT, Terminal, environment
 
@@ -48,12 +48,6 @@ class Seen(io.StringIO):
 
     def isatty(self) -> bool:
         return True
-
-
-@pytest.fixture
-def user() -> Iterator[Any]:
-    with run(PROGRAM) as user:
-        yield user
 
 
 @pytest.fixture

@@ -7,9 +7,9 @@ from typing import Any, Iterator
 
 import pytest
 
-from ljclient import Refused, connect, run
+from ljclient import Refused, connect
 from ljclient.prompt import completion, explaining, hinting, history, loading, own, physical, shapes
-from support import PROGRAM, TOKEN, peer, present, stays
+from support import TOKEN, peer, present, stays
 from support import says as speaks
 from terminals import ARGON, PROMPT, Terminal, environment
 
@@ -46,12 +46,6 @@ def says(terminal: Any, line: Any) -> Any:
 def dimer(terminal: Any) -> Any:
     assert says(terminal, "LOAD a dimer.xyz 256 1 131072  # two atoms") == "OK LOAD a 0 2\n"
     return terminal
-
-
-@pytest.fixture
-def user() -> Iterator[Any]:
-    with run(PROGRAM) as user:
-        yield user
 
 
 def test_several_places(dimer: Any) -> None:

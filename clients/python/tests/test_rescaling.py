@@ -2,21 +2,15 @@
 import math
 import signal
 from unittest import mock
-from typing import Any, Iterator, List, Tuple
+from typing import Any, List, Tuple
 
 import pytest
 
-from ljclient import arrays, heating, run, units
-from support import EXAMPLES, PROGRAM, RING, dimer, interruptible, listed
+from ljclient import arrays, heating, units
+from support import EXAMPLES, RING, dimer, interruptible, listed
 
 KINDS = [arrays.numpy, None] if arrays.numpy else [None]
 CRYSTAL = EXAMPLES / "argon_256.xyz"
-
-
-@pytest.fixture(name="user")
-def user_of_a_program() -> Iterator[Any]:
-    with run(PROGRAM) as user:
-        yield user
 
 
 def argon(user: Any, name: str = "argon", **words: Any) -> Any:

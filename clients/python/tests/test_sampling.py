@@ -11,8 +11,8 @@ import unittest
 from unittest import mock
 from typing import Any, Callable, Dict, List
 
-from ljclient import arrays, refusals, run, units
-from support import EXAMPLES, PROGRAM, dimer, listed, present
+from ljclient import arrays, refusals, units
+from support import EXAMPLES, Alone, dimer, folder_of, listed, present
 
 try:
     import ase.io
@@ -28,14 +28,6 @@ DT = 2**-7.5
 
 def floats(frame: Any) -> List[Any]:
     return [tuple(float(part) for part in position) for position in frame]
-
-
-class Alone(unittest.TestCase):
-    """Tests with a program of their own."""
-
-    def setUp(self) -> None:
-        self.user = run(PROGRAM)
-        self.addCleanup(self.user.close)
 
 
 class Samples(Alone):
@@ -158,9 +150,7 @@ class Thermo(Alone):
 class Trajectories(Alone):
     def setUp(self) -> None:
         super().setUp()
-        folder = tempfile.TemporaryDirectory()
-        self.addCleanup(folder.cleanup)
-        self.path = pathlib.Path(folder.name) / "way.xyz"
+        self.path = folder_of(self) / "way.xyz"
 
     def test_the_text(self) -> None:
         a = dimer(self.user)

@@ -4,22 +4,16 @@ What is expected comes from the other calls of a session that goes the same way,
 """
 import warnings
 from unittest import mock
-from typing import Any, Iterator, List
+from typing import Any, List
 
 import pytest
 
-from ljclient import Snapshot, arrays, run, units
-from support import EXAMPLES, PROGRAM, RING, dimer, listed
+from ljclient import Snapshot, arrays, units
+from support import EXAMPLES, RING, dimer, listed
 
 KINDS = [arrays.numpy, None] if arrays.numpy else [None]
 EDGE = 256
 FAST = RING // 5
-
-
-@pytest.fixture(name="user")
-def user_of_a_program() -> Iterator[Any]:
-    with run(PROGRAM) as user:
-        yield user
 
 
 def argon(user: Any, name: Any) -> Any:

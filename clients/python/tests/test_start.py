@@ -1,21 +1,17 @@
 """How `run` finds and starts a program, with programs that are none of ours."""
 import os
-import pathlib
 import stat
-import tempfile
 import unittest
 from unittest import mock
 from typing import Any
 
 from ljclient import BadReply, CannotStart, TimedOut, locate, run
-from support import PROGRAM, SECONDS, TOP, process_of
+from support import PROGRAM, SECONDS, TOP, folder_of, process_of
 
 
 class Starts(unittest.TestCase):
     def setUp(self) -> None:
-        folder = tempfile.TemporaryDirectory()
-        self.addCleanup(folder.cleanup)
-        self.folder = pathlib.Path(folder.name)
+        self.folder = folder_of(self)
 
     def program(self, text: Any, name: str = "ljserve") -> Any:
         path = self.folder / name

@@ -1,11 +1,9 @@
 """Symbols that name no element: what is written in their place, and what ASE is given."""
 import pathlib
-from typing import Any, Callable, Dict, Iterator, List
+from typing import Any, Callable, Dict, List
 
 import pytest
 
-from ljclient import run
-from support import PROGRAM
 
 try:
     import ase.io
@@ -18,12 +16,6 @@ LIKE = (1, 131072, 256)
 NOBLE = {"A": "Ar", "B": "Kr"}
 MEANT = ["Kr", "Ar", "Ar"]
 ALL_NAMED = r"symbols=\{'A': 'Ar', 'B': \.\.\}"
-
-
-@pytest.fixture
-def user() -> Iterator[Any]:
-    with run(PROGRAM) as user:
-        yield user
 
 
 @pytest.fixture

@@ -4,7 +4,7 @@ import random
 import signal
 import threading
 from concurrent.futures import ThreadPoolExecutor
-from typing import Any, Iterator, List
+from typing import Any, List
 
 import pytest
 
@@ -13,12 +13,6 @@ from support import PROGRAM, SECONDS, dimer, interruptible, listed, present
 
 ROUNDS = 30
 NAMES = "abcd"
-
-
-@pytest.fixture
-def user() -> Iterator[Any]:
-    with run(PROGRAM) as user:
-        yield user
 
 
 def in_threads(*works: Any) -> List[Any]:

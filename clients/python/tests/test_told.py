@@ -1,20 +1,13 @@
 """What is printed of a user and of a row of thermo."""
 import pickle
-from typing import Any, Iterator
+from typing import Any
 
-import pytest
 
-from ljclient import Thermo, ThermoInKelvin, connect, run
-from support import PROGRAM, TOKEN, Server, dimer
+from ljclient import Thermo, ThermoInKelvin, connect
+from support import TOKEN, Server, dimer
 
 # Of the dimer at step 0, in epsilon, as worked out in test_sampling.
 KINETIC, POTENTIAL = 589**2 / 2**34, -5349132 / 2**24
-
-
-@pytest.fixture
-def user() -> Iterator[Any]:
-    with run(PROGRAM) as user:
-        yield user
 
 
 def test_a_row_in_reduced_units_says_them(user: Any) -> None:

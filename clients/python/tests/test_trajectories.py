@@ -6,12 +6,12 @@ import os
 import pathlib
 import sys
 import warnings
-from typing import Any, Iterator, List
+from typing import Any, List
 
 import pytest
 
-from ljclient import Missing, run, units
-from support import EXAMPLES, PROGRAM, dimer
+from ljclient import Missing, units
+from support import EXAMPLES, dimer
 
 try:
     import ase.io
@@ -37,12 +37,6 @@ BINARY = ENDINGS[2:]
 DT = 2**-7.5
 WAY = [0, 589, 1774, 3555]  # of atom 0, in 2^-24; 596 more for each step
 KILOJOULE_PER_MOLE = 96.48533212
-
-
-@pytest.fixture
-def user() -> Iterator[Any]:
-    with run(PROGRAM) as user:
-        yield user
 
 
 @pytest.fixture

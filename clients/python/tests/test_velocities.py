@@ -6,7 +6,7 @@ atom 1 as far below 25165824. In a box of 256 a ring unit is 2^-24, and h = 2^17
 import pathlib
 import signal
 from unittest import mock
-from typing import Any, Iterator, List, Tuple
+from typing import Any, List, Tuple
 
 import pytest
 
@@ -17,12 +17,6 @@ KINDS = [arrays.numpy, None] if arrays.numpy else [None]
 PLACES = [0, 0, 589, 1774, 3555]  # of atom 0, from one step before step 0
 DT = 2**-7.5
 UNIT = 2**-24
-
-
-@pytest.fixture(name="user")
-def user_of_a_program() -> Iterator[Any]:
-    with run(PROGRAM) as user:
-        yield user
 
 
 def along_x(rows: Any) -> List[Any]:

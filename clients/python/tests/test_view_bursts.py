@@ -6,7 +6,7 @@ from typing import Any, Iterator
 
 import pytest
 
-from browsing import CHROMIUM, Browser
+from browsing import CHROMIUM
 from viewing import View
 
 pytestmark = pytest.mark.skipif(not CHROMIUM, reason="Chromium is not installed")
@@ -29,12 +29,6 @@ WRITTEN = """import('./charts.js').then(script => {
   canvas.remove();
   return written;
 })"""
-
-
-@pytest.fixture(scope="module")
-def browser() -> Iterator[Any]:
-    with Browser() as one:
-        yield one
 
 
 @pytest.fixture

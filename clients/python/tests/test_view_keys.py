@@ -4,7 +4,7 @@ from typing import Any, Dict, Iterator
 
 import pytest
 
-from browsing import CHROMIUM, Browser
+from browsing import CHROMIUM
 from viewing import View
 
 pytestmark = pytest.mark.skipif(not CHROMIUM, reason="Chromium is not installed")
@@ -49,12 +49,6 @@ class Keyboard:
     def pressed(self) -> Any:
         """The buttons that were pressed since this was asked last."""
         return self.browser.value("pressed.splice(0)")
-
-
-@pytest.fixture(scope="module")
-def browser() -> Iterator[Any]:
-    with Browser() as one:
-        yield one
 
 
 @pytest.fixture

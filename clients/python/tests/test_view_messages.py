@@ -6,7 +6,7 @@ from typing import Any, Iterator
 
 import pytest
 
-from browsing import CHROMIUM, Browser
+from browsing import CHROMIUM
 from support import PROGRAM, children_of
 from viewing import View
 
@@ -88,12 +88,6 @@ class Shown:
     def picture(self, name: Any) -> None:
         if PICTURES:
             (pathlib.Path(PICTURES) / f"{name}.png").write_bytes(self.browser.picture())
-
-
-@pytest.fixture(scope="module")
-def browser() -> Iterator[Any]:
-    with Browser() as one:
-        yield one
 
 
 @pytest.fixture

@@ -5,7 +5,7 @@ from typing import Any, Iterator, Tuple
 
 import pytest
 
-from browsing import CHROMIUM, Browser
+from browsing import CHROMIUM
 from viewing import View
 
 pytestmark = pytest.mark.skipif(not CHROMIUM, reason="Chromium is not installed")
@@ -15,12 +15,6 @@ PICTURES = os.environ.get("LJVIEW_PICTURES")  # a folder to put what the page lo
 ATOMS = "3\n\nAr 0 0 0\nAr 1.5 0 0\nAr 10 10 0\n"
 WIDTHS = [320, 360, 390, 400, 600, 821, 850, 880, 1280]
 FRAME_IS_DRAWN = "new Promise(done => requestAnimationFrame(() => requestAnimationFrame(done))).then(() => true)"
-
-
-@pytest.fixture(scope="module")
-def browser() -> Iterator[Any]:
-    with Browser() as one:
-        yield one
 
 
 @pytest.fixture
