@@ -3,6 +3,7 @@
 //! command, sessions computed at once, and boxes that are used again.
 
 mod ahead;
+mod barrier;
 mod closing;
 mod departed_ends;
 mod filled;
@@ -73,6 +74,13 @@ fn posting_end<S: TestPool<R>, R: Host>(rt: &R, test_pool: &S, user: u8, tasks: 
     let mut end = test_pool.end(rt, user);
     post_some(rt, &mut end, user, tasks);
     end
+}
+
+/// Lets ends leave.
+fn leave_all<S: TestPool<R>, R: Host>(rt: &R, test_pool: &S, ends: Vec<S::TestEnd>) {
+    for end in ends {
+        test_pool.leave(rt, end);
+    }
 }
 
 /// Sleeps so long that others come to wait.

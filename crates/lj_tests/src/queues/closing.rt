@@ -100,7 +100,7 @@ fn drop_in_hand<S: TestPool<R>, R: Host>(rt: &R, test_pool: &S) -> bool {
 
 /// Closes the pool while ends have results in hand. Returns whether these do not come any more.
 pub fn close_in_hand<S: TestPool<R> + Sync, R: Host + Sync>(rt: &R, test_pool: &S) -> bool {
-    beside_worker(rt, test_pool, move || drop_in_hand(rt, test_pool))
+    beside_worker(rt, test_pool, &(), move || drop_in_hand(rt, test_pool))
 }
 
 #[test]

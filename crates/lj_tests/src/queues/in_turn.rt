@@ -1,10 +1,11 @@
 //! The order in which tasks are taken, over both pools: round robin by their keys, and not from the least one on each time.
 
+use super::barrier::Barrier;
 use super::over_lock::over_lock;
 use super::over_queue::over_queue;
+use super::post_one;
 use super::scenario::{Scenario, Seen};
-use super::test_pool::{Host, TestPool};
-use super::{post_one, wait_for};
+use super::test_pool::{Host, TestPool, beside_worker};
 use crate::sample_task::task;
 use lj_pool::{Gate, Pool};
 use lj_tile::TaskName;
@@ -13,7 +14,6 @@ use std::rt::Clock;
 use std::sync::Wait;
 use std::sync::atomic::{AtomicU64, Ordering};
 use std::test::Fail;
-use std::thread;
 
 const USER: u8 = 7;
 
@@ -23,12 +23,9 @@ const HELD: i64 = 2;
 /// A gate that notes which tasks pass, and holds one of them.
 #[derive(Drop)]
 struct Noting<'a, R> {
-    rt: &'a R,
     /// Their steps, each a digit.
     order: AtomicU64,
-    /// How often the held task came, and how often it was let go.
-    held: AtomicU64,
-    let_go: AtomicU64,
+    held: Barrier<'a, R>,
 }
 
 impl<R: Clock + Wait> Gate for Noting<'_, R> {
@@ -38,8 +35,7 @@ impl<R: Clock + Wait> Gate for Noting<'_, R> {
         let order = before.saturating_mul(10).saturating_add(digit);
         self.order.store(order, Ordering::SeqCst);
         if name.step == HELD {
-            self.held.fetch_add(1, Ordering::SeqCst);
-            wait_for(self.rt, &self.let_go);
+            self.held.hold();
         }
     }
 }
@@ -62,19 +58,13 @@ fn fetch_some<P: Pool>(end: &mut P, results: u8) -> bool {
 }
 
 /// Fetches the first result while the second task is held, so that its key is vacant, and posts a fourth task under it. Then
-/// fetches the others, and closes the pool. Returns whether all came.
-fn post_fourth<S: TestPool<R>, P: Pool, R: Host>(
-    rt: &R,
-    test_pool: &S,
-    gate: &Noting<'_, R>,
-    end: &mut P,
-) -> bool {
-    let is_held = wait_for(rt, &gate.held);
+/// fetches the others. Returns whether all came.
+fn post_fourth<P: Pool, R: Clock + Abort>(rt: &R, held: &Barrier<'_, R>, end: &mut P) -> bool {
+    let is_held = held.has_come();
     let first_came = fetch_some(end, 1);
     post_one(rt, end, task(rt, USER, 4));
-    gate.let_go.fetch_add(1, Ordering::SeqCst);
+    held.set_open(true);
     let others_came = fetch_some(end, 3);
-    test_pool.close(rt);
     is_held && first_came && others_came
 }
 
@@ -87,22 +77,16 @@ fn post_three<P: Pool, R: Abort>(rt: &R, end: &mut P) {
     }
 }
 
-/// Posts three tasks by an end, and then lets a worker come.
+/// Posts three tasks by an end, and then lets a worker come until the pool is closed.
 pub fn take_in_turn<S: TestPool<R> + Sync, R: Host + Sync>(rt: &R, test_pool: &S) -> Taken {
     let mut end = test_pool.end(rt, USER);
     post_three(rt, &mut end);
     let gate = Noting {
-        rt,
         order: AtomicU64::new(0),
-        held: AtomicU64::new(0),
-        let_go: AtomicU64::new(0),
+        held: Barrier::new(rt),
     };
-    let keeper = &gate;
-    let (_, all_came) = thread::join(
-        rt,
-        move || test_pool.work(rt, keeper),
-        || post_fourth(rt, test_pool, keeper, &mut end),
-    );
+    let held = &gate.held;
+    let all_came = beside_worker(rt, test_pool, &gate, || post_fourth(rt, held, &mut end));
     test_pool.leave(rt, end);
     Taken {
         all_came,

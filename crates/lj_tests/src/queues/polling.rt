@@ -72,7 +72,7 @@ fn poll_beside<S: TestPool<R> + Sync, P: Pool, R: Host + Sync>(
     test_pool: &S,
     end: &mut P,
 ) -> bool {
-    beside_worker(rt, test_pool, || poll_for_both(rt, end))
+    beside_worker(rt, test_pool, &(), || poll_for_both(rt, end))
 }
 
 /// Polls over a closed pool. Returns whether nothing came, the third task is still owed, and the end has not noted the close.

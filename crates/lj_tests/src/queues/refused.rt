@@ -1,19 +1,16 @@
 //! Posts that are refused, over both pools: however many they are, the pool has as much room afterwards.
 
+use super::barrier::Barrier;
+use super::leave_all;
 use super::over_lock::{OverLock, over_lock};
 use super::over_queue::{OverQueue, over_queue};
 use super::room::{Answer, ENDS, LAST, fill, post_last};
 use super::scenario::{Scenario, Seen};
 use super::test_pool::{Host, TestPool};
-use super::wait_for;
 use crate::sample_task::task;
-use lj_pool::{Gate, Pool};
-use lj_tile::TaskName;
+use lj_pool::Pool;
 use std::alloc::AllocError;
 use std::process::Abort;
-use std::rt::Clock;
-use std::sync::Wait;
-use std::sync::atomic::{AtomicU64, Ordering};
 use std::test::Fail;
 use std::thread;
 
@@ -22,23 +19,6 @@ const REFUSED: u64 = 1100;
 
 /// The number of tasks that each end posts.
 const TASKS: u64 = 64;
-
-/// A gate that holds each task until it is open.
-#[derive(Drop)]
-struct Barrier<'a, R> {
-    rt: &'a R,
-    /// The number of tasks that came to it.
-    came: AtomicU64,
-    /// 1 where it is open, else 0.
-    open: AtomicU64,
-}
-
-impl<R: Clock + Wait> Gate for Barrier<'_, R> {
-    fn between(&self, _name: &TaskName) {
-        self.came.fetch_add(1, Ordering::SeqCst);
-        wait_for(self.rt, &self.open);
-    }
-}
 
 /// What came of the posts.
 #[derive(Clone, Copy, PartialEq, Eq, Debug)]
@@ -117,14 +97,14 @@ fn go_on<S: TestPool<R>, P: Pool, R: Host>(
     ends: &mut Vec<P>,
     last: &mut P,
 ) -> RefusalCounts {
-    wait_for(rt, &barrier.came);
+    barrier.has_come();
     let beside_taken = post_last(rt, last, false);
-    barrier.open.store(1, Ordering::SeqCst);
+    barrier.set_open(true);
     let fetched = fetch_all(ends).saturating_add(fetch_owed(last, LAST));
-    barrier.open.store(0, Ordering::SeqCst);
+    barrier.set_open(false);
     let posted = post_all(rt, ends);
     test_pool.close(rt);
-    barrier.open.store(1, Ordering::SeqCst);
+    barrier.set_open(true);
     RefusalCounts {
         refused: 0,
         beside_taken,
@@ -144,11 +124,7 @@ pub fn refuse_many<S: TestPool<R> + Sync, R: Host + Sync>(
     let mut ends = fill(rt, test_pool)?;
     let mut last = test_pool.end(rt, LAST);
     let refused = post_in_vain(rt, &mut last);
-    let barrier = Barrier {
-        rt,
-        came: AtomicU64::new(0),
-        open: AtomicU64::new(0),
-    };
+    let barrier = Barrier::new(rt);
     let keeper = &barrier;
     let (_, told) = thread::join(
         rt,
@@ -156,9 +132,7 @@ pub fn refuse_many<S: TestPool<R> + Sync, R: Host + Sync>(
         || go_on(rt, test_pool, keeper, &mut ends, &mut last),
     );
     test_pool.leave(rt, last);
-    for end in ends {
-        test_pool.leave(rt, end);
-    }
+    leave_all(rt, test_pool, ends);
     Ok(RefusalCounts { refused, ..told })
 }
 

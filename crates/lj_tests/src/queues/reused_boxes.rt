@@ -78,7 +78,7 @@ impl Fate {
 
     /// Lets ends come one after another beside a worker, and then closes the pool. Returns whether each was right.
     pub fn run<S: TestPool<R> + Sync, R: Host + Sync>(self, rt: &R, test_pool: &S) -> bool {
-        beside_worker(rt, test_pool, move || self.befall_all(rt, test_pool))
+        beside_worker(rt, test_pool, &(), move || self.befall_all(rt, test_pool))
     }
 }
 

@@ -5,7 +5,7 @@ use super::over_lock::{OverLock, over_lock};
 use super::over_queue::{OverQueue, over_queue};
 use super::scenario::{Scenario, Seen};
 use super::test_pool::{Host, TestPool};
-use super::{posting_end, put_back, sleep_a_while};
+use super::{leave_all, posting_end, put_back, sleep_a_while};
 use crate::sample_task::task;
 use lj_book::Counts;
 use lj_pool::{Pool, Refused};
@@ -150,9 +150,7 @@ impl FullPool {
         let at_once = post_last(rt, &mut last, false);
         let (waited, fetched) = self.wait(rt, test_pool, &mut last);
         test_pool.leave(rt, last);
-        for end in ends {
-            test_pool.leave(rt, end);
-        }
+        leave_all(rt, test_pool, ends);
         Ok((at_once, waited, fetched))
     }
 }

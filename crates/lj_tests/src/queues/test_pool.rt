@@ -49,16 +49,17 @@ pub trait TestPool<R: Host> {
 }
 
 /// Calls a function beside a worker, and then closes the pool.
-pub fn beside_worker<S: TestPool<R> + Sync, A, F: FnOnce() -> A, R: Host + Sync>(
+pub fn beside_worker<S: TestPool<R> + Sync, G: Gate + Sync, A, F: FnOnce() -> A, R: Host + Sync>(
     rt: &R,
     test_pool: &S,
+    gate: &G,
     part: F,
 ) -> A
     requires { F.IsAlwaysCallable part }
 {
     let (_, seen) = thread::join(
         rt,
-        move || test_pool.work(rt, &()),
+        move || test_pool.work(rt, gate),
         move || {
             let seen = part();
             test_pool.close(rt);

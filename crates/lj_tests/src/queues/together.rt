@@ -1,6 +1,7 @@
 //! Four tasks posted together, over both pools: only the first ones are posted where there is no room for all of them, and none
 //! where there is no room or the pool is closed.
 
+use super::leave_all;
 use super::over_lock::{OverLock, over_lock};
 use super::over_queue::{OverQueue, over_queue};
 use super::room::{LAST, fill_from};
@@ -48,9 +49,7 @@ pub fn post_together<S: TestPool<R>, R: Host>(
     test_pool.close(rt);
     let of_closed = post_four(rt, &mut last);
     test_pool.leave(rt, last);
-    for end in ends {
-        test_pool.leave(rt, end);
-    }
+    leave_all(rt, test_pool, ends);
     Ok([some, none, of_closed])
 }
 

@@ -94,7 +94,7 @@ fn leave_with_end<S: TestPool<R>, R: Host>(rt: &R, test_pool: &S) -> Left {
 
 /// Withdraws a user beside a worker, and then closes the pool.
 pub fn withdraw_with_end<S: TestPool<R> + Sync, R: Host + Sync>(rt: &R, test_pool: &S) -> Left {
-    beside_worker(rt, test_pool, move || leave_with_end(rt, test_pool))
+    beside_worker(rt, test_pool, &(), move || leave_with_end(rt, test_pool))
 }
 
 /// All results are kept except that of the task that another user's end posted. Those in hand come, and the two that the pool had
@@ -152,7 +152,7 @@ pub fn withdraw_without_end<S: TestPool<R> + Sync, R: Host + Sync>(
     rt: &R,
     test_pool: &S,
 ) -> LeftAndCounts {
-    beside_worker(rt, test_pool, move || leave_without_end(rt, test_pool))
+    beside_worker(rt, test_pool, &(), move || leave_without_end(rt, test_pool))
 }
 
 /// An entry stays until it is fetched or withdrawn, also that of an end that is gone. With the first result those that are then
