@@ -23,9 +23,12 @@ mod together;
 mod withdrawn;
 
 use crate::sample_task::task;
-use lj_pool::Pool;
+use lj_pool::{Pool, serve};
+use lj_quota::Quota;
+use lj_session::UserState;
 use lj_tile::Task;
-use std::io::Write;
+use lj_wire::{Reading, Writing};
+use std::io::{Read, Write};
 use std::process::Abort;
 use std::rt::Clock;
 use std::sync::atomic::{AtomicU64, Ordering};
@@ -81,6 +84,24 @@ fn leave_all<S: TestPool<R>, R: Host>(rt: &R, test_pool: &S, ends: Vec<S::TestEn
     for end in ends {
         test_pool.leave(rt, end);
     }
+}
+
+/// Serves the input of a user with the usual quota, and returns the output.
+fn serve_user<S: TestPool<R>, I: Read + Drop, W: Write + Drop, R: Host>(
+    rt: &R,
+    test_pool: &S,
+    user: u8,
+    input: I,
+    output: W,
+) -> W {
+    let mut end = test_pool.end(rt, user);
+    let mut writer = Writing::new(output);
+    let state = UserState::new(rt.alloc(), Quota::USUAL);
+    let reader = Reading::new(input);
+    let (state, _, _) = serve(rt.alloc(), state, user, reader, &mut writer, &mut end);
+    drop(state);
+    test_pool.leave(rt, end);
+    writer.into_inner()
 }
 
 /// Sleeps so long that others come to wait.

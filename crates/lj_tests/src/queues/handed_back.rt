@@ -4,15 +4,12 @@ use super::over_lock::{OverLock, over_lock};
 use super::over_queue::{OverQueue, over_queue};
 use super::scenario::{Scenario, Seen};
 use super::test_pool::{Host, TestPool, work_both};
-use super::{Counted, wait_for};
+use super::{Counted, serve_user, wait_for};
 use arrayvec::ArrayVec;
 use lj_book::Counts;
-use lj_pool::{Gate, serve};
+use lj_pool::Gate;
 use lj_queue::Settled;
-use lj_quota::Quota;
-use lj_session::UserState;
 use lj_tile::{Kind, TaskName};
-use lj_wire::{Reading, Writing};
 use std::rt::Clock;
 use std::sync::atomic::{AtomicU64, Ordering};
 use std::sync::{Mutex, Wait};
@@ -84,7 +81,7 @@ const ADVANCES: &str = "LOAD a 256 1 131072 rest 28\n2\ndimer\nAr 0 0 0\nAr 1.5 
 const MEASURES: &str = "LOAD a 256 1 131072 rest 28\n2\ndimer\nAr 0 0 0\nAr 1.5 0 0\nMEASURE a\n";
 
 /// Serves the commands of this user.
-fn serve_user<S: TestPool<R>, R: Host>(
+fn serve_one<S: TestPool<R>, R: Host>(
     rt: &R,
     test_pool: &S,
     user: u8,
@@ -95,18 +92,12 @@ fn serve_user<S: TestPool<R>, R: Host>(
     } else {
         (MEASURES, b"OK MEASURE".as_slice(), &gate.measured)
     };
-    let mut end = test_pool.end(rt, user);
-    let mut writer = Writing::new(Counted {
+    let counted = Counted {
         output: HandBackOutput::new(),
         begins,
         count,
-    });
-    let reader = Reading::new(input.as_bytes());
-    let state = UserState::new(rt.alloc(), Quota::USUAL);
-    let (state, _, _) = serve(rt.alloc(), state, user, reader, &mut writer, &mut end);
-    drop(state);
-    test_pool.leave(rt, end);
-    writer.into_inner().output
+    };
+    serve_user(rt, test_pool, user, input.as_bytes(), counted).output
 }
 
 /// Serves both users at once, and then closes the pool.
@@ -117,8 +108,8 @@ fn serve_both<S: TestPool<R> + Sync, R: Host + Sync>(
 ) -> (HandBackOutput, HandBackOutput) {
     let told = thread::join(
         rt,
-        move || serve_user(rt, test_pool, HELD, gate),
-        move || serve_user(rt, test_pool, 1, gate),
+        move || serve_one(rt, test_pool, HELD, gate),
+        move || serve_one(rt, test_pool, 1, gate),
     );
     test_pool.close(rt);
     told

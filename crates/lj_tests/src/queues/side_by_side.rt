@@ -5,14 +5,10 @@ use super::over_lock::over_lock;
 use super::over_queue::over_queue;
 use super::scenario::{Scenario, Seen};
 use super::test_pool::{Host, TestPool, work_both};
-use super::wait_for;
+use super::{serve_user, wait_for};
 use arrayvec::ArrayVec;
-use lj_pool::{Gate, serve};
-use lj_quota::Quota;
-use lj_session::UserState;
+use lj_pool::Gate;
 use lj_tile::TaskName;
-use lj_wire::{Reading, Writing};
-use std::alloc::AllocGlobal;
 use std::io::{self, Read};
 use std::rt::Clock;
 use std::sync::Wait;
@@ -103,19 +99,14 @@ fn serve_starts<S: TestPool<R>, R: Host>(
     test_pool: &S,
     gate: &HoldFirst<'_, R>,
 ) -> SessionsOutput {
-    let mut end = test_pool.end(rt, USER);
-    let mut writer = Writing::new(SessionsOutput::new());
-    let reader = Reading::new(TwoPartInput {
+    let input = TwoPartInput {
         gate,
         first: STARTS.as_bytes(),
         then: SHOW.as_bytes(),
-    });
-    let state = UserState::new(rt.alloc(), Quota::USUAL);
-    let (state, _, _) = serve(rt.alloc(), state, USER, reader, &mut writer, &mut end);
-    drop(state);
-    test_pool.leave(rt, end);
+    };
+    let output = serve_user(rt, test_pool, USER, input, SessionsOutput::new());
     test_pool.close(rt);
-    writer.into_inner()
+    output
 }
 
 /// Serves a user beside two workers. Returns whether all was right.
