@@ -24,14 +24,19 @@ mod withdrawn;
 
 use crate::sample_task::task;
 use lj_pool::{Pool, serve};
+use lj_queue::Settled;
 use lj_quota::Quota;
 use lj_session::UserState;
 use lj_tile::Task;
 use lj_wire::{Reading, Writing};
+use over_lock::over_lock;
+use over_queue::over_queue;
+use scenario::{Scenario, Seen};
 use std::io::{Read, Write};
 use std::process::Abort;
 use std::rt::Clock;
 use std::sync::atomic::{AtomicU64, Ordering};
+use std::test::Fail;
 use std::time::Duration;
 use std::{io, thread};
 use test_pool::{Host, TestPool};
@@ -44,6 +49,44 @@ const TURNS: u64 = 3_000_000;
 
 /// The microseconds that it waits after each check, so that other threads get on.
 const TURN_MICROS: u64 = 20;
+
+/// Asserts what is seen of a scenario over a pool behind a lock and over one with a queue, and how many tasks are posted to each.
+///
+/// # Errors
+/// Out of memory.
+fn check_both<R: Host + Sync>(
+    rt: &R,
+    workers: u8,
+    scenario: Scenario,
+    expected: (Seen, u64),
+) -> Result<(), Fail> {
+    let (seen, _, counts) = over_lock(rt, workers, scenario)?;
+    assert_eq!(rt; (seen, counts.posted), expected);
+    let (seen, _, settled) = over_queue(rt, workers, scenario)?;
+    assert_eq!(rt;
+        (seen, settled.pushed),
+        (expected.0, u128::from(expected.1))
+    );
+    Ok(())
+}
+
+/// Returns what this many tasks settle that were pushed, all of which were popped.
+fn all_popped(pushed: u64) -> Settled {
+    Settled {
+        pushed: u128::from(pushed),
+        popped: u128::from(pushed),
+        left: 0,
+    }
+}
+
+/// Returns what this many tasks settle that were pushed, none of which was popped.
+fn all_left(pushed: u64) -> Settled {
+    Settled {
+        pushed: u128::from(pushed),
+        popped: 0,
+        left: pushed,
+    }
+}
 
 /// Takes the next pass or share of those that a pool was made with.
 fn next<T>(rt: &impl Abort, items: &mut Vec<T>) -> T {

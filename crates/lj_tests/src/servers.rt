@@ -65,7 +65,7 @@ impl ClientScenario {
         }
     }
 
-    /// Plays the scene, and returns all replies to the clients.
+    /// Runs the scenario, and returns all replies to the clients.
     fn run<R: ServerHost>(self, rt: &R, address: SocketAddr) -> io::Result<String> {
         let mut told = String::new(rt.alloc());
         match self {

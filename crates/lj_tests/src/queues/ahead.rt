@@ -134,13 +134,9 @@ fn fifteen_tasks_are_under_way_while_a_command_is_read(rt: HostRuntime) -> Resul
         served: Served::PoolClosed,
         is_handed_back: false,
     };
-    assert_eq!(rt;
-        over_queue(&rt, 0, Scenario::Ahead(FIFTEEN))?.seen,
-        Seen::Ahead(few)
-    );
-    assert_eq!(rt;
-        over_queue(&rt, 0, Scenario::Ahead(SIXTEEN))?.seen,
-        Seen::Ahead(many)
-    );
+    for (case, outcome) in [(FIFTEEN, few), (SIXTEEN, many)] {
+        let (seen, _, _) = over_queue(&rt, 0, Scenario::Ahead(case))?;
+        assert_eq!(rt; seen, Seen::Ahead(outcome));
+    }
     Ok(())
 }

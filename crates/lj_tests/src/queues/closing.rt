@@ -1,14 +1,13 @@
 //! A pool that is closed while an end waits for a result, or has fetched one of two, or before one posts.
 
-use super::over_lock::{OverLock, over_lock};
-use super::over_queue::{OverQueue, over_queue};
+use super::over_lock::over_lock;
+use super::over_queue::over_queue;
 use super::room::{self, Answer, post_last};
 use super::scenario::{Scenario, Seen};
 use super::test_pool::{Host, TestPool, beside_worker};
-use super::{close_late, posting_end};
+use super::{all_left, check_both, close_late, posting_end};
 use crate::sample_task::task;
 use lj_pool::Pool;
-use lj_queue::Settled;
 use std::process::Abort;
 use std::test::Fail;
 use std::thread;
@@ -53,22 +52,17 @@ pub fn end_in_vain<S: TestPool<R> + Sync, R: Host + Sync>(rt: &R, test_pool: &S)
 
 #[test]
 fn who_waits_for_a_result_is_told_of_a_closed_pool(rt: HostRuntime) -> Result<(), Fail> {
-    let OverQueue { seen, settled, .. } = over_queue(&rt, 0, Scenario::InVain)?;
-    let expected = Settled {
-        pushed: 1,
-        popped: 0,
-        left: 1,
-    };
-    assert_eq!(rt; (seen, settled), (Seen::Right(true), expected));
+    assert_eq!(rt;
+        over_queue(&rt, 0, Scenario::InVain)?,
+        (Seen::Right(true), 0, all_left(1))
+    );
     Ok(())
 }
 
 #[test]
 fn who_waits_for_a_result_is_told_of_a_closed_book(rt: HostRuntime) -> Result<(), Fail> {
-    assert_eq!(rt;
-        over_lock(&rt, 1, Scenario::InVain)?.seen,
-        Seen::Right(true)
-    );
+    let (seen, _, _) = over_lock(&rt, 1, Scenario::InVain)?;
+    assert_eq!(rt; seen, Seen::Right(true));
     Ok(())
 }
 
@@ -105,7 +99,7 @@ pub fn close_in_hand<S: TestPool<R> + Sync, R: Host + Sync>(rt: &R, test_pool: &
 
 #[test]
 fn results_in_hand_do_not_outlive_the_pool(rt: HostRuntime) -> Result<(), Fail> {
-    let OverQueue { seen, given, .. } = over_queue(&rt, 1, Scenario::InHand)?;
+    let (seen, given, _) = over_queue(&rt, 1, Scenario::InHand)?;
     assert_eq!(rt; (seen, given), (Seen::Right(true), 5));
     Ok(())
 }
@@ -113,7 +107,7 @@ fn results_in_hand_do_not_outlive_the_pool(rt: HostRuntime) -> Result<(), Fail> 
 /// The result that came before the close is still the last one of each end.
 #[test]
 fn no_result_outlives_a_pool_behind_a_lock(rt: HostRuntime) -> Result<(), Fail> {
-    let OverLock { seen, given, .. } = over_lock(&rt, 1, Scenario::InHand)?;
+    let (seen, given, _) = over_lock(&rt, 1, Scenario::InHand)?;
     assert_eq!(rt; (seen, given), (Seen::Right(true), 5));
     Ok(())
 }
@@ -135,21 +129,7 @@ pub fn post_after_close<S: TestPool<R>, R: Host>(rt: &R, test_pool: &S) -> [Answ
 }
 
 #[test]
-fn nothing_is_posted_to_a_closed_pool_behind_a_lock(rt: HostRuntime) -> Result<(), Fail> {
-    let OverLock { seen, counts, .. } = over_lock(&rt, 1, Scenario::AfterClose)?;
-    assert_eq!(rt;
-        (seen, counts.posted),
-        (Seen::Answers([Answer::Closed; 4]), 0)
-    );
-    Ok(())
-}
-
-#[test]
-fn nothing_is_posted_to_a_closed_pool_with_a_queue(rt: HostRuntime) -> Result<(), Fail> {
-    let OverQueue { seen, settled, .. } = over_queue(&rt, 1, Scenario::AfterClose)?;
-    assert_eq!(rt;
-        (seen, settled.pushed),
-        (Seen::Answers([Answer::Closed; 4]), 0)
-    );
-    Ok(())
+fn nothing_is_posted_to_a_closed_pool(rt: HostRuntime) -> Result<(), Fail> {
+    let told = Seen::Answers([Answer::Closed; 4]);
+    check_both(&rt, 1, Scenario::AfterClose, (told, 0))
 }

@@ -1,11 +1,10 @@
 //! Ends that are gone: results of their tasks are dropped, and their passes go on.
 
-use super::over_queue::{OverQueue, over_queue};
-use super::posting_end;
+use super::over_queue::over_queue;
 use super::scenario::{Scenario, Seen};
 use super::test_pool::{Host, TestPool};
+use super::{all_popped, posting_end};
 use lj_pool::Gate;
-use lj_queue::Settled;
 use lj_tile::TaskName;
 use std::sync::atomic::{AtomicUsize, Ordering};
 use std::test::Fail;
@@ -55,17 +54,10 @@ pub fn compute_nine<S: TestPool<R>, R: Host>(rt: &R, test_pool: &S) -> CreditAnd
 /// Of nine results the two are kept that are for an end that is not gone.
 #[test]
 fn results_for_ends_that_are_gone_are_dropped(rt: HostRuntime) -> Result<(), Fail> {
-    let OverQueue {
-        seen,
-        given,
-        settled,
-    } = over_queue(&rt, 1, Scenario::Nine)?;
     let kept = (2, [Some(64), Some(63), Some(62), Some(61)]);
-    let all_popped = Settled {
-        pushed: 9,
-        popped: 9,
-        left: 0,
-    };
-    assert_eq!(rt; (seen, given, settled), (Seen::Nine(kept), 2, all_popped));
+    assert_eq!(rt;
+        over_queue(&rt, 1, Scenario::Nine)?,
+        (Seen::Nine(kept), 2, all_popped(9))
+    );
     Ok(())
 }

@@ -1,10 +1,8 @@
 //! Ends that are full: they take as many tasks as may be owed, each at once, over all pools.
 
-use super::over_lock::over_lock;
-use super::over_queue::over_queue;
-use super::post_some;
 use super::scenario::{Scenario, Seen};
 use super::test_pool::{Host, TestPool};
+use super::{check_both, post_some};
 use lj_pool::{InlinePool, Pool};
 use lj_table::Table;
 use std::process::Abort;
@@ -54,21 +52,8 @@ const SIXTY_FOUR: [Given; 2] = [
 ];
 
 #[test]
-fn an_end_of_a_pool_behind_a_lock_takes_sixty_four_tasks(rt: HostRuntime) -> Result<(), Fail> {
-    assert_eq!(rt;
-        over_lock(&rt, 1, Scenario::Filling)?.seen,
-        Seen::Filled(SIXTY_FOUR)
-    );
-    Ok(())
-}
-
-#[test]
-fn an_end_of_a_pool_with_a_queue_takes_sixty_four_tasks(rt: HostRuntime) -> Result<(), Fail> {
-    assert_eq!(rt;
-        over_queue(&rt, 1, Scenario::Filling)?.seen,
-        Seen::Filled(SIXTY_FOUR)
-    );
-    Ok(())
+fn an_end_takes_sixty_four_tasks(rt: HostRuntime) -> Result<(), Fail> {
+    check_both(&rt, 1, Scenario::Filling, (Seen::Filled(SIXTY_FOUR), 64))
 }
 
 #[test]

@@ -1,14 +1,13 @@
 //! A gate that sends each task back once: two users get the same replies over either pool.
 
-use super::over_lock::{OverLock, over_lock};
-use super::over_queue::{OverQueue, over_queue};
+use super::over_lock::over_lock;
+use super::over_queue::over_queue;
 use super::scenario::{Scenario, Seen};
 use super::test_pool::{Host, TestPool, work_both};
-use super::{Counted, serve_user, wait_for};
+use super::{Counted, all_popped, serve_user, wait_for};
 use arrayvec::ArrayVec;
 use lj_book::Counts;
 use lj_pool::Gate;
-use lj_queue::Settled;
 use lj_tile::{Kind, TaskName};
 use std::rt::Clock;
 use std::sync::atomic::{AtomicU64, Ordering};
@@ -153,7 +152,7 @@ fn is_right(told: &HandBackOutcome) -> bool {
 
 #[test]
 fn tasks_are_sent_back_over_a_pool_behind_a_lock(rt: HostRuntime) -> Result<(), Fail> {
-    let OverLock { seen, counts, .. } = over_lock(&rt, 2, Scenario::HandedBack)?;
+    let (seen, _, counts) = over_lock(&rt, 2, Scenario::HandedBack)?;
     let all_fetched = Counts {
         posted: 2,
         given: 2,
@@ -165,14 +164,12 @@ fn tasks_are_sent_back_over_a_pool_behind_a_lock(rt: HostRuntime) -> Result<(), 
     Ok(())
 }
 
+/// Both tasks are pushed again.
 #[test]
 fn tasks_are_sent_back_over_a_pool_with_a_queue(rt: HostRuntime) -> Result<(), Fail> {
-    let OverQueue { seen, settled, .. } = over_queue(&rt, 2, Scenario::HandedBack)?;
-    let two_pushed_again = Settled {
-        pushed: 4,
-        popped: 4,
-        left: 0,
-    };
-    assert_eq!(rt; (seen, settled), (Seen::Right(true), two_pushed_again));
+    assert_eq!(rt;
+        over_queue(&rt, 2, Scenario::HandedBack)?,
+        (Seen::Right(true), 2, all_popped(4))
+    );
     Ok(())
 }

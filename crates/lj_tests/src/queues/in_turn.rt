@@ -1,11 +1,9 @@
 //! The order in which tasks are taken, over both pools: round robin by their keys, and not from the least one on each time.
 
 use super::barrier::Barrier;
-use super::over_lock::over_lock;
-use super::over_queue::over_queue;
-use super::post_one;
 use super::scenario::{Scenario, Seen};
 use super::test_pool::{Host, TestPool, beside_worker};
+use super::{check_both, post_one};
 use crate::sample_task::task;
 use lj_pool::{Gate, Pool};
 use lj_tile::TaskName;
@@ -99,21 +97,8 @@ const EXPECTED: Taken = Taken {
     order: 1234,
 };
 
-/// The fourth task is then under the least key, before the third one.
+/// The fourth task is under the least key of a book then, before the third one.
 #[test]
-fn tasks_of_a_book_are_taken_in_turn_of_their_keys(rt: HostRuntime) -> Result<(), Fail> {
-    assert_eq!(rt;
-        over_lock(&rt, 1, Scenario::InTurn)?.seen,
-        Seen::Taken(EXPECTED)
-    );
-    Ok(())
-}
-
-#[test]
-fn tasks_of_a_queue_are_taken_in_the_order_of_their_posts(rt: HostRuntime) -> Result<(), Fail> {
-    assert_eq!(rt;
-        over_queue(&rt, 1, Scenario::InTurn)?.seen,
-        Seen::Taken(EXPECTED)
-    );
-    Ok(())
+fn tasks_are_taken_in_turn(rt: HostRuntime) -> Result<(), Fail> {
+    check_both(&rt, 1, Scenario::InTurn, (Seen::Taken(EXPECTED), 4))
 }

@@ -1,10 +1,8 @@
 //! Fetches and polls that find nothing over an open pool of either kind: the end does not take that for a close.
 
-use super::over_lock::over_lock;
-use super::over_queue::over_queue;
 use super::scenario::{Scenario, Seen};
 use super::test_pool::{Host, TestPool};
-use super::{post_one, sleep_a_while};
+use super::{check_both, post_one, sleep_a_while};
 use crate::sample_task::task;
 use lj_pool::Pool;
 use std::process::Abort;
@@ -63,23 +61,6 @@ pub fn find_nothing<S: TestPool<R> + Sync, R: Host + Sync>(rt: &R, test_pool: &S
 }
 
 #[test]
-fn who_finds_nothing_over_a_pool_behind_a_lock_is_told_of_no_close(
-    rt: HostRuntime,
-) -> Result<(), Fail> {
-    assert_eq!(rt;
-        over_lock(&rt, 1, Scenario::NothingFound)?.seen,
-        Seen::Right(true)
-    );
-    Ok(())
-}
-
-#[test]
-fn who_finds_nothing_over_a_pool_with_a_queue_is_told_of_no_close(
-    rt: HostRuntime,
-) -> Result<(), Fail> {
-    assert_eq!(rt;
-        over_queue(&rt, 1, Scenario::NothingFound)?.seen,
-        Seen::Right(true)
-    );
-    Ok(())
+fn who_finds_nothing_is_told_of_no_close(rt: HostRuntime) -> Result<(), Fail> {
+    check_both(&rt, 1, Scenario::NothingFound, (Seen::Right(true), 1))
 }

@@ -58,12 +58,7 @@ impl<'p, L: Ledger + Send + Sync, R: Host + Sync> TestPool<R> for LockTestPool<'
 }
 
 /// What was seen, the number of results given to the pool, and the counts of its book at last.
-#[derive(Drop)]
-pub struct OverLock {
-    pub seen: Seen,
-    pub given: u64,
-    pub counts: Counts,
-}
+pub type OverLock = (Seen, u64, Counts);
 
 fn run<L: Ledger + Send + Sync, R: Host + Sync>(
     rt: &R,
@@ -84,11 +79,8 @@ fn run<L: Ledger + Send + Sync, R: Host + Sync>(
     let seen = run_over(rt, &test_pool, scenario);
     let shares = test_pool.shares.into_inner();
     assert!(rt; shares.len() == usize::from(workers));
-    Ok(OverLock {
-        seen,
-        counts: pool.counts(rt),
-        given: gather(rt, &pool, shares),
-    })
+    let counts = pool.counts(rt);
+    Ok((seen, gather(rt, &pool, shares), counts))
 }
 
 fn run_once<R: Host + Sync>(
@@ -108,8 +100,5 @@ pub fn over_lock<R: Host + Sync>(
     workers: u8,
     scenario: Scenario,
 ) -> Result<OverLock, AllocError> {
-    match run_once(rt, workers, scenario) {
-        Err(AllocError) => run_once(rt, workers, scenario),
-        done => done,
-    }
+    run_once(rt, workers, scenario).or_else(|_| run_once(rt, workers, scenario))
 }

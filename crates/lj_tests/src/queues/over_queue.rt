@@ -67,12 +67,7 @@ impl<'p, L: PoolIdentity + Send + Sync, R: Host + Sync> TestPool<R> for QueueTes
 }
 
 /// What was seen, the number of results given to the pool, and what its passes pushed and popped.
-#[derive(Drop)]
-pub struct OverQueue {
-    pub seen: Seen,
-    pub given: u64,
-    pub settled: Settled,
-}
+pub type OverQueue = (Seen, u64, Settled);
 
 fn run<L: PoolIdentity + Send + Sync, R: Host + Sync>(
     rt: &R,
@@ -98,11 +93,7 @@ fn run<L: PoolIdentity + Send + Sync, R: Host + Sync>(
     let QueueTestPool { passes, shares, .. } = test_pool;
     let (passes, shares) = (passes.into_inner(), shares.into_inner());
     assert!(rt; passes.len() == count + CONNECTIONS && shares.len() == count);
-    Ok(OverQueue {
-        seen,
-        given: gather(rt, &pool, shares),
-        settled: pool.settle(rt, passes),
-    })
+    Ok((seen, gather(rt, &pool, shares), pool.settle(rt, passes)))
 }
 
 fn run_once<R: Host + Sync>(
@@ -123,8 +114,5 @@ pub fn over_queue<R: Host + Sync>(
     workers: u8,
     scenario: Scenario,
 ) -> Result<OverQueue, AllocError> {
-    match run_once(rt, workers, scenario) {
-        Err(AllocError) => run_once(rt, workers, scenario),
-        done => done,
-    }
+    run_once(rt, workers, scenario).or_else(|_| run_once(rt, workers, scenario))
 }

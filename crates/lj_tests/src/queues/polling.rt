@@ -1,11 +1,9 @@
 //! Ends that poll, over both pools: a poll does not wait for a result, a sleeping worker is woken for the task, and the end does
 //! not note that the pool is closed.
 
-use super::over_lock::over_lock;
-use super::over_queue::over_queue;
 use super::scenario::{Scenario, Seen};
 use super::test_pool::{Host, TestPool, beside_worker};
-use super::{post_one, sleep_a_while};
+use super::{check_both, post_one, sleep_a_while};
 use crate::sample_task::task;
 use lj_pool::Pool;
 use std::process::Abort;
@@ -95,19 +93,6 @@ pub fn poll_in_turn<S: TestPool<R> + Sync, R: Host + Sync>(rt: &R, test_pool: &S
 }
 
 #[test]
-fn polls_over_a_pool_behind_a_lock_do_not_wait(rt: HostRuntime) -> Result<(), Fail> {
-    assert_eq!(rt;
-        over_lock(&rt, 1, Scenario::Polling)?.seen,
-        Seen::Polled(EXPECTED)
-    );
-    Ok(())
-}
-
-#[test]
-fn polls_over_a_pool_with_a_queue_do_not_wait(rt: HostRuntime) -> Result<(), Fail> {
-    assert_eq!(rt;
-        over_queue(&rt, 1, Scenario::Polling)?.seen,
-        Seen::Polled(EXPECTED)
-    );
-    Ok(())
+fn polls_do_not_wait(rt: HostRuntime) -> Result<(), Fail> {
+    check_both(&rt, 1, Scenario::Polling, (Seen::Polled(EXPECTED), 3))
 }

@@ -2,8 +2,8 @@
 
 use super::barrier::Barrier;
 use super::leave_all;
-use super::over_lock::{OverLock, over_lock};
-use super::over_queue::{OverQueue, over_queue};
+use super::over_lock::over_lock;
+use super::over_queue::over_queue;
 use super::room::{Answer, ENDS, LAST, fill, post_last};
 use super::scenario::{Scenario, Seen};
 use super::test_pool::{Host, TestPool};
@@ -136,30 +136,28 @@ pub fn refuse_many<S: TestPool<R> + Sync, R: Host + Sync>(
     Ok(RefusalCounts { refused, ..told })
 }
 
+/// What is seen where all posts are refused but for one beside a task that is taken, which has this answer.
+fn told(beside_taken: Answer, fetched: u64) -> Seen {
+    Seen::Refused(Ok(RefusalCounts {
+        refused: REFUSED,
+        beside_taken,
+        fetched,
+        posted: 1024,
+    }))
+}
+
 /// A task that is taken keeps its place in the book until its result is fetched.
 #[test]
 fn no_room_of_a_book_is_lost_by_refused_posts(rt: HostRuntime) -> Result<(), Fail> {
-    let OverLock { seen, counts, .. } = over_lock(&rt, 1, Scenario::Refused)?;
-    let told = RefusalCounts {
-        refused: REFUSED,
-        beside_taken: Answer::Full,
-        fetched: 1024,
-        posted: 1024,
-    };
-    assert_eq!(rt; (seen, counts.posted), (Seen::Refused(Ok(told)), 2048));
+    let (seen, _, counts) = over_lock(&rt, 1, Scenario::Refused)?;
+    assert_eq!(rt; (seen, counts.posted), (told(Answer::Full, 1024), 2048));
     Ok(())
 }
 
 /// A task that is taken frees its place in the queue.
 #[test]
 fn no_room_of_a_queue_is_lost_by_refused_posts(rt: HostRuntime) -> Result<(), Fail> {
-    let OverQueue { seen, settled, .. } = over_queue(&rt, 1, Scenario::Refused)?;
-    let told = RefusalCounts {
-        refused: REFUSED,
-        beside_taken: Answer::Posted,
-        fetched: 1025,
-        posted: 1024,
-    };
-    assert_eq!(rt; (seen, settled.pushed), (Seen::Refused(Ok(told)), 2049));
+    let (seen, _, settled) = over_queue(&rt, 1, Scenario::Refused)?;
+    assert_eq!(rt; (seen, settled.pushed), (told(Answer::Posted, 1025), 2049));
     Ok(())
 }

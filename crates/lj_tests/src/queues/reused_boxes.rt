@@ -84,14 +84,14 @@ impl Fate {
 
 #[test]
 fn boxes_of_results_that_are_handed_out_serve_other_tasks(rt: HostRuntime) -> Result<(), Fail> {
-    let seen = over_queue(&rt, 1, Scenario::Boxes(Fate::HandedOut))?.seen;
+    let (seen, _, _) = over_queue(&rt, 1, Scenario::Boxes(Fate::HandedOut))?;
     assert_eq!(rt; seen, Seen::Right(true));
     Ok(())
 }
 
 #[test]
 fn boxes_of_results_that_are_refused_serve_other_tasks(rt: HostRuntime) -> Result<(), Fail> {
-    let seen = over_queue(&rt, 1, Scenario::Boxes(Fate::Refused))?.seen;
+    let (seen, _, _) = over_queue(&rt, 1, Scenario::Boxes(Fate::Refused))?;
     assert_eq!(rt; seen, Seen::Right(true));
     Ok(())
 }
@@ -99,7 +99,7 @@ fn boxes_of_results_that_are_refused_serve_other_tasks(rt: HostRuntime) -> Resul
 #[test]
 fn boxes_of_results_that_are_dropped_serve_other_tasks(rt: HostRuntime) -> Result<(), Fail> {
     for fate in [Fate::Withdrawn, Fate::Replaced, Fate::InHand] {
-        let seen = over_queue(&rt, 1, Scenario::Boxes(fate))?.seen;
+        let (seen, _, _) = over_queue(&rt, 1, Scenario::Boxes(fate))?;
         assert_eq!(rt; seen, Seen::Right(true));
     }
     Ok(())

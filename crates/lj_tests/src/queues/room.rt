@@ -1,15 +1,14 @@
 //! A full pool: a post that may not wait is refused, and one that waits goes on once there is room, or fails when the pool is
 //! closed.
 
-use super::over_lock::{OverLock, over_lock};
-use super::over_queue::{OverQueue, over_queue};
+use super::over_lock::over_lock;
+use super::over_queue::over_queue;
 use super::scenario::{Scenario, Seen};
 use super::test_pool::{Host, TestPool};
-use super::{leave_all, posting_end, put_back, sleep_a_while};
+use super::{all_left, all_popped, leave_all, posting_end, put_back, sleep_a_while};
 use crate::sample_task::task;
 use lj_book::Counts;
 use lj_pool::{Pool, Refused};
-use lj_queue::Settled;
 use std::alloc::{AllocError, AllocGlobal};
 use std::process::Abort;
 use std::test::Fail;
@@ -159,42 +158,25 @@ fn filled_until(relief: Relief) -> Scenario {
     Scenario::FullPool(FullPool { relief })
 }
 
+/// What is seen where the end that comes last is refused at first, and is then told so.
+fn told(waited: Answer, fetched: bool) -> Seen {
+    Seen::FullPool(Ok((Answer::Full, waited, fetched)))
+}
+
 #[test]
 fn who_waits_for_room_goes_on(rt: HostRuntime) -> Result<(), Fail> {
-    let OverQueue {
-        seen,
-        given,
-        settled,
-    } = over_queue(&rt, 1, filled_until(Relief::Worker))?;
-    let told = (Answer::Full, Answer::Posted, true);
-    let all_popped = Settled {
-        pushed: 1025,
-        popped: 1025,
-        left: 0,
-    };
     assert_eq!(rt;
-        (seen, given, settled),
-        (Seen::FullPool(Ok(told)), 1025, all_popped)
+        over_queue(&rt, 1, filled_until(Relief::Worker))?,
+        (told(Answer::Posted, true), 1025, all_popped(1025))
     );
     Ok(())
 }
 
 #[test]
 fn who_waits_for_room_is_told_of_a_closed_pool(rt: HostRuntime) -> Result<(), Fail> {
-    let OverQueue {
-        seen,
-        given,
-        settled,
-    } = over_queue(&rt, 1, filled_until(Relief::Close))?;
-    let told = (Answer::Full, Answer::Closed, false);
-    let all_left = Settled {
-        pushed: 1024,
-        popped: 0,
-        left: 1024,
-    };
     assert_eq!(rt;
-        (seen, given, settled),
-        (Seen::FullPool(Ok(told)), 0, all_left)
+        over_queue(&rt, 1, filled_until(Relief::Close))?,
+        (told(Answer::Closed, false), 0, all_left(1024))
     );
     Ok(())
 }
@@ -202,12 +184,7 @@ fn who_waits_for_room_is_told_of_a_closed_pool(rt: HostRuntime) -> Result<(), Fa
 /// How many results were given before the close depends on the key of the last task.
 #[test]
 fn who_waits_for_room_in_a_book_goes_on(rt: HostRuntime) -> Result<(), Fail> {
-    let OverLock {
-        seen,
-        given,
-        counts,
-    } = over_lock(&rt, 1, filled_until(Relief::Withdrawal))?;
-    let told = (Answer::Full, Answer::Posted, true);
+    let (seen, given, counts) = over_lock(&rt, 1, filled_until(Relief::Withdrawal))?;
     let one_fetched = Counts {
         posted: 1025,
         given,
@@ -215,18 +192,12 @@ fn who_waits_for_room_in_a_book_goes_on(rt: HostRuntime) -> Result<(), Fail> {
         withdrawn: 64,
         entries: 960,
     };
-    assert_eq!(rt; (seen, counts), (Seen::FullPool(Ok(told)), one_fetched));
+    assert_eq!(rt; (seen, counts), (told(Answer::Posted, true), one_fetched));
     Ok(())
 }
 
 #[test]
 fn who_waits_for_room_in_a_book_is_told_of_a_closed_pool(rt: HostRuntime) -> Result<(), Fail> {
-    let OverLock {
-        seen,
-        given,
-        counts,
-    } = over_lock(&rt, 1, filled_until(Relief::Close))?;
-    let told = (Answer::Full, Answer::Closed, false);
     let none_taken = Counts {
         posted: 1024,
         given: 0,
@@ -235,8 +206,8 @@ fn who_waits_for_room_in_a_book_is_told_of_a_closed_pool(rt: HostRuntime) -> Res
         entries: 1024,
     };
     assert_eq!(rt;
-        (seen, given, counts),
-        (Seen::FullPool(Ok(told)), 0, none_taken)
+        over_lock(&rt, 1, filled_until(Relief::Close))?,
+        (told(Answer::Closed, false), 0, none_taken)
     );
     Ok(())
 }

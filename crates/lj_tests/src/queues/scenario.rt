@@ -1,4 +1,4 @@
-//! Scenes, which are played over an empty and open pool of either kind.
+//! Scenarios, which are run over an empty and open pool of either kind.
 
 use super::reused_boxes::Fate;
 use super::room::FullPool;
@@ -9,7 +9,7 @@ use super::{
 };
 use std::alloc::AllocError;
 
-/// A scene. Its file says what is played.
+/// A scenario. Its file says what is done.
 #[derive(Clone, Copy)]
 pub enum Scenario {
     Ahead(ahead::StartsCase),

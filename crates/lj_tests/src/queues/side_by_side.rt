@@ -1,11 +1,9 @@
 //! Two sessions of one user, computed at once while the user sends nothing: over both pools, a gate holds the task of one of them
 //! until it is called for that of the other.
 
-use super::over_lock::over_lock;
-use super::over_queue::over_queue;
 use super::scenario::{Scenario, Seen};
 use super::test_pool::{Host, TestPool, work_both};
-use super::{serve_user, wait_for};
+use super::{check_both, serve_user, wait_for};
 use arrayvec::ArrayVec;
 use lj_pool::Gate;
 use lj_tile::TaskName;
@@ -128,19 +126,6 @@ fn is_right(told: &SessionsOutput, counts: [u64; 3]) -> bool {
 }
 
 #[test]
-fn sessions_are_worked_on_at_once_over_a_pool_behind_a_lock(rt: HostRuntime) -> Result<(), Fail> {
-    assert_eq!(rt;
-        over_lock(&rt, 2, Scenario::SideBySide)?.seen,
-        Seen::Right(true)
-    );
-    Ok(())
-}
-
-#[test]
-fn sessions_are_worked_on_at_once_over_a_pool_with_a_queue(rt: HostRuntime) -> Result<(), Fail> {
-    assert_eq!(rt;
-        over_queue(&rt, 2, Scenario::SideBySide)?.seen,
-        Seen::Right(true)
-    );
-    Ok(())
+fn sessions_are_worked_on_at_once(rt: HostRuntime) -> Result<(), Fail> {
+    check_both(&rt, 2, Scenario::SideBySide, (Seen::Right(true), 2))
 }

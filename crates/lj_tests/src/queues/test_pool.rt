@@ -1,4 +1,4 @@
-//! The stages of scenes: a pool of either kind, whose ends and workers come and go.
+//! What scenarios are run over: a pool of either kind, whose ends and workers come and go.
 ghost use Rattle.std.specs.Prelude.{◌≡◌, []};
 
 use lj_book::Counts;

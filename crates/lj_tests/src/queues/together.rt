@@ -1,12 +1,10 @@
 //! Four tasks posted together, over both pools: only the first ones are posted where there is no room for all of them, and none
 //! where there is no room or the pool is closed.
 
-use super::leave_all;
-use super::over_lock::{OverLock, over_lock};
-use super::over_queue::{OverQueue, over_queue};
 use super::room::{LAST, fill_from};
 use super::scenario::{Scenario, Seen};
 use super::test_pool::{Host, TestPool};
+use super::{check_both, leave_all};
 use crate::sample_task::task;
 use lj_pool::{MAX_OWED, MAX_POSTS, Pool};
 use std::alloc::AllocError;
@@ -73,15 +71,6 @@ const TOLD: [PostsOutcome; 3] = [
 ];
 
 #[test]
-fn the_first_of_four_tasks_have_the_last_places_of_a_book(rt: HostRuntime) -> Result<(), Fail> {
-    let OverLock { seen, counts, .. } = over_lock(&rt, 1, Scenario::Together)?;
-    assert_eq!(rt; (seen, counts.posted), (Seen::Together(Ok(TOLD)), 1024));
-    Ok(())
-}
-
-#[test]
-fn the_first_of_four_tasks_have_the_last_places_of_a_queue(rt: HostRuntime) -> Result<(), Fail> {
-    let OverQueue { seen, settled, .. } = over_queue(&rt, 1, Scenario::Together)?;
-    assert_eq!(rt; (seen, settled.pushed), (Seen::Together(Ok(TOLD)), 1024));
-    Ok(())
+fn the_first_of_four_tasks_have_the_last_places(rt: HostRuntime) -> Result<(), Fail> {
+    check_both(&rt, 1, Scenario::Together, (Seen::Together(Ok(TOLD)), 1024))
 }

@@ -1,7 +1,7 @@
 //! A user that is withdrawn while its neighbour has results that were not fetched, over both pools.
 
 use super::over_lock::over_lock;
-use super::over_queue::{OverQueue, over_queue};
+use super::over_queue::over_queue;
 use super::scenario::{Scenario, Seen};
 use super::test_pool::{Host, TestPool, beside_worker};
 use super::{post_one, posting_end};
@@ -101,7 +101,7 @@ pub fn withdraw_with_end<S: TestPool<R> + Sync, R: Host + Sync>(rt: &R, test_poo
 /// do not.
 #[test]
 fn a_withdrawal_over_a_queue_leaves_the_neighbour(rt: HostRuntime) -> Result<(), Fail> {
-    let OverQueue { seen, given, .. } = over_queue(&rt, 1, Scenario::WithEnd)?;
+    let (seen, given, _) = over_queue(&rt, 1, Scenario::WithEnd)?;
     let expected = Left {
         after: GONE_TASKS - 1,
         ..EXPECTED
@@ -113,7 +113,7 @@ fn a_withdrawal_over_a_queue_leaves_the_neighbour(rt: HostRuntime) -> Result<(),
 /// The results in hand come, and those in the book do not.
 #[test]
 fn a_withdrawal_over_a_book_leaves_what_is_in_hand(rt: HostRuntime) -> Result<(), Fail> {
-    let seen = over_lock(&rt, 1, Scenario::WithEnd)?.seen;
+    let (seen, _, _) = over_lock(&rt, 1, Scenario::WithEnd)?;
     let expected = Left {
         after: IN_HAND,
         ..EXPECTED
@@ -159,7 +159,7 @@ pub fn withdraw_without_end<S: TestPool<R> + Sync, R: Host + Sync>(
 /// in hand are fetched.
 #[test]
 fn a_withdrawal_over_a_book_leaves_the_neighbour(rt: HostRuntime) -> Result<(), Fail> {
-    let seen = over_lock(&rt, 1, Scenario::WithoutEnd)?.seen;
+    let (seen, _, _) = over_lock(&rt, 1, Scenario::WithoutEnd)?;
     let standing = Counts {
         posted: 24,
         given: 24,
