@@ -9,6 +9,7 @@ use Rattle.std.proofs.lemmas.Bool.{cases_lt, cases_eq}
 use Rattle.lj_ring.specs.Ring.{sum_below}
 use Rattle.lj_tile.specs.Species.{is_in}
 use Rattle.lj_tile.specs.Pairs.{members}
+use Rattle.lj_tile.proofs.SumLemmas.{m_zero, sum_far, sum_same}
 
 -- a sum from its first term on
 sum_front_term : (n : ℕ) (f : ℕ → ℕ) → sum_below (suc n) f ≡ f 0 + sum_below n (λ i. f (suc i))
@@ -21,13 +22,6 @@ one_more i = omega arith
 bit_halved : (n i : ℕ) → bit_at (n / 2) i ≡ bit_at n (suc i)
 bit_halved n i = ap (λ m. m % 2) (shr-shr n 1 i ∙ ap (λ j. n / 2 ^ j) (one_more i))
 
-sum_same : (n : ℕ) (f g : ℕ → ℕ) → ((k : ℕ) → k < n → f k ≡ g k) → sum_below n f ≡ sum_below n g
-sum_same zero f g same = refl
-sum_same (suc n) f g same =
-    let before = sum_same n f g (λ k h. same k (omega arith)) in
-    let last = same n (omega arith) in
-    omega (arith, before, last)
-
 -- the number of ones among the lowest digits is their sum
 ones_are : (d n : ℕ) → ones_in d n ≡ sum_below d (bit_at n)
 unfolding ones_in
@@ -37,21 +31,6 @@ ones_are (suc d) n =
     let rest = ones_are d (n / 2) ∙ sum_same d (bit_at (n / 2)) (λ i. bit_at n (suc i)) (λ k h. bit_halved n k) in
     let whole = sum_front_term d (bit_at n) in
     omega (arith, lowest, rest, whole)
-
-m_zero : (m : ℕ) → m ≤ 0 → m ≡ 0
-m_zero m h = omega arith
-
--- a sum whose terms from m on are 0
-sum_far : (f : ℕ → ℕ) (m n : ℕ) → m ≤ n → ((s : ℕ) → m ≤ s → s < n → f s ≡ 0) → sum_below m f ≡ sum_below n f
-sum_far f m zero le none = rw (m_zero m le) refl
-sum_far f m (suc n) le none =
-    elim (cases_lt n m) [
-      | inl end ↦ let e : m ≡ suc n = omega arith in rw e refl
-      | inr more ↦
-          let last : f n ≡ 0 = none n more (omega arith) in
-          let before = sum_far f m n more (λ s h k. none s h (omega arith)) in
-          omega (arith, last, before)
-    ]
 
 self_below : (n : ℕ) → n < 2 ^ n
 self_below zero = omega arith

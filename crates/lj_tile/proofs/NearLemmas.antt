@@ -1,9 +1,9 @@
 -- The quick test of which places are near, lane by lane.
-use Rattle.std.proofs.Common.{ℕ, zero, suc, ◌+◌, ◌-◌, ◌*◌, ◌/◌, ◌%◌, ◌^◌, ◌<◌, ◌≤◌, ◌≡◌, min, Bool, true, false, cond, ltb, nat_lt, unsigned_abs, List, length, get_or, map, replicate, refl, sym, ap, ◌∙◌, bit_and, pow_pos, ◌⊎◌, inl, inr, w32, arith}
+use Rattle.std.proofs.Common.{ℕ, zero, suc, ◌+◌, ◌-◌, ◌*◌, ◌/◌, ◌%◌, ◌^◌, ◌<◌, ◌≤◌, ◌≡◌, min, Bool, true, false, cond, ltb, unsigned_abs, List, length, get_or, map, replicate, refl, sym, ap, ◌∙◌, bit_and, pow_pos, ◌⊎◌, inl, inr, arith}
 use Rattle.std.specs.Simd.Lanes.{zip2, mask_l}
-use Rattle.std.specs.Int.{cast_signed, bit_at, div_ceil}
+use Rattle.std.specs.Int.{bit_at, div_ceil}
 use Rattle.std.proofs.lemmas.List.{get_or-map, get_or-replicate, length-replicate}
-use Rattle.std.proofs.lemmas.Bool.{cases_eq, cases_lt, ltb-false, ltb-true, le-ltb}
+use Rattle.std.proofs.lemmas.Bool.{cases_eq, cases_lt, ltb-false, ltb-true}
 use Rattle.std.proofs.lemmas.Int.{ints}
 use Rattle.std.proofs.lemmas.Nat.{mul-le, mod-mul-add, pow-add, le-div}
 use Rattle.std.proofs.Math.Nat.{div-mul-le_self, mod-add-div, mod-lt, div-lt_iff_lt-mul, div-div-eq-div-mul}
@@ -12,7 +12,6 @@ use Rattle.std.proofs.lemmas.Nat.Bits.{bit_at_and}
 use Rattle.std.proofs.lemmas.Simd.{get_or-zip2, bit_mask_l}
 use Rattle.lj_ring.specs.Ring.{image}
 use Rattle.lj_tile.specs.Grains.{grains, grains_between, grains_apart, square_unit}
-use Rattle.lj_tile.specs.Near.{SpansFew}
 
 -- each lane with one number
 pub splat_lanes : (f : ℕ → ℕ → ℕ) (v : List ℕ) (n : ℕ) → length v ≡ 16 → (k : ℕ) → k < 16 → get_or (zip2 f v (replicate 16 n)) k 0 ≡ f (get_or v k 0) n
@@ -29,9 +28,6 @@ pub not_below : (v : List ℕ) (reach k : ℕ) → k < length v → bit_at (mask
 not_below v reach k l empty =
     let bit : cond {A = ℕ} (get_or (map (λ x. ltb x reach) v) k false) 1 0 ≡ 0 = sym (bit_mask_l (map (λ x. ltb x reach) v) k) ∙ empty in
     ltb-false (get_or v k 0) reach (sym (get_or-map (λ x. ltb x reach) v k 0 false l) ∙ not_set _ bit)
-
-cast_size : (d : ℕ) → d < 2 ^ 32 → min d (2 ^ 32 - d) ≤ unsigned_abs (cast_signed w32 d)
-cast_size d h = grind (arith, ints)
 
 -- a difference in grains as a number with a sign, modulo 2^32
 abbrev pub signed_value : ℕ → ℕ
@@ -210,15 +206,6 @@ bit_of_either a b k e =
       | inl none ↦ inl none
       | inr some ↦ inr (omega (arith, both, some))
     ]
-
--- from the reach on, no pair interacts
-pub reach_out : (interact : ℕ → Bool) (reach : ℕ) → ((s : ℕ) → interact s ≡ nat_lt s reach) → (s : ℕ) → reach ≤ s → interact s ≡ false
-reach_out interact reach exact s h = exact s ∙ le-ltb s reach h
-
--- a grain whose reach spans few of them
-pub few_grains : (interact : ℕ → Bool) (reach grain : ℕ) → ((s : ℕ) → interact s ≡ nat_lt s reach)
-    → reach < 2 ^ 22 * (2 ^ grain * 2 ^ grain) → SpansFew interact grain
-few_grains interact reach grain exact few s h = reach_out interact reach exact s (omega (arith, few, h))
 
 one_more : (q d n : ℕ) → q < n → q * d + d ≤ n * d
 one_more q d n h = let more : (q + 1) * d ≤ n * d = mul-le (q + 1) d n d (omega (arith, h)) (omega arith) in omega (arith, more)

@@ -1,8 +1,7 @@
 -- The sums of rows of pairs, and what they come to.
 use Rattle.std.proofs.Common.{ℕ, zero, suc, ◌+◌, ◌%◌, ◌^◌, ◌<◌, ◌≤◌, ◌≡◌, Bool, true, false, length}
-use Rattle.std.proofs.Common.{List, replicate, pos, slice_index_or, slice_set, refl, sym, ap, ◌∙◌, inl, inr, add-one, arith}
-use Rattle.std.proofs.Common.{get_or-set_same, get_or-set_other, ◌≢◌, rules}
-use Rattle.std.proofs.lemmas.List.{get_or-replicate}
+use Rattle.std.proofs.Common.{List, pos, slice_set, refl, sym, ap, ◌∙◌, inl, inr, add-one, arith}
+use Rattle.std.proofs.Common.{rules}
 use Rattle.std.proofs.lemmas.Bool.{cases_eq, cases_lt, cases_Bool}
 use Rattle.std.proofs.lemmas.Bool.Decides.{nat_tests}
 use Rattle.lj_ring.specs.Ring.{sum_below, ring_sum, squared_distance, IsOnRing}
@@ -22,8 +21,9 @@ use Rattle.lj_tile.specs.Species.{species_at}
 use Rattle.std.specs.Int.{bit_at}
 use Rattle.lj_tile.specs.Task.{Task, IsTask, are_apart, are_in_order, class_in, task_force, task_second}
 use Rattle.lj_tile.specs.Rows.{push_of, push_back, sum_on_first, sum_on_second, push_in, pushes_in}
-use Rattle.lj_tile.specs.Rows.{IsSilent, AreRows, ArePushed}
+use Rattle.lj_tile.specs.Rows.{IsSilent}
 use Rattle.lj_tile.proofs.PushLemmas.{nothing_is}
+use Rattle.lj_tile.proofs.SumLemmas.{sum_far, sum_same}
 use Rattle.lj_tile.proofs.Opposites.{same_push, entry_far, nothing_back}
 
 sum_more : (f : ℕ → ℕ) (n p : ℕ) → p ≡ f n → (ring_sum n f + p) % 2 ^ 32 ≡ ring_sum (n + 1) f
@@ -46,26 +46,6 @@ second_more w s n p counts =
     let z = sum_more (λ t. (push_back w t s).z) n p.z (ap (λ (q : Push). q.z) counts) in
     cc (x, y, z)
 
-m_zero : (m : ℕ) → m ≤ 0 → m ≡ 0
-m_zero m h = omega arith
-
--- a sum whose terms from m on are 0
-sum_far : (f : ℕ → ℕ) (m n : ℕ) → m ≤ n → ((s : ℕ) → m ≤ s → s < n → f s ≡ 0) → sum_below m f ≡ sum_below n f
-sum_far f m zero le none = rw (m_zero m le) refl
-sum_far f m (suc n) le none =
-    elim (cases_lt n m) [
-      | inl end ↦ let e : m ≡ suc n = omega arith in rw e refl
-      | inr more ↦
-          let last : f n ≡ 0 = none n more (omega arith) in
-          let before = sum_far f m n more (λ s h k. none s h (omega arith)) in
-          omega (arith, last, before)
-    ]
-
--- what a place in a set adds, and one that is in none
-pub inside : (u : Scale) (set : ℕ) (here : Place) (places : List Place) (s : ℕ) (p : Push) → bit_at set s ≡ 1
-    → p ≡ push u here (place_at places s) → p ≡ push_in u set here places s
-inside u set here places s p in_set value = rw in_set value
-
 outside : (u : Scale) (set : ℕ) (here : Place) (places : List Place) (s : ℕ) → bit_at set s ≡ 0
     → push_in u set here places s ≡ no_push
 outside u set here places s not = rw not refl
@@ -81,44 +61,8 @@ pushes_past u set here places m n le none =
     let z = sum_far (λ s. (push_in u set here places s).z) m n le (λ s h k. ap (λ (p : Push). p.z) (each s h k)) in
     rw (x, y, z) refl
 
--- at first no place has its push
-pub pushed_none : (u : Scale) (set : ℕ) (here : Place) (places : List Place) (sums : List Push)
-    → ArePushed u set here places 0 sums sums
-pushed_none u set here places sums = record {
-  passed = λ s within below. absurd (omega (arith, below));
-  ahead = λ s within above. refl;
-}
-
--- places outside of the set keep their sums
-pub pushed_past : (u : Scale) (set : ℕ) (here : Place) (places : List Place) (from to : ℕ) (old new : List Push)
-    → ArePushed u set here places from old new → from ≤ to
-    → ((s : ℕ) → from ≤ s → s < to → bit_at set s ≡ 0) → ArePushed u set here places to old new
-pushed_past u set here places from to old new pushed le none = record {
-  passed = λ s within below. elim (cases_lt s from) [
-    | inl less ↦ pushed.passed s within less
-    | inr more ↦ rw (none s more below) (pushed.ahead s within more)
-  ];
-  ahead = λ s within above. pushed.ahead s within (omega arith);
-}
-
 pub length_set : (sums : List Push) (n : ℕ) (sum : Push) → length (slice_set sums n sum) ≡ length sums
 length_set sums n sum = search (rules, arith)
-
--- a place in the set has its push more
-pub pushed_next : (u : Scale) (set : ℕ) (here : Place) (places : List Place) (n : ℕ) (old mid : List Push) (sum : Push)
-    → ArePushed u set here places n old mid → n < length mid → n < length places → bit_at set n ≡ 1
-    → sum ≡ sum_of_pushes (slice_index_or mid n no_push) (push u (place_at places n) here)
-    → ArePushed u set here places (n + 1) old (slice_set mid n sum)
-pushed_next u set here places n old mid sum pushed room within in_set value = record {
-  passed = λ s also below. elim (cases_lt s n) [
-    | inl less ↦ let other : s ≢ n = omega arith in rw get_or-set_other (pushed.passed s also less)
-    | inr more ↦
-        let same : s ≡ n = omega arith in
-        rw (same, in_set, get_or-set_same)
-        (value ∙ ap (λ p. sum_of_pushes p (push u (place_at places n) here)) (pushed.ahead n within (omega arith)))
-  ];
-  ahead = λ s also above. let other : s ≢ n = omega arith in rw get_or-set_other (pushed.ahead s also (omega arith));
-}
 
 -- a row that does not push leaves a sum as it is
 pub second_silent : (w : Task) (s t : ℕ) → push_back w t s ≡ no_push → sum_on_second w s t ≡ sum_on_second w s (t + 1)
@@ -142,14 +86,6 @@ row_silent w t silent =
     let y = sum_far (λ s. (push_of w t s).y) 0 n (omega arith) (λ s h k. ap (λ (p : Push). p.y) (silent s k).there) in
     let z = sum_far (λ s. (push_of w t s).z) 0 n (omega arith) (λ s h k. ap (λ (p : Push). p.z) (silent s k).there) in
     rw (sym x, sym y, sym z) refl
-
-pub rows_silent : (w : Task) (t : ℕ) (sums : List Push) → AreRows w t sums
-    → ((s : ℕ) → s < length w.b.places → IsSilent w t s) → AreRows w (t + 1) sums
-rows_silent w t sums rows silent s within = rows s within ∙ second_silent w s t (silent s within).back
-
--- before the first row each sum is none
-pub rows_start : (w : Task) → length w.b.places ≤ 64 → AreRows w 0 (replicate 64 no_push)
-rows_start w few s within = get_or-replicate 64 s no_push no_push (omega (arith, within, few))
 
 -- a pair out of reach has no energy
 far_energy : (class : Class) (p q : Place) → is_in_cutoff class.scale (squared_distance p q) ≡ false → energy class p q ≡ pos 0
@@ -182,14 +118,6 @@ far_silent w t s here there far =
       }
       | inr not ↦ not_in_order w t s not
     ]
-
--- two sums of equal terms
-sum_same : (n : ℕ) (f g : ℕ → ℕ) → ((k : ℕ) → k < n → f k ≡ g k) → sum_below n f ≡ sum_below n g
-sum_same zero f g same = refl
-sum_same (suc n) f g same =
-    let before = sum_same n f g (λ k h. same k (omega arith)) in
-    let last = same n (omega arith) in
-    omega (arith, before, last)
 
 pub sum_both : (n : ℕ) (f g h : ℕ → ℕ) → ((k : ℕ) → k < n → f k + g k ≡ h k) → sum_below n f + sum_below n g ≡ sum_below n h
 sum_both zero f g h same = refl

@@ -1,5 +1,5 @@
 -- The places of a block that may interact with an atom, split by their species.
-use Rattle.std.proofs.Common.{ℕ, ◌+◌, ◌-◌, ◌%◌, ◌^◌, ◌<◌, ◌≤◌, ◌≡◌, ◌&&◌, Bool, true, false, nat_lt, nat_le, min, length, List, bit_and, w64, refl, sym, ap, ◌∙◌, inl, inr, arith}
+use Rattle.std.proofs.Common.{ℕ, ◌+◌, ◌-◌, ◌%◌, ◌^◌, ◌<◌, ◌≤◌, ◌≡◌, ◌&&◌, Bool, true, false, nat_lt, nat_le, min, length, bit_and, w64, refl, sym, ap, ◌∙◌, inl, inr, arith}
 use Rattle.std.specs.Int.{bit_at, bit_not}
 use Rattle.std.proofs.lemmas.Nat.Bits.{bit_at_and, bit_at_not, bit_at-lt, bit_at_ones, bit_at_ones_above}
 use Rattle.std.proofs.lemmas.Bool.{cases_lt}
@@ -11,13 +11,13 @@ use Rattle.lj_ring.specs.Mix.{class_of}
 use Rattle.lj_ring.specs.Ring.{ring_sum}
 use Rattle.lj_ring.specs.Scale.{Scale}
 use Rattle.lj_tile.specs.declared.pairs.Push.{Push}
-use Rattle.lj_tile.specs.Pushes.{push, no_push, sum_of_pushes}
+use Rattle.lj_tile.specs.Pushes.{no_push, sum_of_pushes}
 use Rattle.lj_tile.specs.Species.{is_in, species_at}
 use Rattle.lj_tile.specs.Tiles.{place_at, chosen_push}
 use Rattle.lj_tile.specs.Task.{Task, are_in_order, class_in}
-use Rattle.lj_tile.specs.Rows.{push_of, push_back, sum_on_first, pushes_in, push_in, IsSilent, AreRows, ArePushed}
+use Rattle.lj_tile.specs.Rows.{push_of, sum_on_first, pushes_in, push_in, IsSilent}
 use Rattle.lj_tile.proofs.Opposites.{same_push}
-use Rattle.lj_tile.proofs.RowLemmas.{sum_both, second_more, second_silent}
+use Rattle.lj_tile.proofs.RowLemmas.{sum_both}
 
 -- a place is in none of two sets, and silent there; or it is in the one set, in order, and of the first species; or it is
 -- in the other, in order, and of the second
@@ -157,51 +157,6 @@ row_sum w t firsts seconds split =
         let both = sum_both (length w.b.places) _ _ (λ s. axis (push_of w t s))
         (λ s h. split_push axis none w t firsts seconds s (split s h)) in
         omega (arith, both)
-
--- the sums of the second block have the pushes of one row more
-pub row_added : (w : Task) (t firsts seconds : ℕ) (old mid new : List Push)
-    → ((s : ℕ) → s < length w.b.places → RowSplit w t firsts seconds s) → AreRows w t old
-    → ArePushed (scale_with w t First) firsts (place_at w.a.places t) w.b.places (length w.b.places) old mid
-    → ArePushed (scale_with w t Second) seconds (place_at w.a.places t) w.b.places (length w.b.places) mid new
-    → AreRows w (t + 1) new
-row_added w t firsts seconds old mid new split rows one other s within =
-    let p : Place = place_at w.a.places t in
-    let q : Place = place_at w.b.places s in
-    let before = rows s within in
-    let first = one.passed s within within in
-    let last = other.passed s within within in
-    elim (split s within) [
-      | in_none e f silent ↦ (rw f at last) ∙ (rw e at first) ∙ before ∙ second_silent w s t silent.back
-      | in_firsts e f ordered species ↦
-          (rw f at last) ∙ (rw e at first) ∙ ap (λ sum. sum_of_pushes sum (push (scale_with w t First) q p)) before
-          ∙ second_more w s t (push (scale_with w t First) q p) (by_order w t s First ordered species)
-      | in_seconds e f ordered species ↦
-          (rw f at last) ∙ ap (λ sum. sum_of_pushes sum (push (scale_with w t Second) q p)) ((rw e at first) ∙ before)
-          ∙ second_more w s t (push (scale_with w t Second) q p) (by_order w t s Second ordered species)
-    ]
-  where
-    by_order : (w : Task) (t s : ℕ) (species : Species) → are_in_order w t s ≡ true → species_at w.b.species_bits s ≡ species
-        → push (scale_with w t species) (place_at w.b.places s) (place_at w.a.places t) ≡ push_back w t s
-    by_order w t s species ordered e =
-        rw ordered (ap (λ u. push u (place_at w.b.places s) (place_at w.a.places t)) (sym (by_class w t s species e)))
-
--- so are they where the row's parts are known by equations
-pub row_total : (w : Task) (t : ℕ) (u v : Scale) (firsts seconds : ℕ) (here : Place) (places : List Place) (p q r : Push)
-    → u ≡ scale_with w t First → v ≡ scale_with w t Second → here ≡ place_at w.a.places t → places ≡ w.b.places
-    → p ≡ pushes_in u firsts here places (length places) → q ≡ pushes_in v seconds here places (length places)
-    → r ≡ sum_of_pushes p q → ((s : ℕ) → s < length w.b.places → RowSplit w t firsts seconds s)
-    → r ≡ sum_on_first w t (length w.b.places)
-row_total w t u v firsts seconds here places p q r u_is v_is here_is places_is p_is q_is r_is split =
-    r_is ∙ rw (p_is, q_is, u_is, v_is, here_is, places_is) (row_sum w t firsts seconds split)
-
-pub rows_total : (w : Task) (t : ℕ) (u v : Scale) (firsts seconds : ℕ) (here : Place) (places : List Place)
-    (old mid new : List Push)
-    → u ≡ scale_with w t First → v ≡ scale_with w t Second → here ≡ place_at w.a.places t → places ≡ w.b.places
-    → ArePushed u firsts here places (length places) old mid → ArePushed v seconds here places (length places) mid new
-    → AreRows w t old → ((s : ℕ) → s < length w.b.places → RowSplit w t firsts seconds s) → AreRows w (t + 1) new
-rows_total w t u v firsts seconds here places old mid new u_is v_is here_is places_is one other rows split =
-    row_added w t firsts seconds old mid new split rows (rw (u_is, here_is, places_is) at one)
-    (rw (v_is, here_is, places_is) at other)
 
 -- the lowest bits of a number
 pub ones_are : (n count k : ℕ) → n ≡ 2 ^ count - 1 → is_in n k ≡ nat_lt k count

@@ -3,15 +3,36 @@ use Rattle.std.proofs.Common.{ℕ, zero, suc, ◌+◌, ◌-◌, ◌*◌, ◌/◌
 use Rattle.std.proofs.Common.{ℤ, pos, ◌+ℤ◌, unsigned_abs, FitsSigned, w64, to_z, of_z, refl, sym, ap, ◌∙◌}
 use Rattle.std.proofs.Common.{inl, inr, arith}
 use Rattle.std.specs.Int.{bit_at, trailing_zeros}
-use Rattle.std.proofs.lemmas.Nat.{shr-shr, mod-pow-add, div-mul-add, pow_pos}
-use Rattle.std.proofs.Math.Pow.{mod-mod-pow}
-use Rattle.std.proofs.Math.Nat.{mod-lt}
+use Rattle.std.proofs.lemmas.Nat.{shr-shr}
 use Rattle.std.proofs.lemmas.Nat.Bits.{bit_at-trailing_zeros, bit_at_above, bit_at-zero}
 use Rattle.std.proofs.Math.IntN.{+ℤ_idr}
 use Rattle.std.proofs.lemmas.Bool.{cases_lt}
 use Rattle.std.proofs.lemmas.Nat.{mul-le}
 use Rattle.std.proofs.lemmas.Int.{ints, fits_signed_from_abs, to_z-of_z}
-use Rattle.lj_ring.specs.Ring.{int_sum_below}
+use Rattle.lj_ring.specs.Ring.{sum_below, int_sum_below}
+
+-- two sums of equal terms
+pub sum_same : (n : ℕ) (f g : ℕ → ℕ) → ((k : ℕ) → k < n → f k ≡ g k) → sum_below n f ≡ sum_below n g
+sum_same zero f g same = refl
+sum_same (suc n) f g same =
+    let before = sum_same n f g (λ k h. same k (omega arith)) in
+    let last = same n (omega arith) in
+    omega (arith, before, last)
+
+pub m_zero : (m : ℕ) → m ≤ 0 → m ≡ 0
+m_zero m h = omega arith
+
+-- a sum whose terms from m on are 0
+pub sum_far : (f : ℕ → ℕ) (m n : ℕ) → m ≤ n → ((s : ℕ) → m ≤ s → s < n → f s ≡ 0) → sum_below m f ≡ sum_below n f
+sum_far f m zero le none = rw (m_zero m le) refl
+sum_far f m (suc n) le none =
+    elim (cases_lt n m) [
+      | inl end ↦ let e : m ≡ suc n = omega arith in rw e refl
+      | inr more ↦
+          let last : f n ≡ 0 = none n more (omega arith) in
+          let before = sum_far f m n more (λ s h k. none s h (omega arith)) in
+          omega (arith, last, before)
+    ]
 
 -- a sum whose later terms are 0 is the sum of the earlier ones
 pub sum_front : (n m : ℕ) (f g : ℕ → ℤ) → m ≤ n → ((t : ℕ) → t < m → f t ≡ g t) → ((t : ℕ) → t < n → m ≤ t → g t ≡ pos 0)
@@ -100,25 +121,6 @@ pub from_empty : (mask s rest : ℕ) → IsFrom mask s rest → rest ≡ 0 → (
 from_empty mask s rest from empty k least =
     let e : s + (k - s) ≡ k = omega arith in
     ap (bit_at mask) (sym e) ∙ sym (from (k - s)) ∙ ap (λ r. bit_at r (k - s)) empty ∙ bit_at-zero (k - s)
-
--- a mask cut to the bits below n has those bits
-pub bit_below : (mask n k : ℕ) → k < n → bit_at (mask % 2 ^ n) k ≡ bit_at mask k
-bit_below mask n k less =
-    let j : ℕ = n - k - 1 in
-    let high : ℕ = mask / 2 ^ k % 2 ^ (j + 1) in
-    let size : n ≡ j + 1 + k = omega arith in
-    let parts : mask % 2 ^ n ≡ high * 2 ^ k + mask % 2 ^ k = ap (λ m. mask % 2 ^ m) size ∙ mod-pow-add mask (j + 1) k in
-    ap (λ m. m / 2 ^ k % 2) parts
-    ∙ ap (λ m. m % 2) (div-mul-add high (2 ^ k) (mask % 2 ^ k) (mod-lt mask (pow_pos k)))
-    ∙ mod-mod-pow (mask / 2 ^ k) j 1
-
--- a bit that is set in it lies below n
-pub set_below : (mask n k : ℕ) → bit_at (mask % 2 ^ n) k ≡ 1 → k < n
-set_below mask n k set =
-    elim (cases_lt k n) [
-      | inl less ↦ less
-      | inr more ↦ absurd (omega (arith, set, bit_at_above (mask % 2 ^ n) n k (mod-lt mask (pow_pos n)) more))
-    ]
 
 -- places without energy leave the sum as it is
 pub sum_past : (f : ℕ → ℤ) (from to : ℕ) → from ≤ to → ((t : ℕ) → from ≤ t → t < to → f t ≡ pos 0)

@@ -1,11 +1,11 @@
 -- The sums of a task's pairs of atoms i < j, i in the first block and j in the second, row by row of the first.
-use Rattle.std.specs.Prelude.{ℕ, ◌≡◌, ◌<◌, ◌≤◌, Bool, ℤ, pos, List, length, slice_index_or, if◌then◌else◌}
+use Rattle.std.specs.Prelude.{ℕ, ◌≡◌, ℤ, pos, List, length}
 use Rattle.lj_ring.specs.Ring.{ring_sum, int_sum_below}
 use Rattle.lj_ring.specs.declared.mixes.Class.{Class}
 use Rattle.lj_ring.specs.declared.coordinates.Place.{Place}
 use Rattle.lj_ring.specs.Scale.{Scale}
 use Rattle.lj_tile.specs.declared.pairs.Push.{Push}
-use Rattle.lj_tile.specs.Pushes.{no_push, sum_of_pushes, push}
+use Rattle.lj_tile.specs.Pushes.{no_push}
 use Rattle.lj_tile.specs.Species.{is_in}
 use Rattle.lj_tile.specs.Tiles.{place_at, chosen_push, chosen_energy}
 use Rattle.lj_tile.specs.Task.{Task, are_in_order, class_in}
@@ -44,10 +44,6 @@ pub record IsSilent (w : Task) (t s : ℕ) : Type 0 where
   pub back : push_back w t s ≡ no_push
   pub energy : energy_of w t s ≡ pos 0
 
--- the sums of the second block's places are the pushes by the first t places of the first
-abbrev pub AreRows : Task → ℕ → List Push → Type 0
-AreRows w t sums = (s : ℕ) → s < length w.b.places → slice_index_or sums s no_push ≡ sum_on_second w s t
-
 -- the push by place s of a block on an atom `here`, if the place is in a set
 abbrev pub push_in : Scale → ℕ → Place → List Place → ℕ → Push
 push_in u set here places s = chosen_push u (is_in set s) here (place_at places s)
@@ -59,18 +55,6 @@ pushes_in u set here places n = record {
   y = ring_sum n (λ s. (push_in u set here places s).y);
   z = ring_sum n (λ s. (push_in u set here places s).z);
 }
-
--- a sum of pushes, with the push by an atom `here` on one at `there` added if `pushes`
-abbrev pub push_if : Bool → Scale → Place → Place → Push → Push
-push_if pushes u here there sum = if pushes then sum_of_pushes sum (push u there here) else sum
-
--- the sums of places of a block below n have grown by the push of an atom `here`, where the place is in a set
-pub record ArePushed (u : Scale) (set : ℕ) (here : Place) (places : List Place) (n : ℕ) (old new : List Push) : Type 0 where
-  pub passed : (s : ℕ) → s < length places → s < n
-      → slice_index_or new s no_push
-      ≡ push_if (is_in set s) u here (place_at places s) (slice_index_or old s no_push)
-  pub ahead : (s : ℕ) → s < length places → n ≤ s
-      → slice_index_or new s no_push ≡ slice_index_or old s no_push
 
 -- the energy of place t of the first block with the later atoms of the second
 abbrev pub energy_row : Task → ℕ → ℤ
