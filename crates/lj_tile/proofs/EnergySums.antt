@@ -21,7 +21,7 @@ use Rattle.lj_tile.specs.Task.{Task, task_energy, are_in_order, class_in}
 use Rattle.lj_tile.specs.Rows.{energy_of, energy_row, energy_in, energies_in}
 use Rattle.lj_tile.specs.Pairs.{row_pairs}
 use Rattle.lj_tile.specs.Energies.{pair_energy, list_energy, lists_energy, chosen_row, rows_energy}
-use Rattle.lj_tile.proofs.Splits.{in_none, in_firsts, in_seconds, RowSplit}
+use Rattle.lj_tile.proofs.Splits.{in_none, in_firsts, in_seconds, RowSplit, SplitRow}
 use Rattle.lj_tile.proofs.SumLemmas.{sum_past, abs_add}
 use Rattle.lj_tile.proofs.RowSums.{pairs_to, pairs_more, pairs_same, pairs_zero, pair_first, pair_second, whole_row, none_behind}
 use Rattle.lj_tile.proofs.RowSums.{is_in_set, is_not_in, IsOfOne, IsSilentRow, of_one, of_other, of_none}
@@ -146,30 +146,26 @@ split_energy w t firsts seconds s split =
     ]
 
 -- the energies of a row with the places of both sets are those of the row
-row_both : (w : Task) (t firsts seconds : ℕ) → length w.b.places ≤ 64
-    → ((s : ℕ) → bit_at firsts s ≡ 1 → s < length w.b.places) → ((s : ℕ) → bit_at seconds s ≡ 1 → s < length w.b.places)
-    → ((s : ℕ) → s < length w.b.places → RowSplit w t firsts seconds s)
+row_both : (w : Task) (t firsts seconds : ℕ) → SplitRow w t firsts seconds
     → list_energy (class_with w t First) w.a.places w.b.places (row_pairs t firsts)
     +ℤ list_energy (class_with w t Second) w.a.places w.b.places (row_pairs t seconds) ≡ energy_row w t
-row_both w t firsts seconds few first_set second_set split =
+row_both w t firsts seconds row =
     rw (
-      row_whole (class_with w t First) w.a.places w.b.places t firsts few first_set,
-      row_whole (class_with w t Second) w.a.places w.b.places t seconds few second_set,
+      row_whole (class_with w t First) w.a.places w.b.places t firsts row.few row.first_within,
+      row_whole (class_with w t Second) w.a.places w.b.places t seconds row.few row.second_within,
     )
-    (int_sum_both (length w.b.places) _ _ (energy_of w t) (λ s h. split_energy w t firsts seconds s (split s h)))
+    (int_sum_both (length w.b.places) _ _ (energy_of w t) (λ s h. split_energy w t firsts seconds s (row.split s h)))
 
 -- a row is added where the pairs of both its parts are
 pub row_energy_added : (w : Task) (t firsts seconds : ℕ) (ps qs ps_after qs_after : List ℕ) (one other : ℤ)
-    → length w.b.places ≤ 64
-    → ((s : ℕ) → bit_at firsts s ≡ 1 → s < length w.b.places) → ((s : ℕ) → bit_at seconds s ≡ 1 → s < length w.b.places)
-    → ((s : ℕ) → s < length w.b.places → RowSplit w t firsts seconds s)
+    → SplitRow w t firsts seconds
     → one +ℤ list_energy (class_with w t First) w.a.places w.b.places ps_after
     ≡ list_energy (class_with w t First) w.a.places w.b.places (ps ++ row_pairs t firsts)
     → other +ℤ list_energy (class_with w t Second) w.a.places w.b.places qs_after
     ≡ list_energy (class_with w t Second) w.a.places w.b.places (qs ++ row_pairs t seconds)
     → one +ℤ other +ℤ lists_energy w (class_with w t First) (class_with w t Second) ps_after qs_after
     ≡ lists_energy w (class_with w t First) (class_with w t Second) ps qs +ℤ energy_row w t
-row_energy_added w t firsts seconds ps qs ps_after qs_after one other few first_set second_set split of_firsts of_seconds =
+row_energy_added w t firsts seconds ps qs ps_after qs_after one other split of_firsts of_seconds =
     let k = class_with w t First in
     let l = class_with w t Second in
     let a = w.a.places in
@@ -178,7 +174,7 @@ row_energy_added w t firsts seconds ps qs ps_after qs_after one other few first_
     (list_energy k a b (row_pairs t firsts)) (list_energy l a b (row_pairs t seconds)) (energy_row w t)
     (of_firsts ∙ energy_appended (class_with w t First) w.a.places w.b.places ps (row_pairs t firsts))
     (of_seconds ∙ energy_appended (class_with w t Second) w.a.places w.b.places qs (row_pairs t seconds))
-    (row_both w t firsts seconds few first_set second_set split)
+    (row_both w t firsts seconds split)
   where
     of_row : (one other pa qa p q f g row : ℤ) → one +ℤ pa ≡ p +ℤ f → other +ℤ qa ≡ q +ℤ g → f +ℤ g ≡ row
         → one +ℤ other +ℤ (pa +ℤ qa) ≡ (p +ℤ q) +ℤ row

@@ -21,7 +21,7 @@ use Rattle.lj_tile.specs.Pairs.{members, row_pairs, first_of, second_of, ArePair
 use Rattle.lj_tile.specs.Pairs.{IsMore, HavePushes, HaveTotals, total, total_of_two, HaveRow, HaveRows, rows_on_first, rows_on_second, row_on_second, IsPushOnRing}
 use Rattle.lj_tile.proofs.Opposites.{same_push}
 use Rattle.lj_ring.specs.declared.mixes.Species.TheVariants.{First, Second}
-use Rattle.lj_tile.proofs.Splits.{in_none, in_firsts, in_seconds, RowSplit, scale_with, row_sum}
+use Rattle.lj_tile.proofs.Splits.{in_none, in_firsts, in_seconds, RowSplit, SplitRow, scale_with, row_sum}
 use Rattle.lj_tile.proofs.RowLemmas.{pushes_more, pushes_past, row_silent, second_more}
 use Rattle.lj_tile.proofs.PairSums.{sum_appended, sum_of_one, whole_sum, sums_joined, more_none}
 
@@ -222,14 +222,12 @@ there_pairs u a b s t set few =
     ap (sum_of_pairs (push_on_second u a b s)) (whole_row t set) ∙ row_there u a b s t set 64 (omega arith) few
 
 -- what a row adds to its own place and to others of its block
-pub row_sum_first : (w : Task) (k t firsts seconds : ℕ) → length w.b.places ≤ 64
-    → ((s : ℕ) → bit_at firsts s ≡ 1 → s < length w.b.places) → ((s : ℕ) → bit_at seconds s ≡ 1 → s < length w.b.places)
-    → ((s : ℕ) → s < length w.b.places → RowSplit w t firsts seconds s)
+pub row_sum_first : (w : Task) (k t firsts seconds : ℕ) → SplitRow w t firsts seconds
     → (let a = w.a.places in let b = w.b.places in
     sum_of_pushes (if k == t then sum_on_first w t (length b) else no_push) no_push
     ≡ sum_of_pushes (sum_of_pairs (push_on_first (scale_with w t First) a b k) (row_pairs t firsts))
     (sum_of_pairs (push_on_first (scale_with w t Second) a b k) (row_pairs t seconds)))
-row_sum_first w k t firsts seconds few first_set second_set split =
+row_sum_first w k t firsts seconds row =
     let a = w.a.places in
     let b = w.b.places in
     let u = scale_with w t First in
@@ -238,9 +236,9 @@ row_sum_first w k t firsts seconds few first_set second_set split =
       | inl same ↦
           let p = pushes_in u firsts (place_at a t) b (length b) in
           let q = pushes_in v seconds (place_at a t) b (length b) in
-          let both = row_sum w t firsts seconds split in
-          let own = ap (λ r. sum_of_pushes r (sum_of_pairs (push_on_first v a b t) (row_pairs t seconds))) (own_pairs u a b t firsts few first_set)
-          ∙ ap (sum_of_pushes p) (own_pairs v a b t seconds few second_set) in
+          let both = row_sum w t firsts seconds row.split in
+          let own = ap (λ r. sum_of_pushes r (sum_of_pairs (push_on_first v a b t) (row_pairs t seconds))) (own_pairs u a b t firsts row.few row.first_within)
+          ∙ ap (sum_of_pushes p) (own_pairs v a b t seconds row.few row.second_within) in
           rw (chosen k t same) (ap (λ r. sum_of_pushes r no_push) (sym both) ∙ more_none p q ∙ at_t (sym own) (sym same))
       | inr other ↦
           let turned : t ≢ k = omega (arith, other) in
@@ -284,25 +282,23 @@ row_sum_second w s t firsts seconds few within split =
 
 -- a row is added where the pairs of both its parts are
 pub row_added : (w : Task) (t firsts seconds : ℕ) (ps qs ps_after qs_after : List ℕ) (old mid new : ForceSums)
-    → length w.b.places ≤ 64
-    → ((s : ℕ) → bit_at firsts s ≡ 1 → s < length w.b.places) → ((s : ℕ) → bit_at seconds s ≡ 1 → s < length w.b.places)
-    → ((s : ℕ) → s < length w.b.places → RowSplit w t firsts seconds s)
+    → SplitRow w t firsts seconds
     → HaveTotals (scale_with w t First) w.a.places w.b.places (ps ++ row_pairs t firsts) ps_after old mid
     → HaveTotals (scale_with w t Second) w.a.places w.b.places (qs ++ row_pairs t seconds) qs_after mid new
     → HaveRow w (scale_with w t First) (scale_with w t Second) t ps qs ps_after qs_after old new
-row_added w t firsts seconds ps qs ps_after qs_after old mid new few first_set second_set split one other = record {
+row_added w t firsts seconds ps qs ps_after qs_after old mid new row one other = record {
   first = λ k h.
       two_more (push_on_first (scale_with w t First) w.a.places w.b.places k) (push_on_first (scale_with w t Second) w.a.places w.b.places k)
       ps qs ps_after qs_after (row_pairs t firsts) (row_pairs t seconds) (slice_index_or old.first k no_push)
       (slice_index_or mid.first k no_push) (slice_index_or new.first k no_push) _ (one.first k h) (other.first k h)
-      (row_sum_first w k t firsts seconds few first_set second_set split);
+      (row_sum_first w k t firsts seconds row);
   second = λ s h.
-      let below : s < 64 = omega (arith, few, h) in
+      let below : s < 64 = omega (arith, row.few, h) in
       two_more (push_on_second (scale_with w t First) w.a.places w.b.places s)
       (push_on_second (scale_with w t Second) w.a.places w.b.places s) ps qs ps_after qs_after (row_pairs t firsts)
       (row_pairs t seconds) (slice_index_or old.second s no_push) (slice_index_or mid.second s no_push)
       (slice_index_or new.second s no_push) _ (one.second s below) (other.second s below)
-      (row_sum_second w s t firsts seconds few h (split s h));
+      (row_sum_second w s t firsts seconds row.few h (row.split s h));
   firsts = other.firsts ∙ one.firsts;
   seconds = other.seconds ∙ one.seconds;
 }

@@ -1,5 +1,5 @@
 -- The places of a block that may interact with an atom, split by their species.
-use Rattle.std.proofs.Common.{ℕ, ◌+◌, ◌-◌, ◌%◌, ◌^◌, ◌<◌, ◌≤◌, ◌≡◌, ◌&&◌, Bool, true, false, nat_lt, nat_le, min, length, bit_and, w64, refl, sym, ap, ◌∙◌, inl, inr, arith}
+use Rattle.std.proofs.Common.{ℕ, ◌+◌, ◌-◌, ◌%◌, ◌^◌, ◌<◌, ◌≤◌, ◌≡◌, ◌&&◌, Bool, true, false, nat_lt, nat_le, min, length, bit_and, w64, refl, sym, ap, subst, ◌∙◌, inl, inr, arith}
 use Rattle.std.specs.Int.{bit_at, bit_not}
 use Rattle.std.proofs.lemmas.Nat.Bits.{bit_at_and, bit_at_not, bit_at-lt, bit_at_ones, bit_at_ones_above}
 use Rattle.std.proofs.lemmas.Bool.{cases_lt}
@@ -7,8 +7,9 @@ use Rattle.std.proofs.lemmas.Bool.Decides.{nat_tests}
 use Rattle.lj_ring.specs.declared.coordinates.Place.{Place}
 use Rattle.lj_ring.specs.declared.mixes.Species.{Species}
 use Rattle.lj_ring.specs.declared.mixes.Species.TheVariants.{First, Second}
-use Rattle.lj_ring.specs.Mix.{class_of}
-use Rattle.lj_ring.specs.Ring.{ring_sum}
+use Rattle.lj_ring.specs.Mix.{class_of, can_interact}
+use Rattle.lj_ring.specs.Ring.{ring_sum, squared_distance, IsOnRing}
+use Rattle.lj_ring.proofs.MixLemmas.{cannot_interact}
 use Rattle.lj_ring.specs.Scale.{Scale}
 use Rattle.lj_tile.specs.declared.pairs.Push.{Push}
 use Rattle.lj_tile.specs.Pushes.{no_push, sum_of_pushes}
@@ -17,7 +18,8 @@ use Rattle.lj_tile.specs.Tiles.{place_at, chosen_push}
 use Rattle.lj_tile.specs.Task.{Task, are_in_order, class_in}
 use Rattle.lj_tile.specs.Rows.{push_of, sum_on_first, pushes_in, push_in, IsSilent}
 use Rattle.lj_tile.proofs.Opposites.{same_push}
-use Rattle.lj_tile.proofs.RowLemmas.{sum_both}
+use Rattle.lj_tile.specs.Pairs.{AreOnRing}
+use Rattle.lj_tile.proofs.RowLemmas.{sum_both, not_in_order, far_silent}
 
 -- a place is in none of two sets, and silent there; or it is in the one set, in order, and of the first species; or it is
 -- in the other, in order, and of the second
@@ -157,6 +159,36 @@ row_sum w t firsts seconds split =
         let both = sum_both (length w.b.places) _ _ (λ s. axis (push_of w t s))
         (λ s h. split_push axis none w t firsts seconds s (split s h)) in
         omega (arith, both)
+
+-- two sets of places of the second block that split row t, each within the block
+pub record SplitRow (w : Task) (t firsts seconds : ℕ) : Type 0 where
+  pub few : length w.b.places ≤ 64
+  pub first_within : (s : ℕ) → bit_at firsts s ≡ 1 → s < length w.b.places
+  pub second_within : (s : ℕ) → bit_at seconds s ≡ 1 → s < length w.b.places
+  pub split : (s : ℕ) → s < length w.b.places → RowSplit w t firsts seconds s
+
+-- the near places of a row that are in order, split by species
+pub row_split : (w : Task) (t near ordered_set bits : ℕ) (here : Place) → length w.b.places ≤ 64 → bits < 2 ^ 64
+    → bits ≡ w.b.species_bits → here ≡ place_at w.a.places t → IsOnRing (place_at w.a.places t) → AreOnRing w.b.places
+    → ((s : ℕ) → s < length w.b.places → bit_at near s ≡ 0
+    → can_interact w.mix (squared_distance here (place_at w.b.places s)) ≡ false)
+    → ((s : ℕ) → is_in ordered_set s ≡ (nat_lt s (length w.b.places) && are_in_order w t s))
+    → SplitRow w t (bit_and (bit_and near ordered_set) (bit_not w64 bits)) (bit_and (bit_and near ordered_set) bits)
+row_split w t near ordered_set bits here few small bits_are here_is on_ring are_on_ring far later = record {
+  few = few;
+  first_within = λ s set. part_within near ordered_set _ s (length w.b.places) _ (later s) set;
+  second_within = λ s set. part_within near ordered_set _ s (length w.b.places) _ (later s) set;
+  split = λ s within.
+      let silent : bit_at near s ≡ 0 → IsSilent w t s =
+      λ none. far_silent w t s on_ring (are_on_ring s within)
+      (cannot_interact w.mix (species_at w.a.species_bits t) (species_at w.b.species_bits s) _
+      (rw here_is at (far s within none))) in
+      subst
+      (λ (species : ℕ). IsSplit (bit_and (bit_and near ordered_set) (bit_not w64 bits)) (bit_and (bit_and near ordered_set) bits)
+      species s (are_in_order w t s) (IsSilent w t s)) bits_are
+      (split_of near ordered_set bits s (length w.b.places) (are_in_order w t s) (IsSilent w t s) small
+      (omega (arith, within, few)) within (later s) silent (not_in_order w t s));
+}
 
 -- the lowest bits of a number
 pub ones_are : (n count k : ℕ) → n ≡ 2 ^ count - 1 → is_in n k ≡ nat_lt k count
