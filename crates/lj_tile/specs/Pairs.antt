@@ -4,10 +4,13 @@ use Rattle.std.specs.Prelude.{slice_index_or, if◌then◌else◌}
 use Rattle.lj_ring.specs.Scale.{Scale}
 use Rattle.lj_ring.specs.Ring.{IsOnRing}
 use Rattle.lj_tile.specs.declared.blocks.TheConstants.{BLOCK}
+use Rattle.lj_tile.specs.declared.near.Columns.{Columns}
+use Rattle.lj_tile.specs.declared.near_pairs.TheConstants.{FULL}
 use Rattle.lj_tile.specs.declared.pairs.Push.{Push}
 use Rattle.lj_tile.specs.Pushes.{no_push, sum_of_pushes, push}
 use Rattle.std.specs.Int.{bit_at}
-use Rattle.lj_ring.specs.Mix.{class_of}
+use Rattle.lj_ring.specs.Mix.{class_of, can_interact}
+use Rattle.lj_tile.specs.Near.{HasColumns}
 use Rattle.lj_ring.specs.declared.mixes.Species.{Species}
 use Rattle.lj_tile.specs.Species.{is_in, species_at}
 use Rattle.lj_tile.specs.Task.{Task}
@@ -37,6 +40,11 @@ second_of pair = pair % BLOCK
 pub record ArePairs (a b : List Place) (pairs : List ℕ) : Type 0 where
   pub first : (i : ℕ) → i < length pairs → first_of (slice_index_or pairs i 0) < length a
   pub second : (i : ℕ) → i < length pairs → second_of (slice_index_or pairs i 0) < length b
+
+-- pairs that are fewer than a full list has
+pub record AreFewPairs (a b : List Place) (pairs : List ℕ) : Type 0 where
+  pub few : length pairs < FULL
+  pub within : ArePairs a b pairs
 
 -- the push that a pair of one class adds to the sum of place t of the first block
 abbrev pub push_on_first : Scale → (a b : List Place) → ℕ → ℕ → Push
@@ -69,6 +77,12 @@ pub record HavePushes (u : Scale) (a b : List Place) (pairs : List ℕ) (old new
 -- each place of a list lies on the ring
 abbrev pub AreOnRing : List Place → Type 0
 AreOnRing places = (k : ℕ) → k < length places → IsOnRing (place_at places k)
+
+-- the columns of the second block of a task, both of whose blocks' places lie on the ring
+pub record AreColumnsOf (w : Task) (columns : Columns) : Type 0 where
+  pub of_places : HasColumns (can_interact w.mix) columns w.b.places
+  pub first : AreOnRing w.a.places
+  pub second : AreOnRing w.b.places
 
 -- a sum plus the pushes of the pairs that are still to be added
 abbrev pub total : (ℕ → Push) → List ℕ → Push → Push

@@ -3,18 +3,17 @@ ghost use Rattle.std.specs.Prelude.{◌≡◌, ◌≤◌, ◌<◌, ◌+◌, ◌*
 ghost use Rattle.std.specs.Prelude.{unsigned_abs, nat_lt, take, replicate};
 ghost use Rattle.std.specs.Int.{bit_at};
 ghost use Rattle.lj_ring.specs.Ring.{IsOnRing};
-ghost use Rattle.lj_ring.specs.Mix.{can_interact, class_of};
+ghost use Rattle.lj_ring.specs.Mix.{class_of};
 ghost use Rattle.lj_tile.specs.Pushes.{no_push, sum_of_pushes};
 ghost use Rattle.lj_tile.specs.Species as species;
 ghost use Rattle.lj_tile.specs.Species.{is_in};
 ghost use Rattle.lj_tile.specs.Tiles.{place_at};
-ghost use Rattle.lj_tile.specs.Near.{HasColumns};
 ghost use Rattle.lj_tile.specs.Task.{task_force, task_second, task_energy, are_in_order};
 ghost use Rattle.lj_tile.specs.Rows.{sum_on_first, sum_on_second, energy_row, IsSilent};
-ghost use Rattle.lj_tile.specs.Pairs.{row_pairs, scale_between, ArePairs, AreOnRing, AreRowsOf, HaveRow, HaveRows, HaveTotals, IsPushOnRing};
+ghost use Rattle.lj_tile.specs.Pairs.{row_pairs, scale_between, AreColumnsOf, AreFewPairs, AreOnRing, AreRowsOf};
+ghost use Rattle.lj_tile.specs.Pairs.{HaveRow, HaveRows, HaveTotals, IsPushOnRing};
 ghost use Rattle.lj_tile.specs.Energies.{list_energy, lists_energy, rows_energy};
 ghost use Rattle.lj_ring.specs.declared.mixes.Species.TheVariants as variants;
-ghost use Rattle.lj_tile.specs.declared.near_pairs.TheConstants.{FULL};
 
 use crate::blocks::BLOCK;
 use crate::energies::{energy_of_all, energy_of_most};
@@ -189,9 +188,7 @@ fn read_sum(_sum: Push)
 /// it makes no test.
 #[inline]
 fn near_rows(task: &Task, columns: &Columns) -> u64
-    requires columns { HasColumns (can_interact task.now.mix) columns.now task.now.b.places }
-    requires first { AreOnRing task.now.a.places }
-    requires second { AreOnRing task.now.b.places }
+    requires columns { AreColumnsOf task.now columns.now }
     ensures within { (t : ℕ) → bit_at result t ≡ 1 → t < length task.now.a.places }
     ensures far { (t : ℕ) → t < length task.now.a.places → bit_at result t ≡ 0
         → (s : ℕ) → s < length task.now.b.places → IsSilent task.now t s }
@@ -216,18 +213,12 @@ fn add_rows(
     of_seconds: &mut NearPairs,
     sums: &mut ForceSums,
 )
-    requires columns { HasColumns (can_interact task.now.mix) columns.now task.now.b.places }
-    requires first { AreOnRing task.now.a.places }
-    requires second { AreOnRing task.now.b.places }
+    requires columns { AreColumnsOf task.now columns.now }
     requires rows { AreRowsOf task.now own rows }
-    requires few_firsts { length of_firsts.old < FULL }
-    requires few_seconds { length of_seconds.old < FULL }
-    requires firsts { ArePairs task.now.a.places task.now.b.places of_firsts.old }
-    requires seconds { ArePairs task.now.a.places task.now.b.places of_seconds.old }
-    ensures few_firsts { length of_firsts.new < FULL }
-    ensures few_seconds { length of_seconds.new < FULL }
-    ensures firsts { ArePairs task.now.a.places task.now.b.places of_firsts.new }
-    ensures seconds { ArePairs task.now.a.places task.now.b.places of_seconds.new }
+    requires firsts { AreFewPairs task.now.a.places task.now.b.places of_firsts.old }
+    requires seconds { AreFewPairs task.now.a.places task.now.b.places of_seconds.old }
+    ensures firsts { AreFewPairs task.now.a.places task.now.b.places of_firsts.new }
+    ensures seconds { AreFewPairs task.now.a.places task.now.b.places of_seconds.new }
     ensures sums { HaveRows task.now (scale_between task.now own variants.First) (scale_between task.now own variants.Second) rows BLOCK
         of_firsts.old of_seconds.old of_firsts.new of_seconds.new sums.old sums.new }
 {
@@ -255,19 +246,13 @@ fn add_row(
     of_seconds: &mut NearPairs,
     sums: &mut ForceSums,
 )
-    requires columns { HasColumns (can_interact task.now.mix) columns.now task.now.b.places }
-    requires first { AreOnRing task.now.a.places }
-    requires second { AreOnRing task.now.b.places }
+    requires columns { AreColumnsOf task.now columns.now }
     requires row { t < length task.now.a.places }
     requires own { own ≡ species.species_at task.now.a.species_bits t }
-    requires few_firsts { length of_firsts.old < FULL }
-    requires few_seconds { length of_seconds.old < FULL }
-    requires firsts { ArePairs task.now.a.places task.now.b.places of_firsts.old }
-    requires seconds { ArePairs task.now.a.places task.now.b.places of_seconds.old }
-    ensures few_firsts { length of_firsts.new < FULL }
-    ensures few_seconds { length of_seconds.new < FULL }
-    ensures firsts { ArePairs task.now.a.places task.now.b.places of_firsts.new }
-    ensures seconds { ArePairs task.now.a.places task.now.b.places of_seconds.new }
+    requires firsts { AreFewPairs task.now.a.places task.now.b.places of_firsts.old }
+    requires seconds { AreFewPairs task.now.a.places task.now.b.places of_seconds.old }
+    ensures firsts { AreFewPairs task.now.a.places task.now.b.places of_firsts.new }
+    ensures seconds { AreFewPairs task.now.a.places task.now.b.places of_seconds.new }
     ensures sums { HaveRow task.now (scale_between task.now own variants.First) (scale_between task.now own variants.Second) t
         of_firsts.old of_seconds.old of_firsts.new of_seconds.new sums.old sums.new }
 {
@@ -310,10 +295,8 @@ fn add_some_pairs(
     requires second { AreOnRing task.now.b.places }
     requires row { t < length task.now.a.places }
     requires set { (s : ℕ) → bit_at set s ≡ 1 → s < length task.now.b.places }
-    requires few { length pairs.old < FULL }
-    requires pairs { ArePairs task.now.a.places task.now.b.places pairs.old }
-    ensures few { length pairs.new < FULL }
-    ensures pairs { ArePairs task.now.a.places task.now.b.places pairs.new }
+    requires pairs { AreFewPairs task.now.a.places task.now.b.places pairs.old }
+    ensures pairs { AreFewPairs task.now.a.places task.now.b.places pairs.new }
     ensures totals { HaveTotals scale.now task.now.a.places task.now.b.places (pairs.old ++ row_pairs t set) pairs.new
         sums.old sums.new }
 {
@@ -338,10 +321,8 @@ fn add_pairs(
     requires second { AreOnRing task.now.b.places }
     requires row { t < length task.now.a.places }
     requires set { (s : ℕ) → bit_at set s ≡ 1 → s < length task.now.b.places }
-    requires few { length pairs.old < FULL }
-    requires pairs { ArePairs task.now.a.places task.now.b.places pairs.old }
-    ensures few { length pairs.new < FULL }
-    ensures pairs { ArePairs task.now.a.places task.now.b.places pairs.new }
+    requires pairs { AreFewPairs task.now.a.places task.now.b.places pairs.old }
+    ensures pairs { AreFewPairs task.now.a.places task.now.b.places pairs.new }
     ensures totals { HaveTotals scale.now task.now.a.places task.now.b.places (pairs.old ++ row_pairs t set) pairs.new
         sums.old sums.new }
 {
@@ -429,18 +410,12 @@ fn energy_of_rows(
     of_firsts: &mut NearPairs,
     of_seconds: &mut NearPairs,
 ) -> i64
-    requires columns { HasColumns (can_interact task.now.mix) columns.now task.now.b.places }
-    requires first { AreOnRing task.now.a.places }
-    requires second { AreOnRing task.now.b.places }
+    requires columns { AreColumnsOf task.now columns.now }
     requires rows { AreRowsOf task.now own rows }
-    requires few_firsts { length of_firsts.old < FULL }
-    requires few_seconds { length of_seconds.old < FULL }
-    requires firsts { ArePairs task.now.a.places task.now.b.places of_firsts.old }
-    requires seconds { ArePairs task.now.a.places task.now.b.places of_seconds.old }
-    ensures few_firsts { length of_firsts.new < FULL }
-    ensures few_seconds { length of_seconds.new < FULL }
-    ensures firsts { ArePairs task.now.a.places task.now.b.places of_firsts.new }
-    ensures seconds { ArePairs task.now.a.places task.now.b.places of_seconds.new }
+    requires firsts { AreFewPairs task.now.a.places task.now.b.places of_firsts.old }
+    requires seconds { AreFewPairs task.now.a.places task.now.b.places of_seconds.old }
+    ensures firsts { AreFewPairs task.now.a.places task.now.b.places of_firsts.new }
+    ensures seconds { AreFewPairs task.now.a.places task.now.b.places of_seconds.new }
     ensures value { let with_first = class_of task.now.mix own variants.First in
         let with_second = class_of task.now.mix own variants.Second in
         result +ℤ lists_energy task.now with_first with_second of_firsts.new of_seconds.new
@@ -472,19 +447,13 @@ fn energy_of_row(
     of_firsts: &mut NearPairs,
     of_seconds: &mut NearPairs,
 ) -> i64
-    requires columns { HasColumns (can_interact task.now.mix) columns.now task.now.b.places }
-    requires first { AreOnRing task.now.a.places }
-    requires second { AreOnRing task.now.b.places }
+    requires columns { AreColumnsOf task.now columns.now }
     requires row { t < length task.now.a.places }
     requires own { own ≡ species.species_at task.now.a.species_bits t }
-    requires few_firsts { length of_firsts.old < FULL }
-    requires few_seconds { length of_seconds.old < FULL }
-    requires firsts { ArePairs task.now.a.places task.now.b.places of_firsts.old }
-    requires seconds { ArePairs task.now.a.places task.now.b.places of_seconds.old }
-    ensures few_firsts { length of_firsts.new < FULL }
-    ensures few_seconds { length of_seconds.new < FULL }
-    ensures firsts { ArePairs task.now.a.places task.now.b.places of_firsts.new }
-    ensures seconds { ArePairs task.now.a.places task.now.b.places of_seconds.new }
+    requires firsts { AreFewPairs task.now.a.places task.now.b.places of_firsts.old }
+    requires seconds { AreFewPairs task.now.a.places task.now.b.places of_seconds.old }
+    ensures firsts { AreFewPairs task.now.a.places task.now.b.places of_firsts.new }
+    ensures seconds { AreFewPairs task.now.a.places task.now.b.places of_seconds.new }
     ensures value { let with_first = class_of task.now.mix own variants.First in
         let with_second = class_of task.now.mix own variants.Second in
         result +ℤ lists_energy task.now with_first with_second of_firsts.new of_seconds.new
@@ -513,10 +482,8 @@ fn energy_of_pairs(
 ) -> i64
     requires row { t < length task.now.a.places }
     requires set { (s : ℕ) → bit_at set s ≡ 1 → s < length task.now.b.places }
-    requires few { length pairs.old < FULL }
-    requires pairs { ArePairs task.now.a.places task.now.b.places pairs.old }
-    ensures few { length pairs.new < FULL }
-    ensures pairs { ArePairs task.now.a.places task.now.b.places pairs.new }
+    requires pairs { AreFewPairs task.now.a.places task.now.b.places pairs.old }
+    ensures pairs { AreFewPairs task.now.a.places task.now.b.places pairs.new }
     ensures value { result +ℤ list_energy class.now task.now.a.places task.now.b.places pairs.new
         ≡ list_energy class.now task.now.a.places task.now.b.places (pairs.old ++ row_pairs t set) }
     ensures size { unsigned_abs result ≤ 2 ^ 52 }

@@ -9,10 +9,10 @@ pub work_off-requires-clause-pairs : goal.work_off-requires-clause-pairs
 work_off-requires-clause-pairs c =
     rw (c.places-first.ensures.value, c.first.ensures.value, c.places-second.ensures.value, c.second.ensures.value, c.append.ensures)
     (row_within c.args.task.now.a.places c.args.task.now.b.places c.args.pairs.now c.args.t c.args.set c.requires.row
-    c.first.ensures.sound.most_second c.requires.set c.requires.pairs)
+    c.first.ensures.sound.most_second c.requires.set c.requires.pairs.within)
 
 pub returns-else-len-ge-FULL-clause-pairs : goal.returns-else-len-ge-FULL-clause-pairs
 returns-else-len-ge-FULL-clause-pairs c =
-    rw c.append.ensures
-    (row_within c.args.task.now.a.places c.args.task.now.b.places c.args.pairs.now c.args.t c.args.set c.requires.row
-    c.first.ensures.sound.most_second c.requires.set c.requires.pairs)
+    let within = row_within c.args.task.now.a.places c.args.task.now.b.places c.args.pairs.now c.args.t c.args.set c.requires.row
+    c.first.ensures.sound.most_second c.requires.set c.requires.pairs.within in
+    record { few = omega (arith, c.len.ensures, c.if-len-ge-FULL.false); within = rw c.append.ensures within }

@@ -19,7 +19,7 @@ returns-clause-sums c =
     c.add_some_pairs.new.pairs c.args.sums.now c.add_pairs.new.sums c.add_some_pairs.new.sums
     (row_split c.args.task.now c.args.t c.near.result c.later.result _ _ c.second.ensures.sound.most_second (omega arith)
     (rw (c.species_bits-species_bits.ensures, c.second.ensures.value)) (rw (c.places.ensures.value, c.first.ensures.value))
-    (c.requires.first c.args.t c.requires.row) c.requires.second
-    (c.near.ensures (can_interact c.args.task.now.mix) c.args.task.now.b.places c.requires.columns) c.later.ensures)
+    (c.requires.columns.first c.args.t c.requires.row) c.requires.columns.second
+    (c.near.ensures (can_interact c.args.task.now.mix) c.args.task.now.b.places c.requires.columns.of_places) c.later.ensures)
     (rw (c.class-with_first.ensures.value, c.mix.ensures, c.requires.own) at c.add_pairs.ensures.totals)
     (rw (c.class-with_second.ensures.value, c.mix-2.ensures, c.requires.own) at c.add_some_pairs.ensures.totals))

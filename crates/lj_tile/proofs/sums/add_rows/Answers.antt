@@ -10,8 +10,6 @@ pub loop-rest-init : goal.loop-rest-init
 loop-rest-init c = record {
   within = omega arith;
   bits = from_all c.args.rows;
-  few_firsts = c.requires.few_firsts;
-  few_seconds = c.requires.few_seconds;
   firsts = c.requires.firsts;
   seconds = c.requires.seconds;
   sums = no_rows c.args.task.now (scale_between c.args.task.now c.args.own First) (scale_between c.args.task.now c.args.own Second)
@@ -45,8 +43,6 @@ loop-rest-preserved c =
     record {
       within = omega (arith, found.within);
       bits = from_next c.args.rows c.loop-rest.t c.loop-rest.rest _ c.loop-rest.invariant.bits;
-      few_firsts = c.add_row.ensures.few_firsts;
-      few_seconds = c.add_row.ensures.few_seconds;
       firsts = c.add_row.ensures.firsts;
       seconds = c.add_row.ensures.seconds;
       sums =

@@ -1,6 +1,6 @@
-use Rattle.std.proofs.Common.{◌≤◌, ◌<◌, ◌-◌, length}
+use Rattle.std.proofs.Common.{◌≤◌, ◌-◌}
 use Rattle.lj_ring.specs.declared.mixes.Species.TheVariants.{First, Second}
-use Rattle.lj_tile.specs.Pairs.{ArePairs, HaveRows, scale_between}
+use Rattle.lj_tile.specs.Pairs.{AreFewPairs, HaveRows, scale_between}
 use Rattle.lj_tile.proofs.SumLemmas.{IsFrom}
 use Rattle.lj_tile.proofs.sums.add_rows.Given as goal
 
@@ -8,10 +8,8 @@ abbrev pub invariant-loop-rest : goal.invariant-loop-rest
 invariant-loop-rest l = record {
   within : l.t ≤ 64;
   bits : IsFrom l.rows l.t l.rest;
-  few_firsts : length l.of_firsts < 64;
-  few_seconds : length l.of_seconds < 64;
-  firsts : ArePairs l.task.a.places l.task.b.places l.of_firsts;
-  seconds : ArePairs l.task.a.places l.task.b.places l.of_seconds;
+  firsts : AreFewPairs l.task.a.places l.task.b.places l.of_firsts;
+  seconds : AreFewPairs l.task.a.places l.task.b.places l.of_seconds;
   sums : HaveRows l.task (scale_between l.task l.own First) (scale_between l.task l.own Second) l.rows l.t l.fn.of_firsts
       l.fn.of_seconds l.of_firsts l.of_seconds l.fn.sums l.sums;
 }

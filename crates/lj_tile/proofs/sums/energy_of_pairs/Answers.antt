@@ -1,14 +1,15 @@
+use Rattle.std.proofs.Common.{arith}
 use Rattle.lj_tile.proofs.RowSums.{row_within}
 use Rattle.lj_tile.proofs.sums.energy_of_pairs.Goals as goal
 
 pub returns-then-len-lt-FULL-clause-pairs : goal.returns-then-len-lt-FULL-clause-pairs
 returns-then-len-lt-FULL-clause-pairs c =
-    rw c.append.ensures
-    (row_within c.args.task.now.a.places c.args.task.now.b.places c.args.pairs.now c.args.t c.args.set c.requires.row
-    c.first.ensures.sound.most_second c.requires.set c.requires.pairs)
+    let within = row_within c.args.task.now.a.places c.args.task.now.b.places c.args.pairs.now c.args.t c.args.set c.requires.row
+    c.first.ensures.sound.most_second c.requires.set c.requires.pairs.within in
+    record { few = omega (arith, c.len.ensures, c.if-len-lt-FULL.true); within = rw c.append.ensures within }
 
 pub energy_of_most-requires-clause-pairs : goal.energy_of_most-requires-clause-pairs
 energy_of_most-requires-clause-pairs c =
     rw (c.places-first.ensures.value, c.first.ensures.value, c.places-second.ensures.value, c.second.ensures.value, c.append.ensures)
     (row_within c.args.task.now.a.places c.args.task.now.b.places c.args.pairs.now c.args.t c.args.set c.requires.row
-    c.first.ensures.sound.most_second c.requires.set c.requires.pairs)
+    c.first.ensures.sound.most_second c.requires.set c.requires.pairs.within)

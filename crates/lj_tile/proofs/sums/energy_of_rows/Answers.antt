@@ -15,8 +15,6 @@ pub loop-rest-init : goal.loop-rest-init
 loop-rest-init c = record {
   within = omega arith;
   bits = from_all c.args.rows;
-  few_firsts = c.requires.few_firsts;
-  few_seconds = c.requires.few_seconds;
   firsts = c.requires.firsts;
   seconds = c.requires.seconds;
   value =
@@ -63,8 +61,6 @@ loop-rest-preserved c =
     record {
       within = omega (arith, found.within);
       bits = from_next c.args.rows c.loop-rest.t c.loop-rest.rest _ c.loop-rest.invariant.bits;
-      few_firsts = c.energy_of_row-sum.ensures.few_firsts;
-      few_seconds = c.energy_of_row-sum.ensures.few_seconds;
       firsts = c.energy_of_row-sum.ensures.firsts;
       seconds = c.energy_of_row-sum.ensures.seconds;
       value =

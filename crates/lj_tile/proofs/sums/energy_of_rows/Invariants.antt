@@ -1,7 +1,7 @@
-use Rattle.std.proofs.Common.{◌≡◌, ◌≤◌, ◌<◌, ◌-◌, ◌*◌, ◌^◌, ◌+ℤ◌, unsigned_abs, length}
+use Rattle.std.proofs.Common.{◌≡◌, ◌≤◌, ◌-◌, ◌*◌, ◌^◌, ◌+ℤ◌, unsigned_abs}
 use Rattle.lj_ring.specs.Mix.{class_of}
 use Rattle.lj_ring.specs.declared.mixes.Species.TheVariants.{First, Second}
-use Rattle.lj_tile.specs.Pairs.{ArePairs}
+use Rattle.lj_tile.specs.Pairs.{AreFewPairs}
 use Rattle.lj_tile.specs.Energies.{lists_energy, rows_energy}
 use Rattle.lj_tile.proofs.SumLemmas.{IsFrom}
 use Rattle.lj_tile.proofs.sums.energy_of_rows.Given as goal
@@ -10,10 +10,8 @@ abbrev pub invariant-loop-rest : goal.invariant-loop-rest
 invariant-loop-rest l = record {
   within : l.t ≤ 64;
   bits : IsFrom l.rows l.t l.rest;
-  few_firsts : length l.of_firsts < 64;
-  few_seconds : length l.of_seconds < 64;
-  firsts : ArePairs l.task.a.places l.task.b.places l.of_firsts;
-  seconds : ArePairs l.task.a.places l.task.b.places l.of_seconds;
+  firsts : AreFewPairs l.task.a.places l.task.b.places l.of_firsts;
+  seconds : AreFewPairs l.task.a.places l.task.b.places l.of_seconds;
   value : l.sum +ℤ lists_energy l.task (class_of l.task.mix l.own First) (class_of l.task.mix l.own Second) l.of_firsts l.of_seconds
       ≡ lists_energy l.task (class_of l.task.mix l.own First) (class_of l.task.mix l.own Second) l.fn.of_firsts l.fn.of_seconds
       +ℤ rows_energy l.task l.rows l.t;

@@ -39,6 +39,6 @@ returns-clause-far c t within none s also =
     is_set c.lowest_bits-all.result t (c.lowest_bits-all.ensures t ∙ is_below t (length c.places-places.result.now) inside) in
     let both = bit_at_and c.lowest_bits-all.result c.rows_near.result t in
     let far : bit_at c.rows_near.result t ≡ 0 = omega (arith, both, none, in_all, bit_at-lt c.rows_near.result t) in
-    far_silent w t s (c.requires.first t within) (c.requires.second s also)
+    far_silent w t s (c.requires.columns.first t within) (c.requires.columns.second s also)
     (cannot_interact w.mix (species_at w.a.species_bits t) (species_at w.b.species_bits s) _
-    (rw (places_is c) at (c.rows_near.ensures (can_interact w.mix) w.b.places c.requires.columns t inside far s also)))
+    (rw (places_is c) at (c.rows_near.ensures (can_interact w.mix) w.b.places c.requires.columns.of_places t inside far s also)))
