@@ -29,22 +29,44 @@ use Rattle.lj_tile.proofs.Opposites.{same_push, entry_far, nothing_back}
 sum_more : (f : ℕ → ℕ) (n p : ℕ) → p ≡ f n → (ring_sum n f + p) % 2 ^ 32 ≡ ring_sum (n + 1) f
 sum_more f n p e = rw (add-one, e) (omega arith)
 
+-- the ring sum of the first n of many pushes
+abbrev sums_to : (ℕ → Push) → ℕ → Push
+sums_to f n = record {
+  x = ring_sum n (λ k. (f k).x);
+  y = ring_sum n (λ k. (f k).y);
+  z = ring_sum n (λ k. (f k).z);
+}
+
+sums_more : (f : ℕ → Push) (n : ℕ) (p : Push) → p ≡ f n → sum_of_pushes (sums_to f n) p ≡ sums_to f (n + 1)
+sums_more f n p counts =
+    let x = sum_more (λ k. (f k).x) n p.x (ap (λ (q : Push). q.x) counts) in
+    let y = sum_more (λ k. (f k).y) n p.y (ap (λ (q : Push). q.y) counts) in
+    let z = sum_more (λ k. (f k).z) n p.z (ap (λ (q : Push). q.z) counts) in
+    cc (x, y, z)
+
+-- of pushes that are none from m on
+sums_far : (f : ℕ → Push) (m n : ℕ) → m ≤ n → ((k : ℕ) → m ≤ k → k < n → f k ≡ no_push) → sums_to f m ≡ sums_to f n
+sums_far f m n le none =
+    let x = sum_far (λ k. (f k).x) m n le (λ k h l. ap (λ (p : Push). p.x) (none k h l)) in
+    let y = sum_far (λ k. (f k).y) m n le (λ k h l. ap (λ (p : Push). p.y) (none k h l)) in
+    let z = sum_far (λ k. (f k).z) m n le (λ k h l. ap (λ (p : Push). p.z) (none k h l)) in
+    rw (x, y, z) refl
+
+sums_same : (f g : ℕ → Push) (n : ℕ) → ((k : ℕ) → k < n → f k ≡ g k) → sums_to f n ≡ sums_to g n
+sums_same f g n same =
+    let x = sum_same n (λ k. (f k).x) (λ k. (g k).x) (λ k h. ap (λ (p : Push). p.x) (same k h)) in
+    let y = sum_same n (λ k. (f k).y) (λ k. (g k).y) (λ k h. ap (λ (p : Push). p.y) (same k h)) in
+    let z = sum_same n (λ k. (f k).z) (λ k. (g k).z) (λ k h. ap (λ (p : Push). p.z) (same k h)) in
+    rw (x, y, z) refl
+
 -- one place more
 pub pushes_more : (u : Scale) (set : ℕ) (here : Place) (places : List Place) (n : ℕ) (p : Push)
     → p ≡ push_in u set here places n → sum_of_pushes (pushes_in u set here places n) p ≡ pushes_in u set here places (n + 1)
-pushes_more u set here places n p counts =
-    let x = sum_more (λ s. (push_in u set here places s).x) n p.x (ap (λ (q : Push). q.x) counts) in
-    let y = sum_more (λ s. (push_in u set here places s).y) n p.y (ap (λ (q : Push). q.y) counts) in
-    let z = sum_more (λ s. (push_in u set here places s).z) n p.z (ap (λ (q : Push). q.z) counts) in
-    cc (x, y, z)
+pushes_more u set here places n p counts = sums_more (push_in u set here places) n p counts
 
 -- one row more
 pub second_more : (w : Task) (s n : ℕ) (p : Push) → p ≡ push_back w n s → sum_of_pushes (sum_on_second w s n) p ≡ sum_on_second w s (n + 1)
-second_more w s n p counts =
-    let x = sum_more (λ t. (push_back w t s).x) n p.x (ap (λ (q : Push). q.x) counts) in
-    let y = sum_more (λ t. (push_back w t s).y) n p.y (ap (λ (q : Push). q.y) counts) in
-    let z = sum_more (λ t. (push_back w t s).z) n p.z (ap (λ (q : Push). q.z) counts) in
-    cc (x, y, z)
+second_more w s n p counts = sums_more (λ t. push_back w t s) n p counts
 
 outside : (u : Scale) (set : ℕ) (here : Place) (places : List Place) (s : ℕ) → bit_at set s ≡ 0
     → push_in u set here places s ≡ no_push
@@ -54,38 +76,15 @@ outside u set here places s not = rw not refl
 pub pushes_past : (u : Scale) (set : ℕ) (here : Place) (places : List Place) (m n : ℕ) → m ≤ n
     → ((s : ℕ) → m ≤ s → s < n → bit_at set s ≡ 0) → pushes_in u set here places m ≡ pushes_in u set here places n
 pushes_past u set here places m n le none =
-    let each : (s : ℕ) → m ≤ s → s < n → push_in u set here places s ≡ no_push =
-    λ s h k. outside u set here places s (none s h k) in
-    let x = sum_far (λ s. (push_in u set here places s).x) m n le (λ s h k. ap (λ (p : Push). p.x) (each s h k)) in
-    let y = sum_far (λ s. (push_in u set here places s).y) m n le (λ s h k. ap (λ (p : Push). p.y) (each s h k)) in
-    let z = sum_far (λ s. (push_in u set here places s).z) m n le (λ s h k. ap (λ (p : Push). p.z) (each s h k)) in
-    rw (x, y, z) refl
-
-pub length_set : (sums : List Push) (n : ℕ) (sum : Push) → length (slice_set sums n sum) ≡ length sums
-length_set sums n sum = search (rules, arith)
-
--- a row that does not push leaves a sum as it is
-pub second_silent : (w : Task) (s t : ℕ) → push_back w t s ≡ no_push → sum_on_second w s t ≡ sum_on_second w s (t + 1)
-second_silent w s t none =
-    let x = sum_far (λ k. (push_back w k s).x) t (t + 1) (omega arith) (λ k h l. last (λ p. p.x) refl k h l) in
-    let y = sum_far (λ k. (push_back w k s).y) t (t + 1) (omega arith) (λ k h l. last (λ p. p.y) refl k h l) in
-    let z = sum_far (λ k. (push_back w k s).z) t (t + 1) (omega arith) (λ k h l. last (λ p. p.z) refl k h l) in
-    rw (x, y, z) refl
-  where
-    last : (axis : Push → ℕ) → axis no_push ≡ 0 → (k : ℕ) → t ≤ k → k < t + 1 → axis (push_back w k s) ≡ 0
-    last axis zeros k h l =
-        let e : k ≡ t = omega arith in
-        ap (λ n. axis (push_back w n s)) e ∙ ap axis none ∙ zeros
+    sums_far (push_in u set here places) m n le (λ s h k. outside u set here places s (none s h k))
 
 -- a row of silent places adds nothing
 pub row_silent : (w : Task) (t : ℕ) → ((s : ℕ) → s < length w.b.places → IsSilent w t s)
     → no_push ≡ sum_on_first w t (length w.b.places)
-row_silent w t silent =
-    let n : ℕ = length w.b.places in
-    let x = sum_far (λ s. (push_of w t s).x) 0 n (omega arith) (λ s h k. ap (λ (p : Push). p.x) (silent s k).there) in
-    let y = sum_far (λ s. (push_of w t s).y) 0 n (omega arith) (λ s h k. ap (λ (p : Push). p.y) (silent s k).there) in
-    let z = sum_far (λ s. (push_of w t s).z) 0 n (omega arith) (λ s h k. ap (λ (p : Push). p.z) (silent s k).there) in
-    rw (sym x, sym y, sym z) refl
+row_silent w t silent = sums_far (push_of w t) 0 (length w.b.places) (omega arith) (λ s h k. (silent s k).there)
+
+pub length_set : (sums : List Push) (n : ℕ) (sum : Push) → length (slice_set sums n sum) ≡ length sums
+length_set sums n sum = search (rules, arith)
 
 -- a pair out of reach has no energy
 far_energy : (class : Class) (p q : Place) → is_in_cutoff class.scale (squared_distance p q) ≡ false → energy class p q ≡ pos 0
@@ -138,28 +137,18 @@ pub first_is : (w : Task) (t : ℕ) → IsTask w → w.name.bi < w.name.bj → t
     → sum_on_first w t (length w.b.places) ≡ task_force w t
 unfolding push_sum
 first_is w t sound less t_in =
-    same_push (sum_on_first w t (length w.b.places)) (task_force w t) (along (λ p. p.x)) (along (λ p. p.y)) (along (λ p. p.z))
-  where
-    along : (axis : Push → ℕ) → ring_sum (length w.b.places) (λ s. axis (push_of w t s))
-        ≡ ring_sum (length w.b.places) (λ s. axis (chosen_push (class_in w t s).scale (are_apart w t s) (place_at w.a.places t) (place_at w.b.places s)))
-    along axis =
-        ap (λ n. n % 2 ^ 32) (sum_same (length w.b.places) _ _ (λ s h.
-        let few : t < 64 = omega (arith, sound.most_first) in
-        ap (λ chosen. axis (chosen_push (class_in w t s).scale chosen (place_at w.a.places t) (place_at w.b.places s)))
-        (in_order w t s few less ∙ sym (apart w t s few less))))
+    let few : t < 64 = omega (arith, t_in, sound.most_first) in
+    sums_same (push_of w t) _ (length w.b.places) (λ s h.
+    ap (λ chosen. chosen_push (class_in w t s).scale chosen (place_at w.a.places t) (place_at w.b.places s))
+    (in_order w t s few less ∙ sym (apart w t s few less)))
 
 pub second_is : (w : Task) (s : ℕ) → IsTask w → w.name.bi < w.name.bj → sum_on_second w s (length w.a.places) ≡ task_second w s
 unfolding push_sum
 second_is w s sound less =
-    same_push (sum_on_second w s (length w.a.places)) (task_second w s) (along (λ p. p.x)) (along (λ p. p.y)) (along (λ p. p.z))
-  where
-    along : (axis : Push → ℕ) → ring_sum (length w.a.places) (λ t. axis (push_back w t s))
-        ≡ ring_sum (length w.a.places) (λ t. axis (chosen_push (class_in w t s).scale (are_apart w t s) (place_at w.b.places s) (place_at w.a.places t)))
-    along axis =
-        ap (λ n. n % 2 ^ 32) (sum_same (length w.a.places) _ _ (λ t h.
-        let few : t < 64 = omega (arith, sound.most_first) in
-        ap (λ chosen. axis (chosen_push (class_in w t s).scale chosen (place_at w.b.places s) (place_at w.a.places t)))
-        (in_order w t s few less ∙ sym (apart w t s few less))))
+    sums_same (λ t. push_back w t s) _ (length w.a.places) (λ t h.
+    let few : t < 64 = omega (arith, h, sound.most_first) in
+    ap (λ chosen. chosen_push (class_in w t s).scale chosen (place_at w.b.places s) (place_at w.a.places t))
+    (in_order w t s few less ∙ sym (apart w t s few less)))
 
 -- of one block twice it is that of the places exchanged
 class_turned : (w : Task) (t s : ℕ) → w.a ≡ w.b → class_in w s t ≡ class_in w t s
