@@ -64,8 +64,8 @@ square_is d h = square_either (ltb d (2 ^ 15)) d h refl
 size_up : (a b n w : ℕ) → a + n ≡ b + w * 2 ^ 16 → grains_apart (b % 2 ^ 16) (a % 2 ^ 16) ≤ n
 size_up a b n w e = omega (arith, e)
 
-size_down : (a b n w : ℕ) → b + n ≡ a + w * 2 ^ 16 → grains_apart (b % 2 ^ 16) (a % 2 ^ 16) ≤ n
-size_down a b n w e = omega (arith, e)
+turned : (a b : ℕ) → grains_apart (a % 2 ^ 16) (b % 2 ^ 16) ≡ grains_apart (b % 2 ^ 16) (a % 2 ^ 16)
+turned a b = omega arith
 
 scaled : (a n b m u : ℕ) → a + n ≡ b + m → a * u + n * u ≡ b * u + m * u
 scaled a n b m u e = let right : (a + n) * u ≡ (b + m) * u = ap (λ s. s * u) e in omega (arith, right)
@@ -87,10 +87,7 @@ way_up a b n w u z some e whole =
 
 way_down : (a b n w u z : ℕ) → 1 ≤ u → b / u + n ≡ a / u + w * 2 ^ 16 → b + z ≡ a + w * 2 ^ 16 * u
     → grains_apart (b / u % 2 ^ 16) (a / u % 2 ^ 16) * u < z + u
-way_down a b n w u z some e whole =
-    let c : ℕ = grains_apart (b / u % 2 ^ 16) (a / u % 2 ^ 16) in
-    let few : c * u ≤ n * u = mul-le c u n u (size_down (a / u) (b / u) n w e) (omega arith) in
-    omega (arith, few, scaled (b / u) n (a / u) (w * 2 ^ 16) u e, cut_most b u some, cut_least a u, whole)
+way_down a b n w u z some e whole = rw (turned (b / u) (a / u)) (way_up b a n w u z some e whole)
 
 -- the ring units of the box, by turns of the ring of 2^16 grains
 turns_are : (grain : ℕ) → grain ≤ 16 → 2 ^ (16 - grain) * 2 ^ 16 * 2 ^ grain ≡ 2 ^ 32

@@ -74,18 +74,7 @@ none_of_four a b c d =
 pub by_places : (a b c d e f g h i j k l : Bool)
     → (a && b && (c && d) && (e && f && (g && h)) && (i && j && (k && l)))
     ≡ (a && b && c && (d && e && f) && (g && h && i) && (j && k && l))
-by_places false b c d e f g h i j k l = refl
-by_places true false c d e f g h i j k l = refl
-by_places true true false d e f g h i j k l = refl
-by_places true true true false e f g h i j k l = refl
-by_places true true true true false f g h i j k l = refl
-by_places true true true true true false g h i j k l = refl
-by_places true true true true true true false h i j k l = refl
-by_places true true true true true true true false i j k l = refl
-by_places true true true true true true true true false j k l = refl
-by_places true true true true true true true true true false k l = refl
-by_places true true true true true true true true true true false l = refl
-by_places true true true true true true true true true true true l = refl
+by_places a b c d e f g h i j k l = search (and_assoc)
 
 -- four places, four by four coordinates as they lie
 pub same_lanes : (p q r s a b c d : Place)
@@ -98,11 +87,7 @@ same_lanes p q r s a b c d =
     (r.z == c.z) (s.x == d.x) (s.y == d.y) (s.z == d.z)
 
 in_order : (a b c d r : Bool) → (a && b && c && d && r) ≡ (a && (b && (c && (d && r))))
-in_order false b c d r = refl
-in_order true false c d r = refl
-in_order true true false d r = refl
-in_order true true true false r = refl
-in_order true true true true r = refl
+in_order a b c d r = search (and_assoc)
 
 -- the places of two lists from one on
 module _ (xs ys : List Place) (d : Place) where
