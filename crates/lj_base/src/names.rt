@@ -134,7 +134,7 @@ impl fmt::Display for Name {
     }
 }
 
-/// Whose session a step is of: the user's number and the session's name.
+/// The label of a session: the number of its user, and its name.
 #[derive(PartialEq, Eq, Debug, Drop)]
 pub struct Label {
     pub user: u8,
