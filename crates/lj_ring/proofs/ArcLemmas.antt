@@ -83,25 +83,9 @@ greater x y = let h = int_max_is x y in (omega (arith, ints, h), omega (arith, i
 lesser_from : (b x y : ℤ) → b ≤ℤ x → b ≤ℤ y → b ≤ℤ int_min x y
 lesser_from b x y h k = let m = int_min_is x y in omega (arith, ints, m, h, k)
 
--- the greater of two numbers is below what both are below
-greater_to : (b x y : ℤ) → x <ℤ b → y <ℤ b → int_max x y <ℤ b
-greater_to b x y h k = let m = int_max_is x y in omega (arith, ints, m, h, k)
-
 -- one after the other
 through : (x y z : ℤ) → x ≤ℤ y → y ≤ℤ z → x ≤ℤ z
 through x y z h k = omega (arith, ints)
-
--- the least of some numbers is at most 0
-least_under : (n : ℕ) → (f : ℕ → ℤ) → least_below n f ≤ℤ pos 0
-least_under zero f = omega (arith, ints)
-least_under (suc n) f =
-    through (least_below (suc n) f) (least_below n f) (pos 0) (lesser (least_below n f) (f n)).0 (least_under n f)
-
--- the greatest of some numbers is at least 0
-greatest_over : (n : ℕ) → (f : ℕ → ℤ) → pos 0 ≤ℤ greatest_below n f
-greatest_over zero f = omega (arith, ints)
-greatest_over (suc n) f =
-    through (pos 0) (greatest_below n f) (greatest_below (suc n) f) (greatest_over n f) (greater (greatest_below n f) (f n)).0
 
 -- the least of some numbers is at most each
 least_each : (n : ℕ) → (f : ℕ → ℤ) → (i : ℕ) → i < n → least_below n f ≤ℤ f i
@@ -134,11 +118,6 @@ least_from : (n : ℕ) → (f : ℕ → ℤ) → ((i : ℕ) → neg_ℤ (pos (2 
 least_from zero f each = omega (arith, ints)
 least_from (suc n) f each =
     lesser_from (neg_ℤ (pos (2 ^ 31))) (least_below n f) (f n) (least_from n f each) (each n)
-
--- the greatest of some numbers is below what all of them are below
-greatest_to : (n : ℕ) → (f : ℕ → ℤ) → ((i : ℕ) → f i <ℤ pos (2 ^ 31)) → greatest_below n f <ℤ pos (2 ^ 31)
-greatest_to zero f each = omega (arith, ints)
-greatest_to (suc n) f each = greater_to (pos (2 ^ 31)) (greatest_below n f) (f n) (greatest_to n f each) (each n)
 
 -- a coordinate that a whole number comes to is that number but for whole turns
 rounds : (z : ℤ) → (k : ℤ) × (pos (ring_residue z) ≡ z +ℤ k *ℤ pos (2 ^ 32))

@@ -52,29 +52,26 @@ guess_least s square shift reciprocal some is fits small =
     mul-le ((a + 1) * (reciprocal + 1)) square ((g + 2) * 2 ^ 51) square factors (omega arith) in
     omega (arith, first, second, shifted)
 
+-- the factor of a guess has few bits, and their product
+guess_parts : (s shift reciprocal : ℕ) → reciprocal < 2 ^ 32 → s < 2 ^ (32 + shift)
+    → (s / 2 ^ shift < 2 ^ 32) × (s / 2 ^ shift * reciprocal ≤ (2 ^ 32 - 1) * (2 ^ 32 - 1))
+guess_parts s shift reciprocal fits small =
+    let few : s / 2 ^ shift < 2 ^ 32 = div_below s (2 ^ shift) (2 ^ 32) (pow_pos shift) (rw (← pow-add 2 32 shift) small) in
+    (few, mul-le (s / 2 ^ shift) reciprocal (2 ^ 32 - 1) (2 ^ 32 - 1) (omega (arith, few)) (omega (arith, fits)))
+
 -- a guess has few bits
 pub guess_small : (s shift reciprocal : ℕ) → reciprocal < 2 ^ 32 → s < 2 ^ (32 + shift)
     → guess_of s shift reciprocal < 2 ^ 13
-guess_small s shift reciprocal fits small =
-    let p : ℕ = 2 ^ shift in
-    let a : ℕ = s / p in
-    let few : a < 2 ^ 32 = div_below s p (2 ^ 32) (pow_pos shift) (rw (← pow-add 2 32 shift) small) in
-    let product : a * reciprocal ≤ (2 ^ 32 - 1) * (2 ^ 32 - 1) =
-    mul-le a reciprocal (2 ^ 32 - 1) (2 ^ 32 - 1) (omega (arith, few)) (omega (arith, fits)) in
-    omega (arith, product)
+guess_small s shift reciprocal fits small = let parts = guess_parts s shift reciprocal fits small in omega (arith, parts.1)
 
 -- the guess by lanes: no product wraps
 pub guess_lane : (s shift reciprocal : ℕ) → reciprocal < 2 ^ 32 → s < 2 ^ (32 + shift)
     → (s / 2 ^ shift % 2 ^ 32) * (reciprocal % 2 ^ 32) % 2 ^ 64 / 2 ^ 51 ≡ guess_of s shift reciprocal
 guess_lane s shift reciprocal fits small =
-    let p : ℕ = 2 ^ shift in
-    let a : ℕ = s / p in
-    let few : a < 2 ^ 32 = div_below s p (2 ^ 32) (pow_pos shift) (rw (← pow-add 2 32 shift) small) in
-    let product : a * reciprocal ≤ (2 ^ 32 - 1) * (2 ^ 32 - 1) =
-    mul-le a reciprocal (2 ^ 32 - 1) (2 ^ 32 - 1) (omega (arith, few)) (omega (arith, fits)) in
-    let a_whole : a % 2 ^ 32 ≡ a = omega (arith, few) in
+    let parts = guess_parts s shift reciprocal fits small in
+    let a_whole : s / 2 ^ shift % 2 ^ 32 ≡ s / 2 ^ shift = omega (arith, parts.0) in
     let r_whole : reciprocal % 2 ^ 32 ≡ reciprocal = omega (arith, fits) in
-    rw (a_whole, r_whole) (omega (arith, product))
+    rw (a_whole, r_whole) (omega (arith, parts.1))
 
 by_parts : (v high low : ℕ)
     → (v * low % 2 ^ 64 + v * high % 2 ^ 64 * 2 ^ 32 % 2 ^ 64) % 2 ^ 64 ≡ v * (high * 2 ^ 32 + low) % 2 ^ 64
