@@ -2,12 +2,11 @@
 use Rattle.std.proofs.Common.{ℕ, ◌*◌, ◌^◌, ◌<◌, ◌≤◌, ◌≡◌, ℤ, pos, neg_ℤ, unsigned_abs, Bool, true, false, List, slice_index, refl, ap, ◌∙◌, arith}
 use Rattle.std.proofs.lemmas.Bool.{ltb-true, ltb-false}
 use Rattle.std.specs.Prelude.{if◌then◌else◌, nat_lt}
-use Rattle.std.proofs.lemmas.Nat.{mul-le}
 use Rattle.lj_ring.specs.declared.scales.TheConstants.{BINS}
 use Rattle.lj_ring.specs.Scale.{entry}
 use Rattle.lj_table.specs.Entries.{push_entry, energy_entry, centre, cell, HasSizes}
 use Rattle.lj_table.proofs.Quotients.{quotient_over, quotient_under, abs_neg}
-use Rattle.lj_table.proofs.Sizes.{cube_is}
+use Rattle.lj_table.proofs.Sizes.{cube_is, cube_le}
 
 same_over : (z : ℤ) (m : ℕ) → z ≡ pos m → z ≡ pos (unsigned_abs z)
 same_over z m e = rw e refl
@@ -17,14 +16,10 @@ same_under z m e = rw (e, abs_neg m) refl
 
 -- 2^25 lies between the cubes of 321 and 323
 cube_apart : (n : ℕ) → n ≤ 321 → n ^ 3 ≤ 2 ^ 25
-cube_apart n h =
-    let most : n * n * n ≤ 321 * 321 * 321 = mul-le (n * n) n (321 * 321) 321 (mul-le n n 321 321 h h) h in
-    rw (cube_is n) (omega (arith, most))
+cube_apart n h = rw (cube_is n) (omega (arith, cube_le n 321 h))
 
 cube_together : (n : ℕ) → 323 ≤ n → 2 ^ 25 < n ^ 3
-cube_together n h =
-    let least : 323 * 323 * 323 ≤ n * n * n = mul-le (323 * 323) 323 (n * n) n (mul-le 323 323 n n h h) h in
-    rw (cube_is n) (omega (arith, least))
+cube_together n h = rw (cube_is n) (omega (arith, cube_le 323 n h))
 
 entry_apart : (k : ℕ) → k ≤ 160 → push_entry k ≡ pos (unsigned_abs (push_entry k))
 unfolding push_entry
@@ -38,14 +33,10 @@ entry_together k h =
 
 -- 2^24 lies between the cubes of 255 and 257
 cube_positive : (n : ℕ) → n ≤ 255 → n ^ 3 ≤ 2 ^ 24
-cube_positive n h =
-    let most : n * n * n ≤ 255 * 255 * 255 = mul-le (n * n) n (255 * 255) 255 (mul-le n n 255 255 h h) h in
-    rw (cube_is n) (omega (arith, most))
+cube_positive n h = rw (cube_is n) (omega (arith, cube_le n 255 h))
 
 cube_negative : (n : ℕ) → 257 ≤ n → 2 ^ 24 < n ^ 3
-cube_negative n h =
-    let least : 257 * 257 * 257 ≤ n * n * n = mul-le (257 * 257) 257 (n * n) n (mul-le 257 257 n n h h) h in
-    rw (cube_is n) (omega (arith, least))
+cube_negative n h = rw (cube_is n) (omega (arith, cube_le 257 n h))
 
 entry_positive : (k : ℕ) → k ≤ 127 → energy_entry k ≡ pos (unsigned_abs (energy_entry k))
 unfolding energy_entry

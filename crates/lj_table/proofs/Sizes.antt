@@ -16,8 +16,11 @@ sixth_is n = pow-add n 3 3 ∙ (rw (cube_is n) refl)
 pub seventh_is : (n : ℕ) → n ^ 7 ≡ n * n * n * (n * n * n) * n
 seventh_is n = pow-suc n 6 ∙ ap (λ m. m * n) (sixth_is n)
 
+pub cube_le : (m n : ℕ) → m ≤ n → m * m * m ≤ n * n * n
+cube_le m n h = mul-le (m * m) m (n * n) n (mul-le m m n n h h) h
+
 cube_least : (n : ℕ) → 129 ≤ n → 2146689 ≤ n * n * n
-cube_least n h = mul-le 16641 129 (n * n) n (mul-le 129 129 n n h h) h
+cube_least n h = cube_le 129 n h
 
 sixth_least : (n : ℕ) → 129 ≤ n → 2146689 * 2146689 ≤ n * n * n * (n * n * n)
 sixth_least n h = mul-le 2146689 2146689 (n * n * n) (n * n * n) (cube_least n h) (cube_least n h)
@@ -26,7 +29,7 @@ pub seventh_least : (n : ℕ) → 129 ≤ n → 2146689 * 2146689 * 129 ≤ n * 
 seventh_least n h = mul-le (2146689 * 2146689) 129 (n * n * n * (n * n * n)) n (sixth_least n h) h
 
 cube_most : (n : ℕ) → n ≤ 1599 → n * n * n ≤ 1599 * 1599 * 1599
-cube_most n h = mul-le (n * n) n (1599 * 1599) 1599 (mul-le n n 1599 1599 h h) h
+cube_most n h = cube_le n 1599 h
 
 pub seventh_most : (n : ℕ) → n ≤ 1599 → n * n * n * (n * n * n) * n < 2 ^ 128
 seventh_most n h =
