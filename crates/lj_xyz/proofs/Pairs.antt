@@ -1,5 +1,5 @@
 -- The digits of numbers, two at a time.
-use Rattle.std.proofs.Common.{◌≡◌, ℕ, zero, suc, ◌+◌, ◌-◌, ◌*◌, ◌/◌, ◌%◌, ◌^◌, ◌<◌, ◌≤◌, Bool, true, ◌&&◌, eqb, [], ◌∷◌, ◌++◌}
+use Rattle.std.proofs.Common.{◌≡◌, ℕ, zero, suc, ◌+◌, ◌-◌, ◌*◌, ◌/◌, ◌%◌, ◌<◌, ◌≤◌, Bool, true, ◌&&◌, eqb, [], ◌∷◌, ◌++◌}
 use Rattle.std.proofs.Common.{get_or, refl, inl, inr, arith, eq-zero-or-pos, append_assoc}
 use Rattle.std.proofs.lemmas.Bool.{and_parts, eqb-true}
 use Rattle.std.proofs.lemmas.Fmt.{decimal_digit, decimal_step}
@@ -58,16 +58,3 @@ decimal_four number least within =
       b,
       ← c,
     ) refl
-
--- the six digits of a number are three times two
-pub six_digits : (number : ℕ) → number < 10 ^ 6
-    → last_digits 6 number
-    ≡ (last_digits 2 (number / 10000) ++ last_digits 2 (number / 100 % 100)) ++ last_digits 2 (number % 100)
-six_digits number within =
-    let a : number / 10 / 10 / 10 / 10 / 10 % 10 ≡ number / 10000 / 10 % 10 = omega arith in
-    let b : number / 10 / 10 / 10 / 10 % 10 ≡ number / 10000 % 10 = omega arith in
-    let c : number / 10 / 10 / 10 % 10 ≡ number / 100 % 100 / 10 % 10 = omega arith in
-    let d : number / 10 / 10 % 10 ≡ number / 100 % 100 % 10 = omega arith in
-    let e : number / 10 % 10 ≡ number % 100 / 10 % 10 = omega arith in
-    let f : number % 10 ≡ number % 100 % 10 = omega arith in
-    cc

@@ -6,6 +6,7 @@ use Rattle.lj_xyz.specs.declared.xyz_fault.XyzFault.{XyzFault}
 use Rattle.lj_xyz.specs.declared.xyz_fault.XyzError.{XyzError}
 use Rattle.lj_xyz.specs.declared.xyz_fault.XyzError.TheVariants as errors
 use Rattle.lj_xyz.specs.declared.atom_row.AtomRow.{AtomRow}
+use Rattle.lj_xyz.specs.declared.atom_row.FramePair.{FramePair}
 use Rattle.lj_xyz.specs.declared.frame_reader.Position.{Position}
 use Rattle.lj_xyz.specs.declared.frame_reader.Position.TheVariants.{First, Second}
 use Rattle.lj_fixed.specs.Numbers.{number_of}
@@ -83,7 +84,7 @@ one_count symbols lines rows is =
     let same : is.0 ≡ rows = cc in
     rw (← same) (frame_count symbols First is.2.frame is.0 is.2.is_frame)
 
-pub two_counts : (symbols : Option SymbolPair) (lines : List (List ℕ)) (first second : List AtomRow)
+two_counts : (symbols : Option SymbolPair) (lines : List (List ℕ)) (first second : List AtomRow)
     → IsReading symbols pair lines (Ok (first ∷ second ∷ []))
     → (is_count (length first) ≡ true) × (length second ≡ length first)
 two_counts symbols lines first second is =
@@ -94,3 +95,10 @@ two_counts symbols lines first second is =
       frame_count symbols First gives.frame is.0 gives.is_frame,
       eqb-true (length is.1) (length is.0) gives.is_next.is_head.admitted,
     )
+
+pub pair_counts : (symbols : Option SymbolPair) (lines : List (List ℕ)) (r : Result FramePair XyzError)
+    → Gives (λ (frames : FramePair). frames.first ∷ frames.second ∷ []) r (reading symbols pair lines)
+    → IfOk r (λ frames. (is_count (length frames.first) ≡ true) × (length frames.second ≡ length frames.first))
+pair_counts symbols lines (Ok frames) e =
+    two_counts symbols lines frames.first frames.second (rw e at (reading_stands symbols pair lines))
+pair_counts symbols lines (Err error) e = tt

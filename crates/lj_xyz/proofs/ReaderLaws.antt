@@ -117,9 +117,3 @@ rows_done symbols front count i left total le so_far =
 pub no_front : (read : Result (List AtomRow × Left) XyzFault) → with_front [] read ≡ read
 no_front (Ok x) = refl
 no_front (Err fault) = refl
-
-pub rows_start : (symbols : Option SymbolPair) (count : ℕ) (left : Left)
-    → with_front [] (rows_in symbols (count - 0) left) ≡ rows_in symbols count left
-rows_start symbols count left =
-    let k : count - 0 ≡ count = omega arith in
-    rw k (no_front (rows_in symbols count left))

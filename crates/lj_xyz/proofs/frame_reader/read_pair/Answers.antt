@@ -5,7 +5,7 @@ use Rattle.lj_xyz.specs.declared.atom_row.AtomRow.{AtomRow}
 use Rattle.lj_xyz.specs.declared.atom_row.FramePair.{FramePair}
 use Rattle.lj_xyz.specs.Lines.{lines_of}
 use Rattle.lj_xyz.specs.Frames.{pair}
-use Rattle.lj_xyz.proofs.ReadLaws.{frames_stand, fault_stands, two_counts}
+use Rattle.lj_xyz.proofs.ReadLaws.{frames_stand, fault_stands, pair_counts}
 use Rattle.lj_xyz.proofs.frame_reader.read_pair.Goals as goal
 
 abbrev view : FramePair → List (List AtomRow)
@@ -13,24 +13,20 @@ view frames = frames.first ∷ frames.second ∷ []
 
 pub returns-clause-frames : goal.returns-clause-frames
 returns-clause-frames c =
-    let symbols = option_copied c.args.symbols in
-    frames_stand symbols view pair (lines_of c.args.text.now) c.first_two_frames.result c.first_two_frames.ensures
+    frames_stand (option_copied c.args.symbols) view pair (lines_of c.args.text.now) c.first_two_frames.result
+    c.first_two_frames.ensures
 
 pub returns-clause-fault : goal.returns-clause-fault
 returns-clause-fault c =
-    let symbols = option_copied c.args.symbols in
-    fault_stands symbols view pair (lines_of c.args.text.now) c.first_two_frames.result c.first_two_frames.ensures
+    fault_stands (option_copied c.args.symbols) view pair (lines_of c.args.text.now) c.first_two_frames.result
+    c.first_two_frames.ensures
 
 pub returns-clause-count : goal.returns-clause-count
 returns-clause-count c =
-    let symbols = option_copied c.args.symbols in
-    IfOk-weaker c.first_two_frames.result _ _ (λ frames is.
-    (two_counts symbols (lines_of c.args.text.now) frames.first frames.second is).0)
-    (frames_stand symbols view pair (lines_of c.args.text.now) c.first_two_frames.result c.first_two_frames.ensures)
+    IfOk-weaker c.first_two_frames.result _ _ (λ frames both. both.0)
+    (pair_counts (option_copied c.args.symbols) (lines_of c.args.text.now) c.first_two_frames.result c.first_two_frames.ensures)
 
 pub returns-clause-same_count : goal.returns-clause-same_count
 returns-clause-same_count c =
-    let symbols = option_copied c.args.symbols in
-    IfOk-weaker c.first_two_frames.result _ _ (λ frames is.
-    (two_counts symbols (lines_of c.args.text.now) frames.first frames.second is).1)
-    (frames_stand symbols view pair (lines_of c.args.text.now) c.first_two_frames.result c.first_two_frames.ensures)
+    IfOk-weaker c.first_two_frames.result _ _ (λ frames both. both.1)
+    (pair_counts (option_copied c.args.symbols) (lines_of c.args.text.now) c.first_two_frames.result c.first_two_frames.ensures)
