@@ -41,8 +41,5 @@ invariant_of-self c =
 
 pub returns-clause-home : goal.returns-clause-home
 returns-clause-home c =
-    let rows = c.self.inside.rows.items in
-    let row = c.index_mut.result.now in
-    let w = written (goal.at.returns-clause-home c).After-take_home in
-    let e = changed-written rows c.from-user.result row c.take_home.new.self (with_home c.args.state) w in
+    let e = changed-written _ _ _ _ _ (written (goal.at.returns-clause-home c).After-take_home) in
     cc

@@ -23,17 +23,12 @@ invariant_of-self c =
 
 pub returns-clause-state : goal.returns-clause-state
 returns-clause-state c =
-    let rows = c.self.inside.rows.items in
     let row = c.index_mut.result.now in
-    let w = written (goal.at.returns-clause-state c).After-lend in
-    let read = slice_get-read rows c.from-user.result row c.lend.new.self without_home w in
+    let read = slice_get-read _ _ row _ _ (written (goal.at.returns-clause-state c).After-lend) in
     let found : slice_get c.args.self.now c.args.ticket.now.user ≡ Some row = cc in
     ap (option_and_then (λ (r : UserRow). r.home)) found ∙ c.lend.ensures.state
 
 pub returns-clause-lent : goal.returns-clause-lent
 returns-clause-lent c =
-    let rows = c.self.inside.rows.items in
-    let row = c.index_mut.result.now in
-    let w = written (goal.at.returns-clause-lent c).After-lend in
-    let e = changed-written rows c.from-user.result row c.lend.new.self without_home w in
+    let e = changed-written _ _ _ _ _ (written (goal.at.returns-clause-lent c).After-lend) in
     cc
