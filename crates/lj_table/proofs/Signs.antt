@@ -14,39 +14,37 @@ same_over z m e = rw e refl
 same_under : (z : ℤ) (m : ℕ) → z ≡ neg_ℤ (pos m) → z ≡ neg_ℤ (pos (unsigned_abs z))
 same_under z m e = rw (e, abs_neg m) refl
 
+cube_most : (n m : ℕ) → n ≤ m → n ^ 3 ≤ m * m * m
+cube_most n m h = rw (cube_is n) (cube_le n m h)
+
+cube_least : (m n : ℕ) → m ≤ n → m * m * m ≤ n ^ 3
+cube_least m n h = rw (cube_is n) (cube_le m n h)
+
 -- 2^25 lies between the cubes of 321 and 323
-cube_apart : (n : ℕ) → n ≤ 321 → n ^ 3 ≤ 2 ^ 25
-cube_apart n h = rw (cube_is n) (omega (arith, cube_le n 321 h))
-
-cube_together : (n : ℕ) → 323 ≤ n → 2 ^ 25 < n ^ 3
-cube_together n h = rw (cube_is n) (omega (arith, cube_le 323 n h))
-
 entry_apart : (k : ℕ) → k ≤ 160 → push_entry k ≡ pos (unsigned_abs (push_entry k))
 unfolding push_entry
 entry_apart k h =
-    same_over _ _ (quotient_over (24 * 2 ^ 56) (2 ^ 25) (centre k ^ 3) (centre k ^ 7) (cube_apart (centre k) (omega arith)))
+    let cube = cube_most (centre k) 321 (omega arith) in
+    same_over _ _ (quotient_over (24 * 2 ^ 56) (2 ^ 25) (centre k ^ 3) (centre k ^ 7) (omega (arith, cube)))
 
 entry_together : (k : ℕ) → 160 < k → push_entry k ≡ neg_ℤ (pos (unsigned_abs (push_entry k)))
 unfolding push_entry
 entry_together k h =
-    same_under _ _ (quotient_under (24 * 2 ^ 56) (2 ^ 25) (centre k ^ 3) (centre k ^ 7) (cube_together (centre k) (omega arith)))
+    let cube = cube_least 323 (centre k) (omega arith) in
+    same_under _ _ (quotient_under (24 * 2 ^ 56) (2 ^ 25) (centre k ^ 3) (centre k ^ 7) (omega (arith, cube)))
 
 -- 2^24 lies between the cubes of 255 and 257
-cube_positive : (n : ℕ) → n ≤ 255 → n ^ 3 ≤ 2 ^ 24
-cube_positive n h = rw (cube_is n) (omega (arith, cube_le n 255 h))
-
-cube_negative : (n : ℕ) → 257 ≤ n → 2 ^ 24 < n ^ 3
-cube_negative n h = rw (cube_is n) (omega (arith, cube_le 257 n h))
-
 entry_positive : (k : ℕ) → k ≤ 127 → energy_entry k ≡ pos (unsigned_abs (energy_entry k))
 unfolding energy_entry
 entry_positive k h =
-    same_over _ _ (quotient_over (2 ^ 50) (2 ^ 24) (centre k ^ 3) (centre k ^ 6) (cube_positive (centre k) (omega arith)))
+    let cube = cube_most (centre k) 255 (omega arith) in
+    same_over _ _ (quotient_over (2 ^ 50) (2 ^ 24) (centre k ^ 3) (centre k ^ 6) (omega (arith, cube)))
 
 entry_negative : (k : ℕ) → 127 < k → energy_entry k ≡ neg_ℤ (pos (unsigned_abs (energy_entry k)))
 unfolding energy_entry
 entry_negative k h =
-    same_under _ _ (quotient_under (2 ^ 50) (2 ^ 24) (centre k ^ 3) (centre k ^ 6) (cube_negative (centre k) (omega arith)))
+    let cube = cube_least 257 (centre k) (omega arith) in
+    same_under _ _ (quotient_under (2 ^ 50) (2 ^ 24) (centre k ^ 3) (centre k ^ 6) (omega (arith, cube)))
 
 apart_if : (t : Bool) (z : ℤ) → z ≡ pos (unsigned_abs z)
     → (if t then z else pos 0) ≡ pos (unsigned_abs (if t then z else pos 0))
