@@ -11,14 +11,10 @@ abbrev view : List AtomRow → List (List AtomRow)
 view rows = rows ∷ []
 
 pub returns-clause-frame : goal.returns-clause-frame
-returns-clause-frame c =
-    frames_stand (option_copied c.args.symbols) view rest (lines_of c.args.text.now) c.first_frame.result
-    c.first_frame.ensures
+returns-clause-frame c = frames_stand _ view rest _ c.first_frame.result c.first_frame.ensures
 
 pub returns-clause-fault : goal.returns-clause-fault
-returns-clause-fault c =
-    fault_stands (option_copied c.args.symbols) view rest (lines_of c.args.text.now) c.first_frame.result
-    c.first_frame.ensures
+returns-clause-fault c = fault_stands _ view rest _ c.first_frame.result c.first_frame.ensures
 
 pub returns-clause-count : goal.returns-clause-count
 returns-clause-count c =
