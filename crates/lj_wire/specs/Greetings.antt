@@ -1,5 +1,5 @@
 -- The first line of a connection: what it asks for, and how reading it changes the state of a reader.
-use Rattle.std.specs.Prelude.{◌≡◌, ℕ, ◌==◌, ◌≤◌, List, [], ◌∷◌, ◌++◌, length, Option, Some, None, ◌⊎◌}
+use Rattle.std.specs.Prelude.{◌≡◌, ℕ, ◌≤◌, List, [], ◌∷◌, ◌++◌, length, Option, Some, None, ◌⊎◌}
 use Rattle.std.specs.Prelude.{if◌then◌else◌, codes}
 use Rattle.std.specs.Io.KnownBytes.{Consumes, IsAtEnd}
 use Rattle.std.specs.Option.{unwrap_or}
@@ -12,8 +12,7 @@ use Rattle.lj_wire.specs.declared.line_limits.TheConstants.{LONG_LINE_BYTES}
 use Rattle.lj_wire.specs.declared.reader.phase.Phase.TheVariants.{Open, Over, Failed}
 use Rattle.lj_wire.specs.Input.{Input, bytes_untaken, Takes, TakesPart, ReadsFor}
 use Rattle.lj_wire.specs.Commands.{◌>>=◌, Words, is_over, words_in}
-use Rattle.lj_wire.specs.Ends.{Rises}
-use Rattle.lj_wire.specs.LineReader.{LineReader}
+use Rattle.lj_wire.specs.LineReader.{LineReader, CeasesWithin, FailsWithin}
 use Rattle.lj_wire.specs.Streams.{LacksLineFeed, IsLine}
 
 -- the words after HELLO: a name and a token
@@ -73,32 +72,10 @@ pub record Greets (old new : LineReader) (hello : Hello) : Type 0 where
   pub unread_is : length front ≤ length old.held → new.unread ≡ old.unread
   pub phase_is : new.phase ≡ Open
 
--- the input ended before a whole line came; what came was taken
-pub record CeasesEarly (old new : LineReader) : Type 0 where
-  pub was_open : old.phase ≡ Open
-  pub part : List ℕ
-  pub taken : Consumes old.left new.left part
-  pub is_line : IsLine part
-  pub at_end : IsAtEnd new.left
-  pub items_is : new.items ≡ old.items
-  pub errors_is : new.errors ≡ old.errors
-  pub phase_is : new.phase ≡ Over
-
--- a read failed before a whole line came; what came was taken, and no byte is held
-pub record FailsEarly (old new : LineReader) : Type 0 where
-  pub was_open : old.phase ≡ Open
-  pub part : List ℕ
-  pub taken : Consumes old.left new.left part
-  pub is_line : IsLine part
-  pub all_taken : new.held ≡ []
-  pub items_is : new.items ≡ old.items
-  pub errors_rise : Rises old.errors new.errors
-  pub phase_is : new.phase ≡ Failed
-
--- no line: the reader was over and is unchanged, or the input ended
+-- no line: the reader was over and is unchanged, or the input ended before a whole one came
 abbrev pub GreetsNone : LineReader → LineReader → Type 0
-GreetsNone old new = (old.phase ≡ Over) × (new ≡ old) ⊎ CeasesEarly old new
+GreetsNone old new = (old.phase ≡ Over) × (new ≡ old) ⊎ CeasesWithin IsLine old new
 
--- a fault: the reader had failed and is unchanged, or a read failed
+-- a fault: the reader had failed and is unchanged, or a read failed before a whole line came
 abbrev pub HasFailedEarly : LineReader → LineReader → Type 0
-HasFailedEarly old new = (old.phase ≡ Failed) × (new ≡ old) ⊎ FailsEarly old new
+HasFailedEarly old new = (old.phase ≡ Failed) × (new ≡ old) ⊎ FailsWithin IsLine old new

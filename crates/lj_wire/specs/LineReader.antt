@@ -50,27 +50,35 @@ pub record HandsOut (old new : LineReader) (item : Item) : Type 0 where
   pub unread_is : length front ≤ length old.held → new.unread ≡ old.unread
   pub phase_is : new.phase ≡ (if is_ending item then Over else Open)
 
--- the input ended before a whole item came; what came was taken
-pub record Ceases (old new : LineReader) : Type 0 where
+-- the input ended within a part, which was taken
+pub record CeasesWithin (Part : List ℕ → Type 0) (old new : LineReader) : Type 0 where
   pub was_open : old.phase ≡ Open
   pub part : List ℕ
   pub taken : Consumes old.left new.left part
-  pub is_part : IsPart old.items part
+  pub is_part : Part part
   pub at_end : IsAtEnd new.left
   pub items_is : new.items ≡ old.items
   pub errors_is : new.errors ≡ old.errors
   pub phase_is : new.phase ≡ Over
 
--- a read failed before a whole item came; what came was taken, and no byte is held
-pub record Fails (old new : LineReader) : Type 0 where
+-- a read failed within a part, which was taken, and no byte is held
+pub record FailsWithin (Part : List ℕ → Type 0) (old new : LineReader) : Type 0 where
   pub was_open : old.phase ≡ Open
   pub part : List ℕ
   pub taken : Consumes old.left new.left part
-  pub is_part : IsPart old.items part
+  pub is_part : Part part
   pub all_taken : new.held ≡ []
   pub items_is : new.items ≡ old.items
   pub errors_rise : Rises old.errors new.errors
   pub phase_is : new.phase ≡ Failed
+
+-- the input ended before a whole item came
+abbrev pub Ceases : LineReader → LineReader → Type 0
+Ceases old new = CeasesWithin (IsPart old.items) old new
+
+-- a read failed before a whole item came
+abbrev pub Fails : LineReader → LineReader → Type 0
+Fails old new = FailsWithin (IsPart old.items) old new
 
 -- no item: the reader was over and is unchanged, or the input ended
 abbrev pub HandsNone : LineReader → LineReader → Type 0
