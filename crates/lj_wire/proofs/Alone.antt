@@ -1,7 +1,6 @@
 -- Commands as items answered alone.
-use Rattle.std.proofs.Common.{◌≡◌, Bool, false, List, [], ◌∷◌, map, refl, sym, ◌∙◌}
-use Rattle.lj_session.specs.declared.command.Command.{Command as Order}
-use Rattle.lj_session.specs.Users.{User, fresh_user}
+use Rattle.std.proofs.Common.{false, [], ◌∷◌, map, refl, sym, ◌∙◌}
+use Rattle.lj_session.specs.Users.{fresh_user}
 use Rattle.lj_session.specs.Answers.{answer}
 use Rattle.lj_session.specs.UserState.{UserState, Reached, user_of}
 use Rattle.lj_wire.specs.declared.item.Item.TheVariants.{Command}

@@ -1,20 +1,17 @@
 -- What the words of a line make of it.
-use Rattle.std.proofs.Common.{◌≡◌, ℕ, true, false, List, [], ◌∷◌, refl}
+use Rattle.std.proofs.Common.{◌≡◌, ℕ, false, List, [], ◌∷◌, refl}
 use Rattle.lj_session.specs.declared.body.LoadBody.{LoadBody}
 use Rattle.lj_wire.specs.declared.item.Fault.TheVariants.{Syntax}
 use Rattle.lj_wire.specs.declared.item.Item.{Item}
 use Rattle.lj_wire.specs.declared.item.Item.TheVariants.{Bad}
 use Rattle.lj_wire.specs.Verbs.{verb_of}
 use Rattle.lj_wire.specs.Commands.{Words, verb_item, verb_body_len, item_of_words}
-use Rattle.lj_wire.specs.Commands.{body_len, is_over, over_item, words_in, body_len_announced, item_with}
+use Rattle.lj_wire.specs.Commands.{body_len, is_over, words_in, body_len_announced, item_with}
 
 -- the item of a line, and how many bytes of body follow it
 pub record Says (line : List ℕ) (body : LoadBody) (item : Item) (len : ℕ) : Type 0 where
   pub item_is : item ≡ item_with line body
   pub len_is : len ≡ body_len_announced line
-
-pub says_over : (line : List ℕ) (body : LoadBody) → is_over line ≡ true → Says line body (over_item line) 0
-says_over line body long = record { item_is = rw long refl; len_is = rw long refl }
 
 pub says_empty : (line : List ℕ) (body : LoadBody) → is_over line ≡ false → words_in line ≡ []
     → Says line body (Bad Syntax) 0

@@ -1,16 +1,16 @@
--- From item to item of a dialogue, and to its end. A loop over a stream keeps `Progress`, and cites these.
+-- From item to item of a dialogue, and to its end.
 use Rattle.std.proofs.Common.{◌≡◌, ℕ, suc, ◌+◌, Bool, true, false, List, [], ◌∷◌, ◌++◌, length, refl, sym, ◌∙◌, ap}
 use Rattle.std.proofs.Common.{subst, arith}
 use Rattle.std.specs.List.{concat}
-use Rattle.std.proofs.lemmas.List.{append-nil, length-append}
+use Rattle.std.proofs.lemmas.List.{append-nil}
 use Rattle.std.proofs.lemmas.List.Folds.{concat-append}
 use Rattle.lj_session.specs.Users.{User}
 use Rattle.lj_wire.specs.declared.item.Item.{Item}
 use Rattle.lj_wire.specs.Items.{is_ending}
 use Rattle.lj_wire.specs.Texts.{is_memory}
 use Rattle.lj_wire.specs.Told.{item_text, texts, last_user, first_mark, other_marks}
-use Rattle.lj_wire.specs.Streams.{IsItem, IsPart, Splits, AreMarks, Dialogue}
-use Rattle.lj_wire.specs.Progress.{Takes, Progress}
+use Rattle.lj_wire.specs.Streams.{IsItem, IsPart, Splits, AreMarks}
+use Rattle.lj_wire.specs.Progress.{Takes}
 
 pub Takes-more : (n : ℕ) (bytes : List ℕ) (items : List Item) (left front behind : List ℕ) (item : Item)
     → Takes n bytes items left → left ≡ front ++ behind → IsItem (n + length items) front item → is_ending item ≡ false
@@ -118,75 +118,4 @@ added user items marks item mark are only =
       written_is = ap (λ x. concat (texts user items marks) ++ x) (sym (append-nil text))
           ∙ sym (concat-append (texts user items marks) (text ∷ [])) ∙ ap concat (sym more);
       next_is = sym (last_user-more user items marks item mark same);
-    }
-
--- a dialogue begins with nothing answered
-pub Progress-start : (user : User) (bytes : List ℕ) → Progress user bytes 0 [] bytes user
-Progress-start user bytes = record {
-  items = [];
-  marks = [];
-  takes = refl;
-  counted = refl;
-  are_marks = tt;
-  written_is = refl;
-  next_is = refl;
-}
-
--- one item more, which does not end the connection
-pub Progress-more : (user : User) (bytes : List ℕ) (count : ℕ) (written left : List ℕ) (next : User)
-    (front behind : List ℕ) (item : Item) (mark : Bool)
-    → Progress user bytes count written left next → left ≡ front ++ behind → IsItem count front item → is_ending item ≡ false
-    → (mark ≡ true → is_memory (item_text next item mark).0 ≡ true)
-    → Progress user bytes (count + 1) (written ++ (item_text next item mark).0) behind (item_text next item mark).1
-Progress-more user bytes count written left next front behind item mark p e i goes only =
-    let last = last_user user p.items p.marks in
-    let a = added user p.items p.marks item mark p.are_marks
-    (subst (λ u. mark ≡ true → is_memory (item_text u item mark).0 ≡ true) p.next_is only) in
-    record {
-      items = p.items ++ item ∷ [];
-      marks = p.marks ++ mark ∷ [];
-      takes = Takes-more 0 bytes p.items left front behind item p.takes e
-          (subst (λ m. IsItem m front item) (let s : count ≡ 0 + length p.items = omega (arith, p.counted) in s) i)
-          goes;
-      counted = length-append p.items (item ∷ []) ∙ omega (arith, p.counted);
-      are_marks = a.are_marks;
-      written_is = ap (λ w. w ++ (item_text next item mark).0) p.written_is
-          ∙ ap (λ u. concat (texts user p.items p.marks) ++ (item_text u item mark).0) p.next_is ∙ a.written_is;
-      next_is = ap (λ u. (item_text u item mark).1) p.next_is ∙ a.next_is;
-    }
-
--- less than an item is left, and the dialogue is at its end
-pub Dialogue-part : (user : User) (bytes : List ℕ) (count : ℕ) (written left : List ℕ) (next : User)
-    → Progress user bytes count written left next
-    → IsPart count left → Dialogue user bytes written next
-Dialogue-part user bytes count written left next p part = record {
-  items = p.items;
-  rest = left;
-  marks = p.marks;
-  splits = Splits-part 0 bytes p.items left p.takes
-      (subst (λ m. IsPart m left) (let s : count ≡ 0 + length p.items = omega (arith, p.counted) in s) part);
-  are_marks = p.are_marks;
-  written_is = p.written_is;
-  next_is = p.next_is;
-}
-
--- an item that ends the connection, and with it the dialogue
-pub Dialogue-end : (user : User) (bytes : List ℕ) (count : ℕ) (written left : List ℕ) (next : User)
-    (front behind : List ℕ) (item : Item) (mark : Bool)
-    → Progress user bytes count written left next → left ≡ front ++ behind → IsItem count front item → is_ending item ≡ true
-    → (mark ≡ true → is_memory (item_text next item mark).0 ≡ true)
-    → Dialogue user bytes (written ++ (item_text next item mark).0) (item_text next item mark).1
-Dialogue-end user bytes count written left next front behind item mark p e i end only =
-    let a = added user p.items p.marks item mark p.are_marks
-    (subst (λ u. mark ≡ true → is_memory (item_text u item mark).0 ≡ true) p.next_is only) in
-    record {
-      items = p.items ++ item ∷ [];
-      rest = behind;
-      marks = p.marks ++ mark ∷ [];
-      splits = Splits-end 0 bytes p.items left front behind item p.takes e
-          (subst (λ m. IsItem m front item) (let s : count ≡ 0 + length p.items = omega (arith, p.counted) in s) i) end;
-      are_marks = a.are_marks;
-      written_is = ap (λ w. w ++ (item_text next item mark).0) p.written_is
-          ∙ ap (λ u. concat (texts user p.items p.marks) ++ (item_text u item mark).0) p.next_is ∙ a.written_is;
-      next_is = ap (λ u. (item_text u item mark).1) p.next_is ∙ a.next_is;
     }

@@ -1,9 +1,8 @@
 -- What reading and taking do to what lies ahead of a reader.
 use Rattle.std.proofs.Common.{◌≡◌, ℕ, ◌||◌, List, [], ◌++◌, Option, Some, None, sym, ap, ◌∙◌, subst, append_assoc}
-use Rattle.std.proofs.lemmas.List.{append-nil}
 use Rattle.std.proofs.lemmas.List.Folds.{list_any-append}
 use Rattle.std.proofs.KnownBytes.{Consumes-nil, Consumes-trans}
-use Rattle.std.specs.Io.KnownBytes.{prepend_known, Consumes, Keeps, IsAtEnd}
+use Rattle.std.specs.Io.KnownBytes.{prepend_known, Consumes, Keeps}
 use Rattle.std.specs.List.{list_any}
 use Rattle.lj_xyz.specs.Lines.{is_line_feed}
 use Rattle.lj_wire.specs.Input.{Input, bytes_untaken, Takes}
@@ -49,18 +48,6 @@ Takes-held a b front behind e is same =
     (subst (λ x. Consumes (prepend_known (front ++ behind) a.unread) x front)
     (ap (λ h. prepend_known h a.unread) (sym is) ∙ ap (λ u. prepend_known b.held u) (sym same))
     (Takes-front front behind a.unread))
-
--- all that is held is taken
-pub Takes-all : (a b : Input) → b.held ≡ [] → b.unread ≡ a.unread → Takes a b a.held
-Takes-all a b e same = Takes-held a b a.held [] (sym (append-nil a.held)) e same
-
--- the end is reached where nothing is held and the source has none left
-pub at_end : (a : Input) → a.held ≡ [] → IsAtEnd a.unread → IsAtEnd (bytes_untaken a)
-at_end a e end = ended a.unread end
-  where
-    ended : (unread : Option (List ℕ)) → IsAtEnd unread → IsAtEnd (prepend_known a.held unread)
-    ended None q = tt
-    ended (Some bytes) q = ap (λ h. h ++ bytes) e ∙ q
 
 -- bytes without a line feed, one after the other
 pub lacks_both : (first second : List ℕ) → LacksLineFeed first → LacksLineFeed second → LacksLineFeed (first ++ second)

@@ -15,7 +15,7 @@ use Rattle.lj_wire.specs.declared.reader.buffer.TheConstants.{MAX_HELD_BYTES}
 use Rattle.lj_wire.specs.declared.item.Fault.TheVariants.{Line, Long, Enough}
 use Rattle.lj_wire.specs.declared.item.Item.{Item}
 use Rattle.lj_wire.specs.declared.item.Item.TheVariants.{Command, Bad, Last}
-use Rattle.lj_wire.specs.Input.{Input, bytes_untaken, Takes, HoldsLine, TakesPart, ReadsFor}
+use Rattle.lj_wire.specs.Input.{Input, bytes_untaken, Takes, HoldsLine, ReadsFor}
 use Rattle.lj_wire.specs.Commands.{body_len_announced, is_over, over_item, body_len, words_in, item_of_words, item_with, item_of}
 use Rattle.lj_wire.specs.Items.{with_body}
 use Rattle.lj_wire.specs.declared.reader.phase.Phase.TheVariants.{Open, Over}
@@ -183,14 +183,6 @@ too_long old mid new kept more bounded t = record {
   is_item = inr (record { one_line = t.one_line; long = t.long; means = refl });
   is_handed = inl refl;
   reads_for = λ held. absurd (omega (arith, held, more, bounded, t.long));
-}
-
--- less than a line was taken
-pub open_line : (old mid new : Input) → Keeps (bytes_untaken old) (bytes_untaken mid) → TakesPart mid new → TakesNoItem old new
-open_line old mid new kept t = record {
-  part = t.part;
-  taken = Kept-takes old mid new t.part kept t.taken;
-  is_part = inl t.is_line;
 }
 
 -- after a million items the last fault is handed out, for which nothing is taken

@@ -2,10 +2,10 @@ use Rattle.std.proofs.Common.{◌≡◌, ◌≤◌, length, take, Some, None, if
 use Rattle.std.proofs.lemmas.Result.{IfOk-weaker, IfErr-weaker}
 use Rattle.lj_wire.specs.declared.reader.buffer.TheConstants.{MAX_HELD_BYTES}
 use Rattle.lj_wire.specs.declared.reader.source_input.Front.TheVariants as front
-use Rattle.lj_wire.specs.declared.reader.source_input.SkippedLine.TheVariants as skipped
-use Rattle.lj_wire.specs.Steps.{Finds, SearchesFor, Skips}
+use Rattle.lj_wire.specs.Steps.{Finds, SearchesFor}
 use Rattle.lj_wire.proofs.Wholes.{LineTaken, line_taken, goes_onward, finished, open_body, long_line, too_long}
 use Rattle.lj_wire.proofs.reader.items.read_item.Given.{Over}
+use Rattle.lj_wire.proofs.reader.items.read_item.Goals.{After-skip_line}
 use Rattle.lj_wire.proofs.reader.items.read_item.Goals as goal
 
 -- the line that was found is taken with its line feed
@@ -40,20 +40,19 @@ returns-in-Line-clause-part g c =
     c.read_line_in-body.ensures.body f)
     c.finish.ensures.part
 
+-- no line feed was found
+long : (g : Over) (c : After-skip_line g)
+    → Finds c.args.input.now front.Long c.find_line.new.self × SearchesFor c.args.input.now front.Long c.find_line.new.self
+long g c = (rw c.in-Long.is at c.in_ok-count.ensures.found, rw c.in-Long.is at c.in_ok-count.ensures.searched)
+
 pub returns-in-Line-2-clause-item : goal.returns-in-Line-2-clause-item
 returns-in-Line-2-clause-item g c =
-    let mid = c.find_line.new.self in
-    let found : Finds c.args.input.now front.Long mid = rw c.in-Long.is at c.in_ok-count.ensures.found in
-    let passes : Skips mid skipped.Line c.skip_line.new.self =
-    rw c.in-Line-2.is at c.in_ok-skip_line-in-Long.ensures.skipped in
-    let searched : SearchesFor c.args.input.now front.Long mid = rw c.in-Long.is at c.in_ok-count.ensures.searched in
-    long_line c.args.input.now mid c.skip_line.new.self found.0 searched passes
+    let found = long g (goal.at.returns-in-Line-2-clause-item g c).After-skip_line in
+    long_line c.args.input.now c.find_line.new.self c.skip_line.new.self found.0.0 found.1
+    (rw c.in-Line-2.is at c.in_ok-skip_line-in-Long.ensures.skipped)
 
 pub returns-in-Long-2-clause-item : goal.returns-in-Long-2-clause-item
 returns-in-Long-2-clause-item g c =
-    let mid = c.find_line.new.self in
-    let found : Finds c.args.input.now front.Long mid = rw c.in-Long.is at c.in_ok-count.ensures.found in
-    let passes : Skips mid skipped.Long c.skip_line.new.self =
-    rw c.in-Long-2.is at c.in_ok-skip_line-in-Long.ensures.skipped in
-    let searched : SearchesFor c.args.input.now front.Long mid = rw c.in-Long.is at c.in_ok-count.ensures.searched in
-    too_long c.args.input.now mid c.skip_line.new.self found.0 searched found.1.bounded passes
+    let found = long g (goal.at.returns-in-Long-2-clause-item g c).After-skip_line in
+    too_long c.args.input.now c.find_line.new.self c.skip_line.new.self found.0.0 found.1 found.0.1.bounded
+    (rw c.in-Long-2.is at c.in_ok-skip_line-in-Long.ensures.skipped)
