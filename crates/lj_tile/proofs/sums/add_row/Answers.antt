@@ -1,16 +1,14 @@
-use Rattle.std.proofs.Common.{length, arith}
+use Rattle.std.proofs.Common.{arith}
 use Rattle.lj_ring.specs.Mix.{can_interact}
 use Rattle.lj_tile.proofs.Splits.{row_split, part_within}
 use Rattle.lj_tile.proofs.RowSums.{row_added}
 use Rattle.lj_tile.proofs.sums.add_row.Goals as goal
 
 pub add_pairs-requires-clause-set : goal.add_pairs-requires-clause-set
-add_pairs-requires-clause-set c s set =
-    part_within c.near.result c.later.result _ s (length c.args.task.now.b.places) _ (c.later.ensures s) set
+add_pairs-requires-clause-set c s set = part_within c.near.result c.later.result _ s _ _ (c.later.ensures s) set
 
 pub add_some_pairs-requires-clause-set : goal.add_some_pairs-requires-clause-set
-add_some_pairs-requires-clause-set c s set =
-    part_within c.near.result c.later.result _ s (length c.args.task.now.b.places) _ (c.later.ensures s) set
+add_some_pairs-requires-clause-set c s set = part_within c.near.result c.later.result _ s _ _ (c.later.ensures s) set
 
 pub returns-clause-sums : goal.returns-clause-sums
 returns-clause-sums c =

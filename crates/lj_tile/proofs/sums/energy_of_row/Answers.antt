@@ -1,4 +1,4 @@
-use Rattle.std.proofs.Common.{◌≤◌, ◌^◌, length, unsigned_abs, w64, arith}
+use Rattle.std.proofs.Common.{◌≤◌, ◌^◌, unsigned_abs, w64, arith}
 use Rattle.std.proofs.lemmas.Int.{fits_signed_from_abs, to_z-of_z}
 use Rattle.lj_ring.specs.Mix.{can_interact}
 use Rattle.lj_tile.proofs.Splits.{row_split, part_within}
@@ -7,12 +7,10 @@ use Rattle.lj_tile.proofs.EnergySums.{row_energy_added}
 use Rattle.lj_tile.proofs.sums.energy_of_row.Goals as goal
 
 pub energy_of_pairs-of_first-requires-clause-set : goal.energy_of_pairs-of_first-requires-clause-set
-energy_of_pairs-of_first-requires-clause-set c s set =
-    part_within c.near.result c.later.result _ s (length c.args.task.now.b.places) _ (c.later.ensures s) set
+energy_of_pairs-of_first-requires-clause-set c s set = part_within c.near.result c.later.result _ s _ _ (c.later.ensures s) set
 
 pub energy_of_pairs-requires-clause-set : goal.energy_of_pairs-requires-clause-set
-energy_of_pairs-requires-clause-set c s set =
-    part_within c.near.result c.later.result _ s (length c.args.task.now.b.places) _ (c.later.ensures s) set
+energy_of_pairs-requires-clause-set c s set = part_within c.near.result c.later.result _ s _ _ (c.later.ensures s) set
 
 pub returns-clause-value : goal.returns-clause-value
 returns-clause-value c =

@@ -4,12 +4,19 @@ use Rattle.std.proofs.Math.IntN.{+ℤ_idr, +ℤ_idl}
 use Rattle.lj_ring.specs.Mix.{class_of}
 use Rattle.lj_ring.specs.declared.mixes.Species.TheVariants.{First, Second}
 use Rattle.lj_tile.specs.Energies.{lists_energy}
-use Rattle.lj_tile.proofs.SumLemmas.{next_set, from_next, from_empty, from_all, sum_fits, sum_is, sum_size}
+use Rattle.lj_tile.proofs.SumLemmas.{HasNext, next_set, from_next, from_empty, from_all, sum_fits, sum_is, sum_size}
 use Rattle.lj_tile.proofs.EnergySums.{rows_energy_past, rows_energy_next}
+use Rattle.lj_tile.proofs.sums.energy_of_rows.Goals.{In-loop-rest}
 use Rattle.lj_tile.proofs.sums.energy_of_rows.Goals as goal
 
 turned : (z : ℤ) → pos 0 +ℤ z ≡ z +ℤ pos 0
 turned z = +ℤ_idl z ∙ sym (+ℤ_idr z)
+
+-- the next row of the set
+next : (c : In-loop-rest) → HasNext c.args.rows c.loop-rest.t (trailing_zeros w64 c.loop-rest.rest)
+next c =
+    next_set c.args.rows c.loop-rest.t c.loop-rest.rest c.ranges.rows.fits c.loop-rest.auto.rest-fits.fits
+    (omega (arith, c.loop-rest-test.true)) c.loop-rest.invariant.bits
 
 pub loop-rest-init : goal.loop-rest-init
 loop-rest-init c = record {
@@ -25,27 +32,23 @@ loop-rest-init c = record {
 
 pub energy_of_row-sum-requires-clause-row : goal.energy_of_row-sum-requires-clause-row
 energy_of_row-sum-requires-clause-row c =
-    let found = next_set c.args.rows c.loop-rest.t c.loop-rest.rest c.ranges.rows.fits c.loop-rest.auto.rest-fits.fits
-    (omega (arith, c.loop-rest-test.true)) c.loop-rest.invariant.bits in
+    let found = next (goal.at.energy_of_row-sum-requires-clause-row c).In-loop-rest in
     c.requires.rows.within _ found.set
 
 pub energy_of_row-sum-requires-clause-own : goal.energy_of_row-sum-requires-clause-own
 energy_of_row-sum-requires-clause-own c =
-    let found = next_set c.args.rows c.loop-rest.t c.loop-rest.rest c.ranges.rows.fits c.loop-rest.auto.rest-fits.fits
-    (omega (arith, c.loop-rest-test.true)) c.loop-rest.invariant.bits in
+    let found = next (goal.at.energy_of_row-sum-requires-clause-own c).In-loop-rest in
     sym (c.requires.rows.species _ found.set)
 
 pub overflow_add-sum : goal.overflow_add-sum
 overflow_add-sum c =
-    let found = next_set c.args.rows c.loop-rest.t c.loop-rest.rest c.ranges.rows.fits c.loop-rest.auto.rest-fits.fits
-    (omega (arith, c.loop-rest-test.true)) c.loop-rest.invariant.bits in
+    let found = next (goal.at.overflow_add-sum c).In-loop-rest in
     sum_fits _ c.energy_of_row-sum.result (c.loop-rest.t + trailing_zeros w64 c.loop-rest.rest) (2 ^ 53)
     (omega (arith, c.loop-rest.invariant.size)) c.energy_of_row-sum.ensures.size (omega (arith, found.within)) (omega arith)
 
 pub loop-rest-smaller : goal.loop-rest-smaller
 loop-rest-smaller c =
-    let found = next_set c.args.rows c.loop-rest.t c.loop-rest.rest c.ranges.rows.fits c.loop-rest.auto.rest-fits.fits
-    (omega (arith, c.loop-rest-test.true)) c.loop-rest.invariant.bits in
+    let found = next (goal.at.loop-rest-smaller c).In-loop-rest in
     omega (arith, found.within)
 
 pub loop-rest-preserved : goal.loop-rest-preserved
@@ -53,25 +56,24 @@ loop-rest-preserved c =
     let w = c.args.task.now in
     let with_first = class_of w.mix c.args.own First in
     let with_second = class_of w.mix c.args.own Second in
-    let found = next_set c.args.rows c.loop-rest.t c.loop-rest.rest c.ranges.rows.fits c.loop-rest.auto.rest-fits.fits
-    (omega (arith, c.loop-rest-test.true)) c.loop-rest.invariant.bits in
-    let next : ℕ = c.loop-rest.t + trailing_zeros w64 c.loop-rest.rest in
-    let before : unsigned_abs (to_z w64 c.loop-rest.sum-bits) ≤ next * 2 ^ 53 = omega (arith, c.loop-rest.invariant.size) in
-    rw (sum_is _ c.energy_of_row-sum.result next (2 ^ 53) before c.energy_of_row-sum.ensures.size (omega (arith, found.within)) (omega arith))
+    let found = next (goal.at.loop-rest-preserved c).In-loop-rest in
+    let row : ℕ = c.loop-rest.t + trailing_zeros w64 c.loop-rest.rest in
+    let before : unsigned_abs (to_z w64 c.loop-rest.sum-bits) ≤ row * 2 ^ 53 = omega (arith, c.loop-rest.invariant.size) in
+    rw (sum_is _ c.energy_of_row-sum.result row (2 ^ 53) before c.energy_of_row-sum.ensures.size (omega (arith, found.within)) (omega arith))
     record {
       within = omega (arith, found.within);
       bits = from_next c.args.rows c.loop-rest.t c.loop-rest.rest _ c.loop-rest.invariant.bits;
       firsts = c.energy_of_row-sum.ensures.firsts;
       seconds = c.energy_of_row-sum.ensures.seconds;
       value =
-          rows_energy_next w c.args.rows next _ c.energy_of_row-sum.result
+          rows_energy_next w c.args.rows row _ c.energy_of_row-sum.result
           (lists_energy w with_first with_second c.args.of_firsts.now c.args.of_seconds.now)
           (lists_energy w with_first with_second c.loop-rest.of_firsts c.loop-rest.of_seconds)
           (lists_energy w with_first with_second c.energy_of_row-sum.new.of_firsts c.energy_of_row-sum.new.of_seconds) found.set
           (c.loop-rest.invariant.value
           ∙ ap (λ z. lists_energy w with_first with_second c.args.of_firsts.now c.args.of_seconds.now +ℤ z)
-          (rows_energy_past w c.args.rows c.loop-rest.t next (omega arith) found.before)) c.energy_of_row-sum.ensures.value;
-      size = sum_size _ c.energy_of_row-sum.result next (2 ^ 53) before c.energy_of_row-sum.ensures.size;
+          (rows_energy_past w c.args.rows c.loop-rest.t row (omega arith) found.before)) c.energy_of_row-sum.ensures.value;
+      size = sum_size _ c.energy_of_row-sum.result row (2 ^ 53) before c.energy_of_row-sum.ensures.size;
     }
 
 pub returns-clause-value : goal.returns-clause-value
