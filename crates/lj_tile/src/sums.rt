@@ -269,39 +269,9 @@ fn add_row(
         sums,
     );
     let with_second = task.mix().class(own, Species::Second);
-    add_some_pairs(
-        t,
-        near & species_bits,
-        task,
-        &with_second.scale,
-        table,
-        of_seconds,
-        sums,
-    );
-}
-
-/// Appends pairs of place `t` to a list, if there are any.
-#[inline(always)]
-fn add_some_pairs(
-    t: usize,
-    set: u64,
-    task: &Task,
-    scale: &Scale,
-    table: &Table,
-    pairs: &mut NearPairs,
-    sums: &mut ForceSums,
-)
-    requires first { AreOnRing task.now.a.places }
-    requires second { AreOnRing task.now.b.places }
-    requires row { t < length task.now.a.places }
-    requires set { (s : ℕ) → bit_at set s ≡ 1 → s < length task.now.b.places }
-    requires pairs { AreFewPairs task.now.a.places task.now.b.places pairs.old }
-    ensures pairs { AreFewPairs task.now.a.places task.now.b.places pairs.new }
-    ensures totals { HaveTotals scale.now task.now.a.places task.now.b.places (pairs.old ++ row_pairs t set) pairs.new
-        sums.old sums.new }
-{
+    let set = near & species_bits;
     if set != 0 {
-        add_pairs(t, set, task, scale, table, pairs, sums);
+        add_pairs(t, set, task, &with_second.scale, table, of_seconds, sums);
     }
 }
 
