@@ -1,8 +1,6 @@
 use Rattle.std.proofs.Common.{◌≡◌, ◌<◌, ◌-◌, ℕ, length, bit_and, ap, ◌∙◌, arith}
-use Rattle.lj_ring.specs.declared.mixes.Class.{Class}
-use Rattle.lj_ring.specs.declared.mixes.Species.{Species}
 use Rattle.lj_ring.specs.declared.mixes.Species.TheVariants.{First, Second}
-use Rattle.lj_ring.specs.Mix.{Mix, class_of}
+use Rattle.lj_ring.specs.Mix.{class_of}
 use Rattle.lj_ring.proofs.MixLemmas.{class_symmetric}
 use Rattle.lj_tile.specs.Block.{Block}
 use Rattle.lj_tile.proofs.RowSums.{IsOfOne, IsSilentRow}
@@ -25,10 +23,6 @@ firsts_are c = c.places-first.ensures.value ∙ ap (λ (block : Block). block.pl
 
 seconds_are : (c : goal.After-energy_of_all) → c.places-second.result.now ≡ c.args.task.now.b.places
 seconds_are c = c.places-second.ensures.value ∙ ap (λ (block : Block). block.places) c.second.ensures.value
-
-class_is : (mix other : Mix) (class : Class) (own of : Species) → class ≡ class_of mix own of → mix ≡ other
-    → class ≡ class_of other own of
-class_is mix other class own of e f = e ∙ ap (λ m. class_of m own of) f
 
 either : (c : goal.After-energy_of_all) (t : ℕ) → t < length c.args.task.now.a.places
     → IsOfOne (bit_and c.near_rows-rows.result (18446744073709551615 - c.species_bits-species_bits.result))
@@ -65,9 +59,6 @@ returns c =
     let set : ℕ = c.species_bits-species_bits.result in
     let rows : ℕ = c.near_rows-rows.result in
     let its = c.species_bits-species_bits.ensures ∙ ap (λ (block : Block). block.species_bits) c.first-2.ensures.value in
-    let like = class_is c.mix-mix.result.now w.mix c.class-like_class.result.now First First c.class-like_class.ensures.value c.mix-mix.ensures in
-    let unlike = class_is c.mix-mix.result.now w.mix c.class-unlike_class.result.now First Second c.class-unlike_class.ensures.value c.mix-mix.ensures in
-    let others = class_is c.mix-mix.result.now w.mix c.class-others_class.result.now Second Second c.class-others_class.ensures.value c.mix-mix.ensures in
     let turned : class_of w.mix Second First ≡ class_of w.mix First Second = class_symmetric w.mix Second First in
     (five_added c.energy_of_rows-sum.result c.energy_of_rows-sum-2.result c.energy_of_all-sum.result c.energy_of_all-sum-2.result
     c.energy_of_all.result c.energy_of_rows-sum.ensures.size c.energy_of_rows-sum-2.ensures.size c.energy_of_all-sum.ensures.size
@@ -79,9 +70,9 @@ returns c =
     c.energy_of_all.result
     (rw (c.new-like.ensures, c.new-unlike.ensures) at c.energy_of_rows-sum.ensures.value)
     (rw (turned, c.new-others.ensures) at c.energy_of_rows-sum-2.ensures.value)
-    (rw (like, firsts_are c, seconds_are c) at c.energy_of_all-sum.ensures.value)
-    (rw (unlike, firsts_are c, seconds_are c) at c.energy_of_all-sum-2.ensures.value)
-    (rw (others, firsts_are c, seconds_are c) at c.energy_of_all.ensures.value)
+    (rw (c.class-like_class.ensures.value, c.mix-mix.ensures, firsts_are c, seconds_are c) at c.energy_of_all-sum.ensures.value)
+    (rw (c.class-unlike_class.ensures.value, c.mix-mix.ensures, firsts_are c, seconds_are c) at c.energy_of_all-sum-2.ensures.value)
+    (rw (c.class-others_class.ensures.value, c.mix-mix.ensures, firsts_are c, seconds_are c) at c.energy_of_all.ensures.value)
     (both_rows w (bit_and rows (18446744073709551615 - set)) (bit_and rows set) c.first.ensures.sound.most_first
     (first_rows w rows set (omega arith) c.first.ensures.sound.most_first its c.near_rows-rows.ensures.within).within
     (second_rows w rows set its c.near_rows-rows.ensures.within).within (either c))

@@ -1,9 +1,7 @@
 use Rattle.std.proofs.Common.{◌≡◌, ◌<◌, ◌-◌, ℕ, length, bit_and, ap, ◌∙◌, slice_index_or, arith}
 use Rattle.std.proofs.lemmas.List.{get_or-replicate}
 use Rattle.lj_ring.specs.declared.mixes.Class.{Class}
-use Rattle.lj_ring.specs.declared.mixes.Species.{Species}
 use Rattle.lj_ring.specs.declared.mixes.Species.TheVariants.{First, Second}
-use Rattle.lj_ring.specs.Mix.{Mix, class_of}
 use Rattle.lj_ring.proofs.MixLemmas.{class_symmetric}
 use Rattle.lj_tile.specs.Block.{Block}
 use Rattle.lj_tile.specs.Pushes.{no_push}
@@ -22,10 +20,6 @@ add_rows-requires-2-clause-rows c =
     second_rows c.args.task.now c.near_rows-rows.result c.species_bits-species_bits.result
     (c.species_bits-species_bits.ensures ∙ ap (λ (block : Block). block.species_bits) c.first-2.ensures.value) c.near_rows-rows.ensures.within
 
-scale_is : (mix other : Mix) (class : Class) (own of : Species) → class ≡ class_of mix own of → mix ≡ other
-    → class.scale ≡ (class_of other own of).scale
-scale_is mix other class own of e f = ap (λ (k : Class). k.scale) (e ∙ ap (λ m. class_of m own of) f)
-
 firsts_are : (c : goal.After-read_sums-2) → c.places-first.result.now ≡ c.args.task.now.a.places
 firsts_are c = c.places-first.ensures.value ∙ ap (λ (block : Block). block.places) c.first.ensures.value
 
@@ -41,17 +35,14 @@ all_sums : (c : goal.After-read_sums-2)
     c.add_all.new.sums c.add_all-2.new.sums c.add_all-3.new.sums
 all_sums c =
     let w = c.args.task.now in
-    let like = scale_is c.mix-mix.result.now w.mix c.class-class.result.now First First c.class-class.ensures.value c.mix-mix.ensures in
-    let unlike = scale_is c.mix-mix.result.now w.mix c.class-class-2.result.now First Second c.class-class-2.ensures.value c.mix-mix.ensures in
-    let others = scale_is c.mix-mix.result.now w.mix c.class-class-3.result.now Second Second c.class-class-3.ensures.value c.mix-mix.ensures in
     let turned : scale_between w Second First ≡ scale_between w First Second =
     ap (λ (k : Class). k.scale) (class_symmetric w.mix Second First) in
     record {
       rows = rw (c.new-like.ensures, c.new-unlike.ensures) at c.add_rows.ensures.sums;
       more_rows = rw (turned, c.new-others.ensures) at c.add_rows-2.ensures.sums;
-      like_pairs = rw (like, firsts_are c, seconds_are c) at c.add_all.ensures;
-      unlike_pairs = rw (unlike, firsts_are c, seconds_are c) at c.add_all-2.ensures;
-      other_pairs = rw (others, firsts_are c, seconds_are c) at c.add_all-3.ensures;
+      like_pairs = rw (c.class-class.ensures.value, c.mix-mix.ensures, firsts_are c, seconds_are c) at c.add_all.ensures;
+      unlike_pairs = rw (c.class-class-2.ensures.value, c.mix-mix.ensures, firsts_are c, seconds_are c) at c.add_all-2.ensures;
+      other_pairs = rw (c.class-class-3.ensures.value, c.mix-mix.ensures, firsts_are c, seconds_are c) at c.add_all-3.ensures;
       firsts = λ t h. ap (λ l. slice_index_or l t no_push) c.none.ensures.first ∙ get_or-replicate 64 t no_push no_push h;
       seconds = λ s h. ap (λ l. slice_index_or l s no_push) c.none.ensures.second ∙ get_or-replicate 64 s no_push no_push h;
       first_ring = c.read_sums.ensures;
