@@ -1,8 +1,9 @@
 -- The input of a reader: the bytes that it holds, and then those left in its source.
-use Rattle.std.specs.Prelude.{◌≡◌, ℕ, ◌<◌, ◌≤◌, List, ◌∷◌, ◌++◌, length, Option}
+use Rattle.std.specs.Prelude.{◌≡◌, ℕ, ◌<◌, ◌≤◌, List, [], ◌∷◌, ◌++◌, length, Option, Result, OnOk, OnErr}
 use Rattle.std.specs.Io.KnownBytes.{prepend_known, Consumes, Keeps, IsAtEnd}
 use Rattle.lj_wire.specs.declared.line_limits.TheConstants.{MAX_LINE_BYTES}
 use Rattle.lj_wire.specs.declared.reader.buffer.TheConstants.{MAX_HELD_BYTES}
+use Rattle.lj_wire.specs.Ends.{Rises}
 use Rattle.lj_wire.specs.Streams.{LacksLineFeed, IsLine}
 
 -- the bytes held, those left in the source where they are known, and its count of errors where it keeps one
@@ -22,6 +23,12 @@ pub record Grows (old new : Input) (count : ℕ) : Type 0 where
   pub held : new.held ≡ old.held ++ more
   pub kept : Keeps (bytes_untaken old) (bytes_untaken new)
   pub ended : count ≡ 0 → IsAtEnd new.unread
+
+-- a fault raises the count of errors and leaves no byte held; without one the count stays
+pub record CountsFault {T E : Type 0} (result : Result T E) (old new : Input) : Type 0 where
+  pub counted : OnOk result (new.errors ≡ old.errors)
+  pub emptied : OnErr result (new.held ≡ [])
+  pub risen : OnErr result (Rises old.errors new.errors)
 
 -- nothing is read where `count` bytes are held already
 abbrev pub ReadsFor : Input → Input → ℕ → Type 0

@@ -1,7 +1,6 @@
 //! The first line of a connection, read whole.
-ghost use Rattle.std.specs.Prelude.{◌≡◌, [], IfOk, OnOk, OnErr};
-ghost use Rattle.lj_wire.specs.Input.{TakesPart};
-ghost use Rattle.lj_wire.specs.Ends.{Rises};
+ghost use Rattle.std.specs.Prelude.{IfOk, OnErr};
+ghost use Rattle.lj_wire.specs.Input.{CountsFault, TakesPart};
 ghost use Rattle.lj_wire.specs.Greetings.{ReadsHello};
 
 use super::source_input::{Front, Input, SkippedLine};
@@ -11,10 +10,8 @@ use crate::source_and_sink::{ReadFault, Source};
 /// Reads the first line, whatever its length. `None` where the input ends before a whole line came.
 pub(crate) fn read_hello<S: Source>(input: &mut Input<S>) -> Result<Option<Hello>, ReadFault>
     ensures hello { IfOk result (λ hello. ReadsHello input.old hello input.new) }
-    ensures counted { OnOk result (input.new.errors ≡ input.old.errors) }
     ensures part { OnErr result (TakesPart input.old input.new) }
-    ensures emptied { OnErr result (input.new.held ≡ []) }
-    ensures risen { OnErr result (Rises input.old.errors input.new.errors) }
+    ensures errors { CountsFault result input.old input.new }
 {
     match input.find_line()? {
         Front::Line(count) => {

@@ -1,7 +1,6 @@
 //! Items read whole.
-ghost use Rattle.std.specs.Prelude.{◌≡◌, [], Some, None, if◌then◌else◌, IfOk, OnOk, OnErr};
-ghost use Rattle.lj_wire.specs.Input.{ReadsFor};
-ghost use Rattle.lj_wire.specs.Ends.{Rises};
+ghost use Rattle.std.specs.Prelude.{◌≡◌, Some, None, if◌then◌else◌, IfOk, OnErr};
+ghost use Rattle.lj_wire.specs.Input.{CountsFault, ReadsFor};
 ghost use Rattle.lj_wire.specs.Steps.{may_take_body, Finishes, ReadsItem, TakesFewer, TakesNoItem};
 
 use super::load_body::{pass, read_body};
@@ -19,10 +18,8 @@ pub(crate) fn read_item<S: Source>(
     item: &mut Item,
 ) -> Result<bool, ReadFault>
     ensures item { IfOk result (λ whole. ReadsItem input.old (if whole then Some item.new else None) input.new) }
-    ensures counted { OnOk result (input.new.errors ≡ input.old.errors) }
     ensures part { OnErr result (TakesNoItem input.old input.new) }
-    ensures emptied { OnErr result (input.new.held ≡ []) }
-    ensures risen { OnErr result (Rises input.old.errors input.new.errors) }
+    ensures errors { CountsFault result input.old input.new }
 {
     match input.find_line()? {
         Front::Line(count) => {
@@ -56,10 +53,8 @@ fn finish<S: Source>(
 ) -> Result<bool, ReadFault>
     ensures item { IfOk result (λ whole.
         Finishes input.old item.old count (if whole then Some item.new else None) input.new) }
-    ensures counted { OnOk result (input.new.errors ≡ input.old.errors) }
     ensures part { OnErr result (TakesFewer input.old input.new count) }
-    ensures emptied { OnErr result (input.new.held ≡ []) }
-    ensures risen { OnErr result (Rises input.old.errors input.new.errors) }
+    ensures errors { CountsFault result input.old input.new }
     ensures reads_for { ReadsFor input.old input.new count }
 {
     if !takes_body(item) {

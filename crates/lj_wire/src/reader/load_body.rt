@@ -1,8 +1,6 @@
 //! Reading bodies, and taking or skipping a number of bytes.
-ghost use Rattle.std.specs.Prelude.{◌≡◌, ℕ, ◌≤◌, ◌<◌, [], length, take, drop, min, IfOk, OnOk, OnErr};
-ghost use Rattle.std.specs.Io.KnownBytes.{Keeps, IsAtEnd};
-ghost use Rattle.lj_wire.specs.Input.{bytes_untaken, Takes, ReadsFor};
-ghost use Rattle.lj_wire.specs.Ends.{Rises};
+ghost use Rattle.std.specs.Prelude.{◌≡◌, ◌<◌, length, take, drop, min, IfOk, OnErr};
+ghost use Rattle.lj_wire.specs.Input.{CountsFault, ReadsFor};
 ghost use Rattle.lj_wire.specs.Steps.{Fills, TakesFewer, PassesCount, ReadsBody};
 
 use super::source_input::Input;
@@ -17,10 +15,8 @@ pub(crate) fn read_body<S: Source>(
     count: usize,
 ) -> Result<Option<LoadBody>, ReadFault>
     ensures body { IfOk result (λ body. ReadsBody input.old body count input.new) }
-    ensures counted { OnOk result (input.new.errors ≡ input.old.errors) }
     ensures part { OnErr result (TakesFewer input.old input.new count) }
-    ensures emptied { OnErr result (input.new.held ≡ []) }
-    ensures risen { OnErr result (Rises input.old.errors input.new.errors) }
+    ensures errors { CountsFault result input.old input.new }
     ensures reads_for { ReadsFor input.old input.new count }
 {
     let mut bytes = Vec::new(alloc);
@@ -36,10 +32,8 @@ pub(crate) fn read_body<S: Source>(
 /// Fills `buf`. Returns false where the input ends before.
 pub(crate) fn fill<S: Source>(input: &mut Input<S>, buf: &mut [u8]) -> Result<bool, ReadFault>
     ensures filled { IfOk result (λ filled. Fills input.old filled buf.new input.new) }
-    ensures counted { OnOk result (input.new.errors ≡ input.old.errors) }
     ensures part { OnErr result (TakesFewer input.old input.new (length buf.new)) }
-    ensures emptied { OnErr result (input.new.held ≡ []) }
-    ensures risen { OnErr result (Rises input.old.errors input.new.errors) }
+    ensures errors { CountsFault result input.old input.new }
     ensures reads_for { ReadsFor input.old input.new (length buf.new) }
 {
     let mut at = copy_held(input, buf);
@@ -69,10 +63,8 @@ fn copy_held<S: Source>(input: &mut Input<S>, buf: &mut [u8]) -> usize
 /// Takes `count` bytes. Returns false where the input ends before.
 pub(crate) fn pass<S: Source>(input: &mut Input<S>, count: usize) -> Result<bool, ReadFault>
     ensures passed { IfOk result (λ passed. PassesCount input.old passed count input.new) }
-    ensures counted { OnOk result (input.new.errors ≡ input.old.errors) }
     ensures part { OnErr result (TakesFewer input.old input.new count) }
-    ensures emptied { OnErr result (input.new.held ≡ []) }
-    ensures risen { OnErr result (Rises input.old.errors input.new.errors) }
+    ensures errors { CountsFault result input.old input.new }
     ensures reads_for { ReadsFor input.old input.new count }
 {
     let mut left = count - take_held(input, count);

@@ -1,6 +1,6 @@
 //! The input of a reader, read line by line.
-ghost use Rattle.std.specs.Prelude.{◌≡◌, ℕ, ◌≤◌, ◌<◌, [], length, take, drop, IfOk, OnOk, OnErr};
-ghost use Rattle.lj_wire.specs.Input.{bytes_untaken, Grows, Takes, HoldsNoFeed, TakesPart};
+ghost use Rattle.std.specs.Prelude.{◌≡◌, ◌≤◌, ◌<◌, [], length, take, drop, IfOk, OnOk, OnErr};
+ghost use Rattle.lj_wire.specs.Input.{CountsFault, bytes_untaken, Grows, Takes, HoldsNoFeed, TakesPart};
 ghost use Rattle.std.specs.Io.KnownBytes.{Keeps, IsAtEnd};
 ghost use Rattle.lj_wire.specs.Ends.{Rises};
 ghost use Rattle.lj_wire.specs.Steps.{Finds, Skips, SearchesFor};
@@ -127,10 +127,8 @@ impl<S: Source> Input<S> {
     pub(crate) fn find_line(&mut self) -> Result<Front, ReadFault>
         ensures found { IfOk result (λ front. Finds self.old front self.new) }
         ensures searched { IfOk result (λ front. SearchesFor self.old front self.new) }
-        ensures counted { OnOk result (self.new.errors ≡ self.old.errors) }
         ensures part { OnErr result (TakesPart self.old self.new) }
-        ensures emptied { OnErr result (self.new.held ≡ []) }
-        ensures risen { OnErr result (Rises self.old.errors self.new.errors) }
+        ensures errors { CountsFault result self.old self.new }
     {
         'reads: loop {
             if let Some((line, _)) = split_line(self.held()) {
@@ -157,10 +155,8 @@ impl<S: Source> Input<S> {
     pub(crate) fn skip_line(&mut self) -> Result<SkippedLine, ReadFault>
         requires { HoldsNoFeed self.old }
         ensures skipped { IfOk result (λ skipped. Skips self.old skipped self.new) }
-        ensures counted { OnOk result (self.new.errors ≡ self.old.errors) }
         ensures part { OnErr result (TakesPart self.old self.new) }
-        ensures emptied { OnErr result (self.new.held ≡ []) }
-        ensures risen { OnErr result (Rises self.old.errors self.new.errors) }
+        ensures errors { CountsFault result self.old self.new }
     {
         let mut seen = self.held().len();
         self.clear();
