@@ -82,6 +82,13 @@ impl Name {
     {
         Name { text: self.text }
     }
+
+    /// Makes this name equal to the other.
+    pub fn copy_from(&mut self, other: &Name)
+        ensures { self.new ≡ other.now }
+    {
+        self.text = other.text;
+    }
 }
 
 fn is_name(word: &[u8]) -> bool
@@ -150,5 +157,13 @@ impl Label {
             user: self.user,
             session: self.session.copy(),
         }
+    }
+
+    /// Makes this label equal to the other.
+    pub fn copy_from(&mut self, other: &Label)
+        ensures { self.new ≡ other.now }
+    {
+        self.user = other.user;
+        self.session.copy_from(&other.session);
     }
 }

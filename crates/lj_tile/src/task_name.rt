@@ -51,6 +51,17 @@ impl TaskName {
         }
     }
 
+    /// Makes this name equal to the other, field by field, where `copy` goes through a value on the stack.
+    pub fn copy_from(&mut self, other: &TaskName)
+        ensures { self.new ≡ other.now }
+    {
+        self.label.copy_from(&other.label);
+        self.step = other.step;
+        self.kind = other.kind;
+        self.bi = other.bi;
+        self.bj = other.bj;
+    }
+
     /// Returns whether the other name is equal. It compares first the blocks, in which the tasks of a step differ.
     pub fn is(&self, other: &TaskName) -> bool
         ensures { IsTrue result ↔ (self.now ≡ other.now) }

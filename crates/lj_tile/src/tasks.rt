@@ -108,7 +108,7 @@ impl Task {
     pub fn copy_from(&mut self, other: &Task)
         ensures { self.new ≡ other.now }
     {
-        self.name = other.name.copy();
+        self.name.copy_from(&other.name);
         self.mix = other.mix;
         self.first.copy_from(&other.first);
         self.second.copy_from(&other.second);
