@@ -85,7 +85,14 @@ impl EndBoxes {
         self.took_all
     }
 
-    /// Returns whether the last fetch took all results that the pool had, once after each fetch.
+    /// Notes a post: the next poll asks the pool, and wakes workers for the task.
+    pub(crate) fn note_post(&mut self)
+        ensures { self.new ≡ self.old }
+    {
+        self.took_all = false;
+    }
+
+    /// Returns whether the last fetch took all results that the pool had, once after each fetch, and not after a post.
     pub(crate) fn forget_fetch(&mut self) -> bool
         ensures { self.new ≡ self.old }
     {

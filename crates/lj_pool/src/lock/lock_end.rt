@@ -94,6 +94,7 @@ impl<'p, L: Ledger, R: Wait> Pool for LockEnd<'p, L, R> {
         ensures closed { IfErr result (λ why. why ≡ Closed → self.new.seen.closed ≡ true) }
         ensures stays_closed { StaysClosed self.old.seen self.new.seen }
     {
+        self.boxes.note_post();
         let mut boxed = self.boxes.copy_of(task);
         let posted = self.pool.post(self.rt, &mut boxed, task, wait);
         if let Some(handed_back) = boxed {
@@ -113,6 +114,7 @@ impl<'p, L: Ledger, R: Wait> Pool for LockEnd<'p, L, R> {
         ensures posted { ArePosted (take result tasks.now) self.old.seen self.new.seen }
         ensures stays_closed { StaysClosed self.old.seen self.new.seen }
     {
+        self.boxes.note_post();
         let mut copies = self.boxes.copies_of(tasks);
         let posted = self.pool.post_some(self.rt, &mut copies, tasks);
         self.boxes.take_back(copies);

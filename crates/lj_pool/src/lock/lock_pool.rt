@@ -212,7 +212,7 @@ impl<L: Ledger> LockPool<L> {
 
     /// Hands out the user's next result in hand. If there is none, takes as many results of the user that are in the book now as
     /// there is room for, and hands out the first. Returns false where there is none, or the pool is closed. The first poll after
-    /// all results were taken returns false too, and takes no lock.
+    /// all results were taken returns false too, unless a task was posted since, and takes no lock.
     #[tactic(auto, using(crate::proofs::EndBoxLemmas::next_in_hand, crate::proofs::EndBoxLemmas::next_fetched))]
     pub(crate) fn poll<R: Wait>(&self, rt: &R, user: u8, own: &mut EndBoxes) -> bool
         ensures next { result ≡ true

@@ -8,16 +8,18 @@ pub returns-clause-boxes_kept : goal.returns-clause-boxes_kept
 returns-clause-boxes_kept g c =
     let left = left_over c.post_some-posted.result c.copies_of-copies.result.items c.post_some-posted.new.copies.items
     c.copies_of-copies.ensures.boxes c.post_some-posted.ensures.hands_over in
+    let noted = ap (λ (own : EndBoxes). own.spare) c.note_post.ensures in
     let taken = ap (λ (own : EndBoxes). own.spare) c.copies_of-copies.ensures.taken in
     let taken_back = ap (λ (own : EndBoxes). own.spare) c.take_back.ensures in
     let spare = ap (λ (end : LockEnd). end.spare) c.self.view_is in
-    omega (arith, left, taken, taken_back, spare)
+    omega (arith, left, noted, taken, taken_back, spare)
 
 pub returns-then-posted-tasks-clause-boxes_kept : goal.returns-then-posted-tasks-clause-boxes_kept
 returns-then-posted-tasks-clause-boxes_kept g c =
     let left = left_over c.post_some-posted.result c.copies_of-copies.result.items c.post_some-posted.new.copies.items
     c.copies_of-copies.ensures.boxes c.post_some-posted.ensures.hands_over in
+    let noted = ap (λ (own : EndBoxes). own.spare) c.note_post.ensures in
     let taken = ap (λ (own : EndBoxes). own.spare) c.copies_of-copies.ensures.taken in
     let taken_back = ap (λ (own : EndBoxes). own.spare) c.take_back.ensures in
     let spare = ap (λ (end : LockEnd). end.spare) c.self.view_is in
-    omega (arith, left, taken, taken_back, spare)
+    omega (arith, left, noted, taken, taken_back, spare)
