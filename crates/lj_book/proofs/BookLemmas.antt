@@ -5,10 +5,11 @@ use Rattle.std.proofs.lemmas.List.{get_or_past}
 use Rattle.std.proofs.lemmas.List.Sums.{sum_by-cons}
 use Rattle.std.specs.Prelude.{slice_set}
 use Rattle.slab.specs.Slab.{Slab, Updates, get, slab_len}
+use Rattle.lj_tile.specs.Task.{Task}
 use Rattle.lj_book.specs.declared.book_entry.TheConstants.{MAX_ENTRIES}
 use Rattle.lj_book.specs.declared.key_states.KeyState.{KeyState}
 use Rattle.lj_book.specs.declared.key_states.KeyState.TheVariants.{Vacant, ToTake, Taken, ToFetch}
-use Rattle.lj_book.specs.Book.{BookOf, BookEntry, Open, Out, Done, IsBook, Puts, entry_at, entry_count, key_state_of, waiting_count, weight}
+use Rattle.lj_book.specs.Book.{BookOf, BookEntry, Open, Out, Done, IsBook, Puts, SameCounts, entry_at, entry_count, is_waiting, key_state_of, waiting_count, weight}
 use Rattle.lj_book.specs.Boxes.{has_box_by}
 use Rattle.lj_book.specs.KeyStates.{HasKeyState, key_state_at}
 use Rattle.lj_book.specs.Picks.{IsPick}
@@ -61,39 +62,42 @@ module _ {P K : Type 0} (slab : Slab (BookEntry P K)) (key_states : List KeyStat
       marked = still_marked;
     }
 
--- 1 for the state of a task without its result, else 0
-abbrev pub key_state_weight : KeyState → ℕ
-key_state_weight Vacant = 0
-key_state_weight ToTake = 1
-key_state_weight Taken = 1
-key_state_weight (ToFetch user) = 0
-
-weight_marked : {P K : Type 0} (slot : Option (BookEntry P K)) → weight slot ≡ key_state_weight (key_state_of slot)
-weight_marked None = refl
-weight_marked (Some (Open opened)) = refl
-weight_marked (Some (Out kept)) = refl
-weight_marked (Some (Done work)) = refl
-
--- where an entry takes the place of another, it is still a book
-module _ {P K : Type 0} (slab : Slab (BookEntry P K)) (key_states : List KeyState) (posted given fetched withdrawn : ℕ)
-    (held : IsBook slab key_states posted given fetched withdrawn) where
-  pub put_book : (new : Slab (BookEntry P K)) (key : ℕ) (entry : BookEntry P K) (was key_state : KeyState) → key_state_of (get slab key) ≡ was
-      → was ≢ Vacant → key_state ≡ key_state_of (Some entry) → Updates slab new key (Some entry) → slab_len new ≡ slab_len slab
-      → new.capacity ≡ slab.capacity → (given_now : ℕ) → given_now + weight (Some entry) ≡ given + key_state_weight was
-      → IsBook new (slice_set key_states key key_state) posted given_now fetched withdrawn
-  put_book new key entry was key_state there stands is updates len capacity given_now counts =
-      let waits = sum_changed weight refl slab.slots new.slots key updates.others in
-      let before : weight (get slab key) ≡ key_state_weight was = weight_marked (get slab key) ∙ ap key_state_weight there in
-      changed_book slab key_states held.marked new key (Some entry) key_state
-      (key_within key_states key (λ vacant. stands (sym (held.marked key ∙ there) ∙ vacant)))
-      updates is held.keys held.room capacity posted given_now fetched withdrawn
-      (omega (arith, held.balance, len))
-      (omega (arith, held.given_or_waiting, waits, before, ap weight updates.changed, counts))
-      (omega (arith, held.most, len))
-
 -- 1 where a test passes, else 0
 abbrev pub one_if : Bool → ℕ
 one_if passes = cond passes 1 0
+
+one_at_most : (passes : Bool) → one_if passes ≤ 1
+one_at_most true = omega arith
+one_at_most false = omega arith
+
+-- whether the state is that of a task without its result
+abbrev pub state_waits : KeyState → Bool
+state_waits Vacant = false
+state_waits ToTake = true
+state_waits Taken = true
+state_waits (ToFetch user) = false
+
+pub waits_marked : {P K : Type 0} (slot : Option (BookEntry P K)) → is_waiting slot ≡ state_waits (key_state_of slot)
+waits_marked None = refl
+waits_marked (Some (Open opened)) = refl
+waits_marked (Some (Out kept)) = refl
+waits_marked (Some (Done work)) = refl
+
+-- where an entry takes the place of a task without its result, it is still a book
+module _ {P K : Type 0} (slab : Slab (BookEntry P K)) (key_states : List KeyState) (posted given fetched withdrawn : ℕ)
+    (held : IsBook slab key_states posted given fetched withdrawn) where
+  pub put_book : (new : Slab (BookEntry P K)) (key : ℕ) (entry : BookEntry P K) → is_waiting (get slab key) ≡ true
+      → Updates slab new key (Some entry) → slab_len new ≡ slab_len slab → new.capacity ≡ slab.capacity
+      → IsBook new (slice_set key_states key (key_state_of (Some entry))) posted given fetched withdrawn
+  put_book new key entry waits updates len capacity =
+      let changed = sum_changed weight refl slab.slots new.slots key updates.others in
+      changed_book slab key_states held.marked new key (Some entry) (key_state_of (Some entry))
+      (key_within key_states key (λ vacant.
+      let not : true ≡ false = sym waits ∙ waits_marked (get slab key) ∙ ap state_waits (sym (held.marked key) ∙ vacant) in cc))
+      updates refl held.keys held.room capacity posted given fetched withdrawn
+      (omega (arith, held.balance, len))
+      (omega (arith, held.given_or_waiting, changed, ap one_if waits, ap weight updates.changed, one_at_most (is_waiting (Some entry))))
+      (omega (arith, held.most, len))
 
 -- how many entries pass a test, where one changes
 module _ {P K : Type 0} (old new : BookOf P K) (key : ℕ) (was slot : Option (BookEntry P K)) (there : entry_at old key ≡ was)
@@ -108,6 +112,13 @@ module _ {P K : Type 0} (old new : BookOf P K) (key : ℕ) (was slot : Option (B
   -- how many entries stand
   pub entries_put : entry_count new + one_if (is_some was) ≡ entry_count old + one_if (is_some slot)
   entries_put = count_put is_some refl
+
+-- where a task that was out gets its result, one task less waits, so one more result can be counted
+pub one_more : {P K : Type 0} (old new : BookOf P K) (key : ℕ) (kept : K) (work : Task) → entry_at old key ≡ Some (Out kept)
+    → Puts old new key (Some (Done work)) → SameCounts old new → old.given + waiting_count old.slots ≤ old.posted
+    → new.given + 1 + waiting_count new.slots ≤ new.posted
+one_more old new key kept work was puts counts waiting =
+    omega (arith, waiting, count_put old new key _ _ was puts is_waiting refl, counts.posted, counts.given)
 
 -- where a box lies in each entry, there are as many as entries
 module _ {P K : Type 0} where

@@ -1,9 +1,10 @@
 //! Entries, and how one of them changes.
 ghost use Rattle.std.specs.Prelude.{◌≡◌, ℕ, Bool, is_some, true, Some};
 ghost use Rattle.slab.specs.Slab.{get, ContainsKey, Updates, slab_len};
-ghost use Rattle.lj_book.specs.Book.{user_of, whose_by};
+ghost use Rattle.lj_book.specs.Book.{key_state_of, user_of, whose_by};
 ghost use Rattle.lj_book.specs.Boxes.{has_box_by};
 
+use crate::key_states::KeyState;
 use crate::task_box::{DoneBox, TaskBox};
 use slab::Slab;
 use std::mem;
@@ -20,6 +21,19 @@ pub enum BookEntry<P, K> {
     Out(K),
     /// The result is given.
     Done(DoneBox),
+}
+
+impl<P, K> BookEntry<P, K> {
+    /// Returns the state of a key with this entry.
+    pub(crate) fn key_state(&self) -> KeyState
+        ensures { result ≡ key_state_of (Some self.now) }
+    {
+        match self {
+            BookEntry::Open(_) => KeyState::ToTake,
+            BookEntry::Out(_) => KeyState::Taken,
+            BookEntry::Done(done) => KeyState::ToFetch(done.done().task().name().label.user),
+        }
+    }
 }
 
 /// Replaces the entry under a key, and returns the old one.

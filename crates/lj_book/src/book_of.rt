@@ -4,7 +4,7 @@ ghost use Rattle.std.specs.Option.{option_copied};
 ghost use Rattle.std.specs.Vec.{vec_capacity};
 ghost use Rattle.lj_book.specs.declared.key_states.KeyState.TheVariants.{Taken};
 ghost use Rattle.lj_book.specs.Picks.{IsPick};
-ghost use Rattle.lj_book.specs.Book.{entry_at, entry_count, key_state_of, kept_at, HasRoom, IsOpenAt, IsDoneAt, Posts, LetsOut, Reopens, Finishes, Fetches, Puts, Removes, RemovesAt, is_of_by};
+ghost use Rattle.lj_book.specs.Book.{entry_at, entry_count, key_state_of, kept_at, HasRoom, IsOpenAt, IsDoneAt, Posts, SameCounts, LetsOut, Reopens, Finishes, Fetches, Puts, Removes, RemovesAt, is_of_by, is_waiting, waiting_count};
 ghost use Rattle.lj_book.specs.Boxes.{box_count_by};
 
 use crate::book_entry::{BookEntry, Keeps, MAX_ENTRIES, put_for};
@@ -125,9 +125,7 @@ impl<P: Drop, K: Drop> BookOf<P, K> {
         requires { IsOpenAt self.old key }
         ensures { LetsOut self.old self.new key result kept }
     {
-        let was = put_for(&mut self.entries, key, BookEntry::Out(kept));
-        self.key_states.set(key, KeyState::Taken);
-        match was {
+        match self.replace(key, BookEntry::Out(kept)) {
             BookEntry::Open(opened) => opened,
             _ => unreachable!(),
         }
@@ -138,12 +136,7 @@ impl<P: Drop, K: Drop> BookOf<P, K> {
         requires { key_state_of (entry_at self.old key) ≡ Taken }
         ensures { Reopens self.old self.new key result opened }
     {
-        let was = put_for(&mut self.entries, key, BookEntry::Open(opened));
-        self.key_states.set(key, KeyState::ToTake);
-        match was {
-            BookEntry::Out(kept) => kept,
-            _ => unreachable!(),
-        }
+        self.replace_kept(key, BookEntry::Open(opened))
     }
 
     /// Stores the result of an entry that is out, and returns what was stored in its place.
@@ -151,14 +144,37 @@ impl<P: Drop, K: Drop> BookOf<P, K> {
         requires { key_state_of (entry_at self.old key) ≡ Taken }
         ensures { Finishes self.old self.new key result done }
     {
-        let user = done.done().task().name().label.user;
-        let was = put_for(&mut self.entries, key, BookEntry::Done(done));
-        self.key_states.set(key, KeyState::ToFetch(user));
+        let kept = self.replace_kept(key, BookEntry::Done(done));
         self.given += 1;
-        match was {
+        kept
+    }
+
+    /// Replaces an entry that is out, and returns what was stored in its place.
+    fn replace_kept(&mut self, key: usize, entry: BookEntry<P, K>) -> K
+        requires { key_state_of (entry_at self.old key) ≡ Taken }
+        ensures was { entry_at self.old key ≡ Some (BookEntry.Out result) }
+        ensures puts { Puts self.old self.new key (Some entry) }
+        ensures counts { SameCounts self.old self.new }
+        ensures waiting { self.old.given + waiting_count self.old.slots ≤ self.old.posted }
+    {
+        match self.replace(key, entry) {
             BookEntry::Out(kept) => kept,
             _ => unreachable!(),
         }
+    }
+
+    /// Replaces the entry of a task without its result, and returns the old one.
+    fn replace(&mut self, key: usize, entry: BookEntry<P, K>) -> BookEntry<P, K>
+        requires { is_waiting (entry_at self.old key) ≡ true }
+        ensures was { entry_at self.old key ≡ Some result }
+        ensures puts { Puts self.old self.new key (Some entry) }
+        ensures counts { SameCounts self.old self.new }
+        ensures waiting { self.old.given + waiting_count self.old.slots ≤ self.old.posted }
+    {
+        let key_state = entry.key_state();
+        let was = put_for(&mut self.entries, key, entry);
+        self.key_states.set(key, key_state);
+        was
     }
 
     /// Fetches the user's result of the least key from `pick` on, else of the least key, and removes its entry.

@@ -1,20 +1,28 @@
-use Rattle.std.proofs.Common.{◌≡◌, ap, ◌∙◌, arith}
-use Rattle.slab.specs.Slab.{get}
-use Rattle.lj_tile.specs.declared.task_name.TaskName.{TaskName}
-use Rattle.lj_tile.specs.Task.{Task}
-use Rattle.lj_book.specs.declared.key_states.KeyState.TheVariants.{Vacant, Taken, ToFetch}
-use Rattle.lj_book.specs.Book.{BookOf, entry_at, key_state_of}
-use Rattle.lj_book.proofs.BookLemmas.{put_book}
+use Rattle.std.proofs.Common.{◌+◌, ◌≤◌, sym, subst, arith}
+use Rattle.lj_book.specs.Book.{BookOf, waiting_count}
+use Rattle.lj_book.proofs.BookLemmas.{one_more}
 use Rattle.lj_book.proofs.book_of.BookOf.finish.Goals as goal
+
+pub overflow_add-self : goal.overflow_add-self
+overflow_add-self g c =
+    let r = c.replace_kept-kept in
+    let more = one_more c.args.self.now r.new.self c.args.key r.result c.args.done r.ensures.was r.ensures.puts r.ensures.counts
+    r.ensures.waiting in
+    let room = subst (λ (held : BookOf _ _). held.given + 1 + waiting_count held.slots ≤ held.posted) (sym c.self.view_is) more in
+    omega (arith, room, c.self.ranges.1.1.0.1)
 
 pub invariant_of-self : goal.invariant_of-self
 invariant_of-self g c =
-    let s = c.self.inside in
-    let there : key_state_of (get s.entries c.args.key) ≡ Taken =
-    ap (λ (held : BookOf _ _). key_state_of (entry_at held c.args.key)) c.self.view_is ∙ c.requires in
-    let user = ap (λ (n : TaskName). n.label.user)
-    (c.name.ensures.value ∙ ap (λ (w : Task). w.name) (c.task.ensures ∙ c.done.ensures)) in
-    rw c.set.ensures
-    (put_book s.entries s.key_states s.posted s.given s.fetched s.withdrawn c.self.invariant c.put_for-was.new.entries c.args.key _
-    Taken _ there (λ vacant. let e : Taken ≡ Vacant = vacant in cc) (ap ToFetch user) c.put_for-was.ensures.updates
-    c.put_for-was.ensures.len c.put_for-was.ensures.capacity _ (omega arith))
+    let r = c.replace_kept-kept in
+    let more = one_more c.args.self.now r.new.self c.args.key r.result c.args.done r.ensures.was r.ensures.puts r.ensures.counts
+    r.ensures.waiting in
+    let room = subst (λ (held : BookOf _ _). held.given + 1 + waiting_count held.slots ≤ held.posted) (sym c.self.view_is) more in
+    let held = c.self.invariant in
+    record {
+      balance = held.balance;
+      given_or_waiting = room;
+      most = held.most;
+      room = held.room;
+      keys = held.keys;
+      marked = held.marked;
+    }
