@@ -1,12 +1,12 @@
 -- What a change at one key does to a book of boxes.
-use Rattle.std.proofs.Common.{◌≡◌, ℕ, ◌≤◌, Option, Some, None, refl, sym, subst, inl, inr, arith}
+use Rattle.std.proofs.Common.{◌≡◌, ℕ, ◌≤◌, Option, Some, None, refl, sym, subst, ◌∙◌, inl, inr, arith}
 use Rattle.std.proofs.lemmas.Bool.{cases_eq}
 use Rattle.std.specs.Prelude.{Vec, IfSome, IfNone}
 use Rattle.std.specs.Global.{Global}
 use Rattle.lj_tile.specs.Task.{Task}
 use Rattle.lj_book.specs.Picks.{IsPick}
 use Rattle.lj_book.specs.Book.{BookOf, BookEntry, Open, Out, Done, Puts, Posts, LetsOut, Reopens, Finishes, Fetches, IsDoneAt, entry_at}
-use Rattle.lj_book.specs.Boxes.{AreOlder, BoxBook, FetchesBox, GivesBox, HandsBackBox, IsBelow, IsBoxBook, LentTask, Numbered, PostsBox, Slip, TakesBox, numbered_of, slip_of}
+use Rattle.lj_book.specs.Boxes.{AreOlder, BoxBook, FetchesBox, GivesBox, HandsBackBox, IsBelow, IsBoxBook, IsOut, LentTask, Numbered, PostsBox, Slip, TakesBox, numbered_of, slip_of}
 use Rattle.lj_book.proofs.BookLemmas.{entries_put}
 
 -- a number that is below one is below a greater one
@@ -46,18 +46,23 @@ module _ (old : BoxBook) (new : BookOf Numbered Slip) where
     boxes = omega (arith, entries_put old.held new lent.key _ _ t.was t.puts);
   }
 
-  pub hands_back_box : (lent : LentTask) → Reopens old.held new lent.key (slip_of lent) (numbered_of lent)
+  -- what is stored for a lent task that is out is its slip
+  kept_is : (lent : LentTask) (kept : Slip) → IsOut old lent → entry_at old.held lent.key ≡ Some (Out kept) → kept ≡ slip_of lent
+  kept_is lent kept out was = let same : Some (Out kept) ≡ Some (Out (slip_of lent)) = sym was ∙ out in cc
+
+  pub hands_back_box : (lent : LentTask) (kept : Slip) → IsOut old lent → Reopens old.held new lent.key kept (numbered_of lent)
       → HandsBackBox old (with_held new old) lent
-  hands_back_box lent h = record {
-    hands_back = h;
+  hands_back_box lent kept out h = record {
+    hands_back = subst (λ slip. Reopens old.held new lent.key slip (numbered_of lent)) (kept_is lent kept out h.was) h;
     spare = refl;
     made = refl;
     boxes = omega (arith, entries_put old.held new lent.key _ _ h.was h.puts);
   }
 
-  pub gives_box : (lent : LentTask) → Finishes old.held new lent.key (slip_of lent) lent.work → GivesBox old (with_held new old) lent
-  gives_box lent g = record {
-    gives = g;
+  pub gives_box : (lent : LentTask) (kept : Slip) → IsOut old lent → Finishes old.held new lent.key kept lent.work
+      → GivesBox old (with_held new old) lent
+  gives_box lent kept out g = record {
+    gives = subst (λ slip. Finishes old.held new lent.key slip lent.work) (kept_is lent kept out g.was) g;
     spare = refl;
     made = refl;
     boxes = omega (arith, entries_put old.held new lent.key _ _ g.was g.puts);

@@ -34,11 +34,15 @@ pub record Slip : Type 0 where
   pub number : ℕ
   pub user : ℕ
 
--- a task that is out in its box, with its key and the number of its post
-pub record LentTask : Type 0 where
+-- what is out in its box, with its key and the number of its post
+pub record Lent (B : Type 0) : Type 0 where
   pub key : ℕ
   pub number : ℕ
-  pub work : Task
+  pub work : B
+
+-- a task that is out in its box
+abbrev pub LentTask : Type 0
+LentTask = Lent Task
 
 -- the lent task as an open one
 abbrev pub numbered_of : LentTask → Numbered

@@ -1,14 +1,14 @@
 //! The book that hands out tasks in their boxes.
 ghost use Rattle.std.specs.Prelude.{◌≡◌, ◌≤◌, ◌<◌, ◌+◌, ◌-◌, ◌↔◌, ℕ, Some, IsOk, IsTrue, OnOk, OnErr, OnSome, IfOk, IfErr, IfSome, IfNone};
 ghost use Rattle.lj_book.specs.Picks.{IsPick};
-ghost use Rattle.lj_book.specs.Book.{entry_at, entry_count, HasRoom, IsOpenAt, IsDoneAt};
+ghost use Rattle.lj_book.specs.Book.{entry_count, HasRoom, IsOpenAt, IsDoneAt};
 ghost use Rattle.lj_book.specs.Boxes.{AreOlder, FetchesBox, GivesBox, HandsBackBox, IsOut, PostsBox, TakesBox, WithdrawsBox, boxes as boxes_of, empty_box_book};
 
-use crate::book_entry::BookEntry;
 use crate::book_of::BookOf;
 use crate::counts::Counts;
-use crate::lent_task::{LentDone, LentTask, Numbered, Slip};
+use crate::lent_task::{Lent, LentDone, LentTask, Numbered, Slip};
 use crate::task_box::{DoneBox, TaskBox, boxes};
+use lj_tile::Task;
 use std::alloc::{AllocError, Global};
 use std::marker::Model;
 
@@ -114,7 +114,11 @@ impl BoxBook {
         let key = self.held.find_open(pick)?;
         let slip = self.held.open_at(key).slip();
         let Numbered { number, task, .. } = self.held.let_out(key, slip);
-        Some(LentTask { key, number, task })
+        Some(Lent {
+            key,
+            number,
+            boxed: task,
+        })
     }
 
     /// Gives the result of a task that is out. Its user can then fetch it.
@@ -130,12 +134,10 @@ impl BoxBook {
         ensures handed_back { IfErr result (λ refused. refused ≡ lent.work) }
         ensures unchanged { OnErr result (self.new ≡ self.old) }
     {
-        let LentDone { key, number, done } = lent;
-        let user = done.done().task().name().label.user;
-        if !self.is_out(key, number, user) {
-            return Err(done);
+        if !self.is_out(lent.key, lent.number, lent.done().task()) {
+            return Err(lent.boxed);
         }
-        self.held.finish(key, done);
+        self.held.finish(lent.key, lent.boxed);
         Ok(())
     }
 
@@ -149,12 +151,11 @@ impl BoxBook {
         ensures handed_back { IfErr result (λ refused. refused ≡ lent.work) }
         ensures unchanged { OnErr result (self.new ≡ self.old) }
     {
-        let LentTask { key, number, task } = lent;
-        let user = task.task().name().label.user;
-        if !self.is_out(key, number, user) {
-            return Err(task);
+        if !self.is_out(lent.key, lent.number, lent.task()) {
+            return Err(lent.boxed);
         }
-        self.held.reopen(key, Numbered::new(number, task));
+        self.held
+            .reopen(lent.key, Numbered::new(lent.number, lent.boxed));
         Ok(())
     }
 
@@ -195,12 +196,12 @@ impl BoxBook {
         self.spare.len() + self.held.len() < self.made
     }
 
-    /// Returns whether a task of this user is out under the key with this number.
-    fn is_out(&self, key: usize, number: u64, user: u8) -> bool
-        ensures { IsTrue result ↔ (entry_at self.now.held key ≡ Some (BookEntry.Out (record { number = number; user = user }))) }
+    /// Returns whether a task of the same user is out under the key with this number.
+    fn is_out(&self, key: usize, number: u64, task: &Task) -> bool
+        ensures { IsTrue result ↔ IsOut self.now (record { key = key; number = number; work = task.now }) }
     {
         match self.held.kept_at(key) {
-            Some(kept) => kept.number == number && kept.user == user,
+            Some(kept) => kept.number == number && kept.user == task.name().label.user,
             None => false,
         }
     }

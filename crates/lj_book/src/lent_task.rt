@@ -90,24 +90,30 @@ impl Keeps for Slip {
     }
 }
 
-/// A task that is out in its box, with its key and the number of its post. Only a book makes one, and nothing changes
-/// its task.
+/// What is out of a book in its box, with its key and the number of its post. Only a book makes one, and nothing changes its
+/// task.
 #[derive(Drop)]
-pub struct LentTask {
+pub struct Lent<B> {
     pub(crate) key: usize,
     pub(crate) number: u64,
-    pub(crate) task: TaskBox,
+    pub(crate) boxed: B,
 }
 
-impl Model for LentTask {
-    ghost use Rattle.lj_book.specs.Boxes.{LentTask};
+/// A task that is out, in its box.
+pub type LentTask = Lent<TaskBox>;
 
-    ghost Value = { LentTask };
+/// The result of a task that is out, in its box.
+pub type LentDone = Lent<DoneBox>;
 
-    ghost view = { λ l. record { key = l.key; number = l.number; work = l.task } };
+impl<B> Model for Lent<B> {
+    ghost use Rattle.lj_book.specs.Boxes.{Lent};
+
+    ghost Value = { Lent B };
+
+    ghost view = { λ l. record { key = l.key; number = l.number; work = l.boxed } };
 }
 
-impl LentTask {
+impl Lent<TaskBox> {
     /// Returns its key.
     pub fn key(&self) -> usize
         ensures { result ≡ self.now.key }
@@ -119,7 +125,7 @@ impl LentTask {
     pub fn task(&self) -> &Task
         ensures { result.now ≡ self.now.work }
     {
-        self.task.task()
+        self.boxed.task()
     }
 
     /// Computes the task, in its box.
@@ -128,35 +134,19 @@ impl LentTask {
     pub fn compute(self, table: &Table) -> LentDone
         ensures { result ≡ self }
     {
-        LentDone {
+        Lent {
             key: self.key,
             number: self.number,
-            done: self.task.compute(table),
+            boxed: self.boxed.compute(table),
         }
     }
 }
 
-/// The result of a task that is out, in its box.
-#[derive(Drop)]
-pub struct LentDone {
-    pub(crate) key: usize,
-    pub(crate) number: u64,
-    pub(crate) done: DoneBox,
-}
-
-impl Model for LentDone {
-    ghost use Rattle.lj_book.specs.Boxes.{LentTask};
-
-    ghost Value = { LentTask };
-
-    ghost view = { λ l. record { key = l.key; number = l.number; work = l.done } };
-}
-
-impl LentDone {
+impl Lent<DoneBox> {
     /// Returns the result.
     pub fn done(&self) -> DoneRef<'_>
         ensures { result ≡ self.now.work }
     {
-        self.done.done()
+        self.boxed.done()
     }
 }

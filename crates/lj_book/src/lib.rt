@@ -17,5 +17,5 @@ pub use book_entry::MAX_ENTRIES;
 pub use book_faults::{Full, NoRoom, NotOut};
 pub use box_book::BoxBook;
 pub use counts::Counts;
-pub use lent_task::{LentDone, LentTask};
+pub use lent_task::{Lent, LentDone, LentTask};
 pub use task_box::{DoneBox, TaskBox};
