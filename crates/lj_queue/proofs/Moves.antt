@@ -46,48 +46,41 @@ begins = record {
     first zero v at none = absurd (omega (arith, ap parts_of (some-injective (history_of all_parts [] []) v at), none))
     first (suc port) v at none = absurd (some-ne-none v (sym at))
 
+-- where the view of one port moves and keeps its parts, the rule still holds if the sums over what moved agree
+moves : (items left : List OpenTask) (views : List PassHistory) (port : ℕ) (v w : PassHistory) → get_elem? views port ≡ some v
+    → 0 < v.parts → w.parts ≡ v.parts
+    → ((h : OpenTask → ℕ)
+    → pushed_weight h w + popped_weight h v + sum_by h items ≡ pushed_weight h v + popped_weight h w + sum_by h left)
+    → Balanced items views → Balanced left (set views port w)
+moves items left views port v w at some_part parts moved b = record {
+  parts = omega (arith, total_set parts_of views port v w at, parts, b.parts);
+  leaves = λ h.
+      omega (
+        arith,
+        b.leaves h,
+        moved h,
+        total_set (pushed_weight h) views port v w at,
+        total_set (popped_weight h) views port v w at,
+      );
+  idle = idle_set views port w (λ none. absurd (omega (arith, some_part, parts, none))) b.idle;
+}
+
 pub pushes : (n port : ℕ) (v : PassHistory) (x : OpenTask) → 0 < v.parts
     → Pushes Balanced n port v x (λ w. w ≡ with_pushed v x)
-pushes n port v x some_part items views room b at = (w, b', refl)
-  where
-    w : PassHistory
-    w = with_pushed v x
-
-    b' : Balanced (items ++ x ∷ []) (set views port w)
-    b' = record {
-      parts = omega (arith, total_set parts_of views port v w at, b.parts);
-      leaves = λ h.
-          omega (
-            arith,
-            b.leaves h,
-            total_set (pushed_weight h) views port v w at,
-            total_set (popped_weight h) views port v w at,
-            sum_by_push h v.pushed x,
-            sum_by_push h items x,
-          );
-      idle = idle_set views port w (λ none. absurd (omega (arith, some_part, none))) b.idle;
-    }
+pushes n port v x some_part items views room b at = (
+  with_pushed v x,
+  moves items (items ++ x ∷ []) views port v (with_pushed v x) at some_part refl
+      (λ h. omega (arith, sum_by_push h v.pushed x, sum_by_push h items x)) b,
+  refl,
+)
 
 pub pops : (port : ℕ) (v : PassHistory) → 0 < v.parts → Pops Balanced port v (λ x w. w ≡ with_popped v x)
-pops port v some_part x items views b at = (w, b', refl)
-  where
-    w : PassHistory
-    w = with_popped v x
-
-    b' : Balanced items (set views port w)
-    b' = record {
-      parts = omega (arith, total_set parts_of views port v w at, b.parts);
-      leaves = λ h.
-          omega (
-            arith,
-            b.leaves h,
-            total_set (pushed_weight h) views port v w at,
-            total_set (popped_weight h) views port v w at,
-            sum_by_push h v.popped x,
-            sum_by-cons h x items,
-          );
-      idle = idle_set views port w (λ none. absurd (omega (arith, some_part, none))) b.idle;
-    }
+pops port v some_part x items views b at = (
+  with_popped v x,
+  moves (x ∷ items) items views port v (with_popped v x) at some_part refl
+      (λ h. omega (arith, sum_by_push h v.popped x, sum_by-cons h x items)) b,
+  refl,
+)
 
 pub forks : (port : ℕ) (v : PassHistory) → 1 < v.parts
     → Forks Balanced port v (history_of (v.parts - 1) v.pushed v.popped) (history_of 1 [] [])
