@@ -1,5 +1,5 @@
 -- The passes of a pool, which one pass takes in, and what that learns then.
-use Rattle.std.proofs.Common.{◌≡◌, ℕ, ◌+◌, ◌^◌, ◌<◌, List, [], ◌∷◌, ◌++◌, length, refl, ap, ◌∙◌, subst, arith}
+use Rattle.std.proofs.Common.{◌≡◌, ℕ, ◌+◌, ◌^◌, ◌<◌, List, [], ◌∷◌, ◌++◌, length, refl, sym, ap, ◌∙◌, subst, arith}
 use Rattle.std.specs.List.{sum_by}
 use Rattle.std.proofs.lemmas.List.{length-append}
 use Rattle.std.proofs.lemmas.List.Sums.{sum_by-append, sum_by-cons}
@@ -16,14 +16,28 @@ no_item : {X : Type 0} (xs : List X) → length xs ≡ 0 → xs ≡ []
 no_item [] none = refl
 no_item (x ∷ xs) none = absurd (omega (arith, none))
 
--- what a measure says of a list of the joined pass, for a measure that adds up over lists
-measured : (m : List OpenTask → ℕ) → ((xs ys : List OpenTask) → m (xs ++ ys) ≡ m xs + m ys)
-    → (of : PassHistory → List OpenTask) (its : PoolPass → List OpenTask) (into new other : Pass OpenTask PassHistory) (x : PoolPass)
-    → view new ≡ joined_history (view into) (view other) → pass_of x.number other ≡ x
-    → of (joined_history (view into) (view other)) ≡ of (view into) ++ of (view other) → its (pass_of x.number other) ≡ of (view other)
-    → m (of (view new)) ≡ m (of (view into)) + m (its x)
-measured m adds of its into new other x both trace join same =
-    omega (arith, ap (λ v. m (of v)) both, ap m join, adds (of (view into)) (of (view other)), ap m same, ap (λ t. m (its t)) trace)
+-- what the joined pass pushed, or popped: `of` is that of a history, and `its` that of a pass
+module _ (of : PassHistory → List OpenTask) (its : PoolPass → List OpenTask) (into new other : Pass OpenTask PassHistory) (x : PoolPass)
+    (both : view new ≡ joined_history (view into) (view other)) (trace : pass_of x.number other ≡ x)
+    (join : of (joined_history (view into) (view other)) ≡ of (view into) ++ of (view other))
+    (same : its (pass_of x.number other) ≡ of (view other)) where
+  joined : of (view new) ≡ of (view into) ++ its x
+  joined = ap of both ∙ join ∙ ap (λ xs. of (view into) ++ xs) (sym same ∙ ap its trace)
+
+  counts : (count more : ℕ) → count ≡ length (of (view into)) → more ≡ length (its x) → count + more ≡ length (of (view new))
+  counts count more was is = omega (arith, was, is, ap length joined, length-append (of (view into)) (its x))
+
+  weighs : (h : OpenTask → ℕ) (later : List PoolPass) (whole : ℕ)
+      → sum_by h (of (view into)) + sum_by (λ (pass : PoolPass). sum_by h (its pass)) (x ∷ later) ≡ whole
+      → sum_by h (of (view new)) + sum_by (λ (pass : PoolPass). sum_by h (its pass)) later ≡ whole
+  weighs h later whole was =
+      omega (
+        arith,
+        was,
+        sum_by-cons (λ (pass : PoolPass). sum_by h (its pass)) x later,
+        ap (sum_by h) joined,
+        sum_by-append h (of (view into)) (its x),
+      )
 
 module _ (table : TableId) (count : ℕ) (all : List PoolPass) where
   pub takes_in : (rest later : List PoolPass) (x : PoolPass) (into new other : Pass OpenTask PassHistory) (pushed popped p q : ℕ)
@@ -41,36 +55,16 @@ module _ (table : TableId) (count : ℕ) (all : List PoolPass) where
         parts = omega (arith, at.parts, ap (λ (v : PassHistory). v.parts) both, counted.one);
         pushed_is = omega (arith, at.pushed_is, p_is, sum_by-cons (λ (pass : PoolPass). length pass.pushed) x later);
         popped_is = omega (arith, at.popped_is, q_is, sum_by-cons (λ (pass : PoolPass). length pass.popped) x later);
-        pushed_all = omega (arith, at.pushed_all, p_is, pushes length length-append);
-        popped_all = omega (arith, at.popped_all, q_is, pops length length-append);
+        pushed_all = counts (λ v. v.pushed) (λ t. t.pushed) into new other x both trace refl refl pushed p at.pushed_all p_is;
+        popped_all = counts (λ v. v.popped) (λ t. t.popped) into new other x both trace refl refl popped q at.popped_all q_is;
         pushed_most = omega (arith, at.pushed_most, p_most);
         popped_most = omega (arith, at.popped_most, q_most);
-        pushed_weight = λ h.
-            omega (
-              arith,
-              at.pushed_weight h,
-              sum_by-cons (λ (pass : PoolPass). sum_by h pass.pushed) x later,
-              pushes (sum_by h) (sum_by-append h),
-            );
-        popped_weight = λ h.
-            omega (
-              arith,
-              at.popped_weight h,
-              sum_by-cons (λ (pass : PoolPass). sum_by h pass.popped) x later,
-              pops (sum_by h) (sum_by-append h),
-            );
+        pushed_weight = λ h. weighs (λ v. v.pushed) (λ t. t.pushed) into new other x both trace refl refl h later _ (at.pushed_weight h);
+        popped_weight = λ h. weighs (λ v. v.popped) (λ t. t.popped) into new other x both trace refl refl h later _ (at.popped_weight h);
       }
     where
       at : Gathers table count all (x ∷ later) into pushed popped
       at = subst (λ l. Gathers table count all l into pushed popped) is was
-
-      pushes : (m : List OpenTask → ℕ) → ((xs ys : List OpenTask) → m (xs ++ ys) ≡ m xs + m ys)
-          → m (view new).pushed ≡ m (view into).pushed + m x.pushed
-      pushes m adds = measured m adds (λ v. v.pushed) (λ t. t.pushed) into new other x both trace refl refl
-
-      pops : (m : List OpenTask → ℕ) → ((xs ys : List OpenTask) → m (xs ++ ys) ≡ m xs + m ys)
-          → m (view new).popped ≡ m (view into).popped + m x.popped
-      pops m adds = measured m adds (λ v. v.popped) (λ t. t.popped) into new other x both trace refl refl
 
   -- the pass that takes them in has some part: fewer than all are left
   pub some_part : (rest : List PoolPass) (into : Pass OpenTask PassHistory) (pushed popped : ℕ)
