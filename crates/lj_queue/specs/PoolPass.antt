@@ -1,5 +1,5 @@
 -- The passes of a pool with a queue, and its ends.
-use Rattle.std.specs.Prelude.{◌≡◌, ℕ, ◌-◌, ◌<◌, ◌≤◌, ◌^◌, List, [], ◌∷◌, ◌++◌, length}
+use Rattle.std.specs.Prelude.{◌≡◌, ℕ, ◌-◌, ◌<◌, ◌≤◌, ◌^◌, List, [], ◌∷◌, ◌++◌, Option, length}
 use Rattle.std.specs.List.{All}
 use Rattle.atomic_table.specs.Seated.{TableId}
 use Rattle.crossbeam_queue.specs.Passes.{Pass, view}
@@ -27,6 +27,17 @@ untouched_pass number = record { number = number; pushed = []; popped = [] }
 -- one more open task was pushed
 abbrev pub with_push : PoolPass → OpenTask → PoolPass
 with_push pass ticket = record { number = pass.number; pushed = pass.pushed ++ ticket ∷ []; popped = pass.popped }
+
+-- who posts: the pass of an end, with the end's number, its user, and the task in the box for the next one if there is one
+pub record Poster : Type 0 where
+  pub pass : PoolPass
+  pub end : ℕ
+  pub user : ℕ
+  pub next : Option Task
+
+-- a task was pushed for the end and its user
+abbrev pub with_post : Poster → Task → Poster
+with_post poster task = record poster { pass = with_push poster.pass (open_task_of poster.end poster.user task) }
 
 -- one more open task was popped
 abbrev pub with_pop : PoolPass → OpenTask → PoolPass

@@ -4,6 +4,7 @@
 mod mailboxes;
 mod open_task;
 mod pass;
+mod poster;
 mod queue_end;
 mod queue_pool;
 mod queue_worker;

@@ -5,7 +5,8 @@ ghost use Rattle.lj_pool.specs.Accounts.{IsKnownByName};
 ghost use Rattle.lj_pool.specs.Seen.{IsHandedOut, IsPosted, SameOwed, StaysClosed, nothing_seen};
 ghost use Rattle.lj_queue.specs.PoolPass.{with_push, open_task_of};
 
-use crate::pass::{CountedPass, PassBoxes, PoolIdentity, PoolPass};
+use crate::pass::{PassBoxes, PoolIdentity, PoolPass};
+use crate::poster::Poster;
 use crate::queue_pool::QueuePool;
 use lj_book::TaskBox;
 use lj_pool::{Account, MAX_OWED, NotPosted, Pool, TASKS_AT_ONCE, UnsignalledPosts};
@@ -23,15 +24,14 @@ pub struct QueueEnd<'p, L: PoolIdentity, R: Wait> {
     rt: &'p R,
     pool: &'p QueuePool<L>,
     account: Account,
-    counted: CountedPass<L>,
+    /// Its pass, its number and its user.
+    poster: Poster<L>,
     /// The result that was handed out last, the results that are handed out next, and boxes for the next tasks.
     boxes: PassBoxes,
-    number: u64,
-    user: u8,
     unsignalled: UnsignalledPosts,
     /// Whether the last fetch took all results that were there, so that the next poll need not ask the pool.
     took_all: bool,
-    ghost whose: { boxes.hand.user ≡ user },
+    ghost whose: { boxes.hand.user ≡ poster.user },
 }
 
 impl<'p, L: PoolIdentity, R: Wait> Model for QueueEnd<'p, L, R> {
@@ -41,9 +41,9 @@ impl<'p, L: PoolIdentity, R: Wait> Model for QueueEnd<'p, L, R> {
 
     ghost view = { λ end. record {
       seen = end.account;
-      pass = end.counted;
-      number = end.number;
-      user = end.user;
+      pass = end.poster.pass;
+      number = end.poster.end;
+      user = end.poster.user;
       last = end.boxes.last;
       hand = end.boxes.hand.results;
     } };
@@ -70,10 +70,13 @@ impl<'p, L: PoolIdentity, R: Wait> QueueEnd<'p, L, R> {
             rt,
             pool,
             account: Account::new(),
-            counted,
+            poster: Poster {
+                counted,
+                end: number,
+                user,
+                next: None,
+            },
             boxes,
-            number,
-            user,
             unsignalled: UnsignalledPosts::new(),
             took_all: false,
         }
@@ -86,8 +89,10 @@ impl<'p, L: PoolIdentity, R: Wait> QueueEnd<'p, L, R> {
         let mut unsignalled = self.unsignalled;
         self.pool.wake_workers(self.rt, unsignalled.take_due(1));
         let mut boxes = self.boxes;
-        self.pool.spares.clear(self.rt, &mut boxes.hand, self.user);
-        PoolPass::new(self.counted, boxes)
+        self.pool
+            .spares
+            .clear(self.rt, &mut boxes.hand, self.poster.user);
+        PoolPass::new(self.poster.counted, boxes)
     }
 }
 
@@ -118,14 +123,9 @@ impl<'p, L: PoolIdentity, R: Wait> Pool for QueueEnd<'p, L, R> {
         ensures closed { IfErr result (λ why. why ≡ Closed → self.new.seen.closed ≡ true) }
         ensures stays_closed { StaysClosed self.old.seen self.new.seen }
     {
-        let (end, user) = (self.number, self.user);
-        let (pass, mut next) = (&mut self.counted, self.boxes.spare.pop().flatten());
-        let posted = self
-            .pool
-            .post(self.rt, pass, end, user, task, &mut next, wait);
-        if let Some(unused) = next {
-            self.reuse(unused);
-        }
+        self.take_next();
+        let posted = self.pool.post(self.rt, &mut self.poster, task, wait);
+        self.keep_next();
         self.account.note_post(task, posted);
         if posted.is_ok() {
             self.unsignalled.note_posted();
@@ -153,7 +153,7 @@ impl<'p, L: PoolIdentity, R: Wait> Pool for QueueEnd<'p, L, R> {
             self.tell(1);
             self.pool.fetch(
                 self.rt,
-                self.user,
+                self.poster.user,
                 self.account.owed(),
                 &mut self.boxes.hand,
             );
@@ -231,7 +231,7 @@ impl<'p, L: PoolIdentity, R: Wait> QueueEnd<'p, L, R> {
         if is_closed {
             self.pool
                 .spares
-                .clear(self.rt, &mut self.boxes.hand, self.user);
+                .clear(self.rt, &mut self.boxes.hand, self.poster.user);
         }
         is_closed
     }
@@ -250,7 +250,9 @@ impl<'p, L: PoolIdentity, R: Wait> QueueEnd<'p, L, R> {
         if mem::take(&mut self.took_all) {
             return false;
         }
-        self.took_all = self.pool.poll(self.rt, self.user, &mut self.boxes.hand);
+        self.took_all = self
+            .pool
+            .poll(self.rt, self.poster.user, &mut self.boxes.hand);
         self.took_all
     }
 
@@ -262,12 +264,28 @@ impl<'p, L: PoolIdentity, R: Wait> QueueEnd<'p, L, R> {
         ensures unchanged { self.new ≡ record self.old { last = self.new.last; hand = self.new.hand } }
         ensures none { result ≡ false → self.new ≡ self.old }
     {
-        let Some(first) = self.boxes.hand.pop(self.user) else {
+        let Some(first) = self.boxes.hand.pop(self.poster.user) else {
             return false;
         };
         let older = mem::replace(&mut self.boxes.last, first);
         self.reuse(older.into_task());
         true
+    }
+
+    /// Takes one of the boxes that it keeps for the next task.
+    fn take_next(&mut self)
+        ensures { self.new ≡ self.old }
+    {
+        self.poster.next = self.boxes.spare.pop().flatten();
+    }
+
+    /// Keeps the box for the next task if the post has left it.
+    fn keep_next(&mut self)
+        ensures { self.new ≡ self.old }
+    {
+        if let Some(unused) = self.poster.next.take() {
+            self.reuse(unused);
+        }
     }
 
     /// Keeps a box for a later task, or returns it to the pool if the end has enough.

@@ -4,11 +4,12 @@ ghost use Rattle.std.specs.List.{All};
 ghost use Rattle.lj_pool.specs.Seen.{nothing_seen};
 ghost use Rattle.lj_pool.specs.declared.pool.NotPosted.TheVariants.{Closed};
 ghost use Rattle.lj_queue.specs.ResultList.{empty_list};
-ghost use Rattle.lj_queue.specs.PoolPass.{IsRootPass, with_push, with_pop, open_task_of, untouched_pass};
+ghost use Rattle.lj_queue.specs.PoolPass.{IsRootPass, with_post, with_push, with_pop, untouched_pass};
 
 use crate::mailboxes::Mailboxes;
 use crate::open_task::OpenTask;
 use crate::pass::{CountedPass, PoolIdentity, PoolPass};
+use crate::poster::Poster;
 use crate::queue_end::QueueEnd;
 use crate::result_list::ResultList;
 use crate::root_pass::{RootPass, passes_of};
@@ -172,48 +173,37 @@ impl<L: PoolIdentity> QueuePool<L> {
         self.mailboxes.lock(rt).withdraw(rt, user, &self.spares);
     }
 
-    /// Posts a task of an end for its user by a pass, in its next box or a spare one. With `wait` it waits while there is no
-    /// room, and fails only where the pool is closed.
+    /// Posts a task in the next box of the poster or a spare one. With `wait` it waits while there is no room, and fails only where
+    /// the pool is closed.
     pub(crate) fn post<R: Wait>(
         &self,
         rt: &R,
-        pass: &mut CountedPass<L>,
-        end: u64,
-        user: u8,
+        poster: &mut Poster<L>,
         task: &Task,
-        next: &mut Option<TaskBox>,
         wait: bool,
     ) -> Result<(), NotPosted>
-        ensures pushed { OnOk result (pass.new ≡ with_push pass.old (open_task_of end user task.now)) }
-        ensures nothing { OnErr result (pass.new ≡ pass.old) }
+        ensures pushed { OnOk result (poster.new ≡ record (with_post poster.old task.now) { next = poster.new.next }) }
+        ensures nothing { OnErr result (poster.new ≡ record poster.old { next = poster.new.next }) }
         ensures full { wait ≡ true → IfErr result (λ why. why ≡ Closed) }
     {
         if self.is_closed() {
             return Err(NotPosted::Closed);
         }
-        if self.try_post(rt, pass, end, user, task, next) {
+        if self.try_post(rt, poster, task) {
             Ok(())
         } else if wait {
-            self.post_later(rt, pass, end, user, task, next)
+            self.post_later(rt, poster, task)
         } else {
             Err(NotPosted::Full)
         }
     }
 
-    /// Posts a task of an end for its user by a pass, in its next box or a spare one. Returns whether there was room.
-    fn try_post<R: Wait>(
-        &self,
-        rt: &R,
-        pass: &mut CountedPass<L>,
-        end: u64,
-        user: u8,
-        task: &Task,
-        next: &mut Option<TaskBox>,
-    ) -> bool
-        ensures pushed { result ≡ true → pass.new ≡ with_push pass.old (open_task_of end user task.now) }
-        ensures nothing { result ≡ false → pass.new ≡ pass.old }
+    /// Posts a task in the next box of the poster or a spare one. Returns whether there was room.
+    fn try_post<R: Wait>(&self, rt: &R, poster: &mut Poster<L>, task: &Task) -> bool
+        ensures pushed { result ≡ true → poster.new ≡ record (with_post poster.old task.now) { next = poster.new.next } }
+        ensures nothing { result ≡ false → poster.new ≡ record poster.old { next = poster.new.next } }
     {
-        self.fill(rt, task, next) && self.push_next(rt, pass, end, user, next)
+        self.fill(rt, task, &mut poster.next) && self.push_next(rt, poster)
     }
 
     /// Copies a task into the next box; where there is none, takes a spare one for it. Returns false if none is spare either.
@@ -233,27 +223,24 @@ impl<L: PoolIdentity> QueuePool<L> {
         }
     }
 
-    /// Pushes the task in the next box. Returns whether there was room; if not, the box stays.
-    fn push_next<R: Wait>(
-        &self,
-        rt: &R,
-        pass: &mut CountedPass<L>,
-        end: u64,
-        user: u8,
-        next: &mut Option<TaskBox>,
-    ) -> bool
-        ensures pushed { result ≡ true
-            → IsSomeAnd next.old (λ task. pass.new ≡ with_push pass.old (open_task_of end user task)) }
-        ensures nothing { result ≡ false → pass.new ≡ pass.old }
-        ensures stays { result ≡ false → next.new ≡ next.old }
+    /// Pushes the task in the next box of the poster. Returns whether there was room; if not, the box stays.
+    fn push_next<R: Wait>(&self, rt: &R, poster: &mut Poster<L>) -> bool
+        ensures pushed { result ≡ true → IsSomeAnd poster.old.next
+            (λ task. poster.new ≡ record (with_post poster.old task) { next = poster.new.next }) }
+        ensures stays { result ≡ false → poster.new ≡ poster.old }
     {
-        let Some(task) = next.take() else {
+        let Some(task) = poster.next.take() else {
             return false;
         };
-        let Err(refused) = pass.push(rt, &self.queue, OpenTask { end, user, task }) else {
+        let ticket = OpenTask {
+            end: poster.end,
+            user: poster.user,
+            task,
+        };
+        let Err(refused) = poster.counted.push(rt, &self.queue, ticket) else {
             return true;
         };
-        *next = Some(refused.task);
+        poster.next = Some(refused.task);
         false
     }
 
@@ -261,14 +248,11 @@ impl<L: PoolIdentity> QueuePool<L> {
     fn post_later<R: Wait>(
         &self,
         rt: &R,
-        pass: &mut CountedPass<L>,
-        end: u64,
-        user: u8,
+        poster: &mut Poster<L>,
         task: &Task,
-        next: &mut Option<TaskBox>,
     ) -> Result<(), NotPosted>
-        ensures pushed { OnOk result (pass.new ≡ with_push pass.old (open_task_of end user task.now)) }
-        ensures nothing { OnErr result (pass.new ≡ pass.old) }
+        ensures pushed { OnOk result (poster.new ≡ record (with_post poster.old task.now) { next = poster.new.next }) }
+        ensures nothing { OnErr result (poster.new ≡ record poster.old { next = poster.new.next }) }
         ensures closed { IfErr result (λ why. why ≡ Closed) }
     {
         let mut mailboxes = self.mailboxes.lock(rt);
@@ -278,7 +262,7 @@ impl<L: PoolIdentity> QueuePool<L> {
                 self.waiting_posters.fetch_sub(1, Ordering::SeqCst);
                 return Err(NotPosted::Closed);
             }
-            if self.try_post(rt, pass, end, user, task, next) {
+            if self.try_post(rt, poster, task) {
                 self.waiting_posters.fetch_sub(1, Ordering::SeqCst);
                 return Ok(());
             }

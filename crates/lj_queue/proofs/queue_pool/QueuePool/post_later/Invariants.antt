@@ -5,5 +5,5 @@ abbrev pub invariant-loop : goal.invariant-loop
 invariant-loop g l = record {
   next : (goal.iterator-loop g).can_next l.iterator';
   finite : (goal.iterator-loop g).is_finite l.iterator';
-  pass : l.pass ≡ l.fn.pass;
+  poster : l.poster ≡ record l.fn.poster { next = l.poster.next };
 }
