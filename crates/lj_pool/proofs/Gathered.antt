@@ -18,7 +18,7 @@ use Rattle.lj_session.specs.declared.command.Command.{Command}
 use Rattle.lj_session.specs.Turns.{waits_for}
 use Rattle.lj_session.specs.UserState.{LiveSession, UserState, IsAtWork, IsAwaited, live_session, names, with_session_changed, with_posted, with_tile_in, with_passed_to}
 use Rattle.lj_session.specs.UserState.{next_tile, next_of, is_whole_in}
-use Rattle.lj_session.specs.Owner.{Owner, label_of, task_of_session, next_session, task_in, with_task_posted, with_task_in}
+use Rattle.lj_session.specs.Owner.{Owner, label_of, task_of_session, next_session, next_task_of, with_task_posted, with_task_in}
 use Rattle.lj_session.specs.Owner.{IsAwaitedIn, ready_session}
 use Rattle.lj_session.proofs.AtWork.{at_work-posted, at_work-taken}
 use Rattle.lj_session.proofs.Entries.{by_test}
@@ -268,7 +268,7 @@ module _ (owner : Owner) (owed : List Task) (t : Gathers owner owed) where
     pub next_place : next_tile held ≡ Some place
     pub task : next_of (label_of owner name) (Some held) ≡ Some work
 
-  pub posting : (work : Task) → task_in owner ≡ Some work → Posting work
+  pub posting : (work : Task) → next_task_of owner ≡ Some work → Posting work
   posting work some = by (next_session owner) refl
     where
       closed_none : (label : Label) (held : LiveSession) → held.live.part ≡ None → next_of label (Some held) ≡ Some work → ⊥
@@ -303,7 +303,7 @@ module _ (owner : Owner) (owed : List Task) (t : Gathers owner owed) where
           (λ held closed h. closed_none (label_of owner name) held closed h) its in
           placed name e o (subst (λ h. next_of (label_of owner name) h ≡ Some work) o.there its) (next_tile o.held) refl
 
-  module _ (work : Task) (some : task_in owner ≡ Some work) where
+  module _ (work : Task) (some : next_task_of owner ≡ Some work) where
     abbrev p : Posting work
     p = posting work some
 
@@ -340,7 +340,7 @@ module _ (owner : Owner) (owed : List Task) (t : Gathers owner owed) where
         append-none (w ∷ ws) = ap (λ l. w ∷ l) (append-none ws)
 
   -- while something waits, no session is whole and no task is left to post, some are owed
-  pub owes_some : IsSome owner.waiting → ready_session owner ≡ None → task_in owner ≡ None → 0 < length owed
+  pub owes_some : IsSome owner.waiting → ready_session owner ≡ None → next_task_of owner ≡ None → 0 < length owed
   owes_some waits none_ready no_task = by owner.waiting refl
     where
       at : (name : List ℕ) (held : LiveSession) → live_session owner.state name ≡ Some held → (step : OpenStep) → held.live.part ≡ Some step

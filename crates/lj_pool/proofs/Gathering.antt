@@ -17,7 +17,7 @@ use Rattle.lj_base.specs.declared.names.Label.{Label}
 use Rattle.lj_tile.specs.Task.{Task}
 use Rattle.lj_step.specs.Sim.{Sim, OpenStep}
 use Rattle.lj_step.specs.OpenSteps.{blocks, is_tile, cover, opened_step, is_tile_awaited_in, is_tile_awaited, tiles_in, tiles_of, task_of}
-use Rattle.lj_step.specs.OpenSteps.{task_in as task_in_step, task_at, tile_number_of, with_tile, IsAwaitedTaskIn, is_whole}
+use Rattle.lj_step.specs.OpenSteps.{task_of_open as task_in_step, task_at, tile_number_of, with_tile, IsAwaitedTaskIn, is_whole}
 use Rattle.lj_step.proofs.Flags.{none_left, count_flags}
 use Rattle.lj_step.proofs.TilesTaken.{number_is}
 use Rattle.lj_session.specs.UserState.{LiveSession, next_tile, next_of, with_passed_to, with_tile_in, with_step}

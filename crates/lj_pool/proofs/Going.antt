@@ -14,7 +14,7 @@ use Rattle.lj_session.specs.Answers.{answer}
 use Rattle.lj_session.specs.Turns.{turns, waits_for}
 use Rattle.lj_session.specs.UserState.{LiveSession, live_session, owed_in, user_of, with_session_changed, with_posted, with_tile_in, next_tile, with_passed_to, steps_before}
 use Rattle.lj_session.specs.UserState.{is_whole_in}
-use Rattle.lj_session.specs.Owner.{Owner, user_in, label_of, task_in, with_task_posted, with_task_in, IsAwaitedIn, IsAnswered, IsReplied}
+use Rattle.lj_session.specs.Owner.{Owner, user_in, label_of, next_task_of, with_task_posted, with_task_in, IsAwaitedIn, IsAnswered, IsReplied}
 use Rattle.lj_session.specs.Owner.{WaitsAlike, WaitsAlikeFor, IsLastTurn, is_waited_for, owner_turned}
 use Rattle.lj_session.proofs.Holding.{changed-quota}
 use Rattle.lj_session.proofs.Waiting.{posted_user, taken_user}
@@ -200,7 +200,7 @@ owed_posted held = by (next_tile held)
 
 -- a task posted
 module _ (owner : Owner) (before after : Seen) (t : Gathers owner before.owed) (work : Task)
-    (some : task_in owner ≡ Some work) where
+    (some : next_task_of owner ≡ Some work) where
   abbrev p : Posting owner before.owed t work
   p = posting owner before.owed t work some
 
@@ -376,7 +376,7 @@ owed-coming owner seen t some = by seen.owed refl
         omega (arith, less)
 
 -- and so it is where a task is to be posted
-pub post-coming : (owner : Owner) (seen : Seen) → Gathers owner seen.owed → (work : Task) → task_in owner ≡ Some work
+pub post-coming : (owner : Owner) (seen : Seen) → Gathers owner seen.owed → (work : Task) → next_task_of owner ≡ Some work
     → 0 < tiles_coming owner
 post-coming owner seen t work some =
     let goes = goes_posted owner seen with_it t work some (record { owed = refl; expected = refl; strays = refl }) in

@@ -11,7 +11,7 @@ use Rattle.lj_base.specs.declared.names.Label.{Label}
 use Rattle.lj_tile.specs.Blank.{blank_task}
 use Rattle.lj_tile.specs.Task.{Task}
 use Rattle.lj_book.specs.Boxes.{BoxBook}
-use Rattle.lj_session.specs.Owner.{Owner, label_of, task_in, with_task_posted}
+use Rattle.lj_session.specs.Owner.{Owner, label_of, next_task_of, with_task_posted}
 use Rattle.lj_pool.specs.Coming.{GoesOn, posts_coming}
 use Rattle.lj_pool.specs.Gathering.{Gathers}
 use Rattle.lj_pool.specs.PoolStates.{HasPosted, PostsEach}
@@ -68,17 +68,17 @@ after_more n owner = let e : n + 1 ≡ suc n = omega arith in ap (λ m. after_po
 
 -- one next task more in the rooms
 pub next_more : (owner : Owner) (rooms : List Task) (k : ℕ) (work : Task) → k < length rooms → AreNext k rooms owner
-    → task_in (after_posts k owner) ≡ Some work → AreNext (k + 1) (set rooms k work) owner
+    → next_task_of (after_posts k owner) ≡ Some work → AreNext (k + 1) (set rooms k work) owner
 next_more owner rooms k work inside before some j below = elim (cases_lt j k) [
   | inl less ↦ before j less ∙ ap (λ (x : Task). Some x)
       (sym (get_or-set_other rooms k j work blank_task (λ same. omega (arith, less, same))))
   | inr above ↦ let is : j ≡ k = omega (arith, above, below) in
-      ap (λ n. task_in (after_posts n owner)) is ∙ some
+      ap (λ n. next_task_of (after_posts n owner)) is ∙ some
       ∙ ap (λ (x : Task). Some x) (sym (ap (λ n. get_or (set rooms k work) n blank_task) is ∙ get_or-set_same rooms k work blank_task inside))
 ]
 
 -- a next task is one of its owner's user
-pub task_user : (owner : Owner) (owed : List Task) (t : Gathers owner owed) (work : Task) → task_in owner ≡ Some work
+pub task_user : (owner : Owner) (owed : List Task) (t : Gathers owner owed) (work : Task) → next_task_of owner ≡ Some work
     → work.name.label.user ≡ owner.number
 task_user owner owed t work some =
     let p : Posting owner owed t work = posting owner owed t work some in
@@ -106,7 +106,7 @@ module _ (owner : Owner) (before : Seen) (t : Gathers owner before.owed) (tasks 
       let first : Goes n mid = goes_each n (omega (arith, most)) (λ k below. next k (omega (arith, below))) mid
       (record { owed = refl; expected = refl; strays = refl }) in
       let work : Task = get_or tasks n blank_task in
-      let some : task_in (after_posts n owner) ≡ Some work = next n (omega arith) in
+      let some : next_task_of (after_posts n owner) ≡ Some work = next n (omega arith) in
       let last : IsPosted work mid after = record {
         owed = posted.owed ∙ ap (λ l. before.owed ++ l) (one_more n (omega (arith, most)))
             ∙ sym (append_assoc before.owed (take n tasks) (work ∷ []));

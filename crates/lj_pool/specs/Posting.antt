@@ -3,7 +3,7 @@ use Rattle.std.specs.Prelude.{◌≡◌, ◌<◌, ◌≤◌, ℕ, zero, suc, Lis
 use Rattle.std.specs.Option.{ForSome}
 use Rattle.lj_tile.specs.Blank.{blank_task}
 use Rattle.lj_tile.specs.Task.{Task}
-use Rattle.lj_session.specs.Owner.{Owner, task_in, with_task_posted}
+use Rattle.lj_session.specs.Owner.{Owner, next_task_of, with_task_posted}
 
 -- with the next n tasks noted as posted
 abbrev pub after_posts : ℕ → Owner → Owner
@@ -13,7 +13,7 @@ after_posts (suc n) owner = with_task_posted (after_posts n owner)
 -- The first n of these are the next tasks of an owner, in their order.
 abbrev pub AreNext : ℕ → List Task → Owner → Type 0
 AreNext n tasks owner =
-    (k : ℕ) → k < n → task_in (after_posts k owner) ≡ Some (slice_index_or tasks k blank_task)
+    (k : ℕ) → k < n → next_task_of (after_posts k owner) ≡ Some (slice_index_or tasks k blank_task)
 
 -- Each box that is there has a copy of the task at its place.
 abbrev pub AreCopies : List (Option Task) → List Task → Type 0

@@ -7,7 +7,7 @@ ghost use Rattle.lj_pool.specs.declared.pool.NotPosted.TheVariants.{Full};
 
 use crate::pool::{NotPosted, Pool};
 use lj_table::Table;
-use lj_tile::{Done, DoneRef, Task, compute_in};
+use lj_tile::{Done, DoneRef, Task, compute_into};
 use std::marker::Model;
 
 /// A pool that computes each task as it is posted, in its one slot. It allocates no memory.
@@ -69,7 +69,7 @@ impl Pool for InlinePool {
         if self.is_held {
             return Err(NotPosted::Full);
         }
-        compute_in(task, &self.table, &mut self.slot);
+        compute_into(task, &self.table, &mut self.slot);
         self.is_held = true;
         Ok(())
     }

@@ -119,7 +119,7 @@ pub trait Pool {
 
     /// Takes and counts the next result for a user, and waits for it if there is none; `fetched` returns it. False only if the pool
     /// is closed.
-    fn fetch_in(&mut self, user: u8) -> bool
+    fn fetch_counted(&mut self, user: u8) -> bool
         requires { 0 < length (seen self.old).owed }
         ensures handed_out { result ≡ true → IsHandedOut (last self.new) (seen self.old) (seen self.new) }
         ensures unchanged { result ≡ false → SameOwed (seen self.old) (seen self.new) }
@@ -136,7 +136,7 @@ pub trait Pool {
 
     /// Takes and counts the next result for a user if one is there now; `fetched` returns it. It never waits for a worker. It may
     /// return false at any time.
-    fn poll_in(&mut self, user: u8) -> bool
+    fn poll_counted(&mut self, user: u8) -> bool
         ensures handed_out { result ≡ true → IsHandedOut (last self.new) (seen self.old) (seen self.new) }
         ensures unchanged { result ≡ false → SameOwed (seen self.old) (seen self.new) }
         ensures stays_closed { StaysClosed (seen self.old) (seen self.new) }
@@ -199,7 +199,7 @@ pub trait Pool {
         ensures stays_closed { StaysClosed (seen self.old) (seen self.new) }
         ensures own { for_others self.new user ≡ for_others self.old user }
     {
-        if !self.fetch_in(user) {
+        if !self.fetch_counted(user) {
             return None;
         }
         Some(self.fetched().to_done())
@@ -213,7 +213,7 @@ pub trait Pool {
         ensures stays_closed { StaysClosed (seen self.old) (seen self.new) }
         ensures own { for_others self.new user ≡ for_others self.old user }
     {
-        if !self.poll_in(user) {
+        if !self.poll_counted(user) {
             return None;
         }
         Some(self.fetched().to_done())

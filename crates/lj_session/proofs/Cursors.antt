@@ -7,7 +7,7 @@ use Rattle.std.proofs.lemmas.Option.{same_Some}
 use Rattle.lj_tile.specs.Task.{Task}
 use Rattle.lj_session.specs.declared.tile_cursor.TileCursor.{TileCursor}
 use Rattle.lj_session.specs.Cursors.{IsPostedTo}
-use Rattle.lj_session.specs.Owner.{Owner, label_of, task_in, task_of_session, next_session, state_changed_in, with_state, with_task_posted}
+use Rattle.lj_session.specs.Owner.{Owner, label_of, next_task_of, task_of_session, next_session, state_changed_in, with_state, with_task_posted}
 use Rattle.lj_session.specs.UserState.{LiveSession, UserState, IsNextTile, NoTaskBefore, live_session, names, next_of}
 use Rattle.lj_session.specs.UserState.{with_posted, with_session_changed}
 use Rattle.lj_session.proofs.Entries.{named-put_any}
@@ -42,7 +42,7 @@ module _ (cursor : TileCursor) (owner later : Owner) (p : IsPostedTo cursor owne
   is_first = find-at (λ name. is_some (task_of_session later name)) (names later.state) cursor.session p.name
       (ap (λ ns. slice_get ns cursor.session) p.same_names ∙ p.named) (ap is_some of_session) (p.before later.number)
 
-  pub task-at : task_in later ≡ Some work
+  pub task-at : next_task_of later ≡ Some work
   task-at = ap (option_and_then (task_of_session later)) is_first ∙ of_session
 
   abbrev state_after : UserState

@@ -96,8 +96,8 @@ abbrev pub next_session : Owner → Option (List ℕ)
 next_session owner = find (λ name. is_some (task_of_session owner name)) (names owner.state)
 
 -- the task of its first tile
-abbrev pub task_in : Owner → Option Task
-task_in owner = option_and_then (task_of_session owner) (next_session owner)
+abbrev pub next_task_of : Owner → Option Task
+next_task_of owner = option_and_then (task_of_session owner) (next_session owner)
 
 -- the state with a session changed, if a name is given
 abbrev pub state_changed_in : Option (List ℕ) → (LiveSession → LiveSession) → UserState → UserState

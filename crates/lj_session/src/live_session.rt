@@ -242,7 +242,7 @@ impl LiveSession {
     }
 
     /// Writes the task of the first awaited tile from `from` on to `out`. Returns the position after it.
-    pub(crate) fn task_from_in(&self, from: usize, label: &Label, out: &mut Task) -> Option<usize>
+    pub(crate) fn task_from_into(&self, from: usize, label: &Label, out: &mut Task) -> Option<usize>
         ensures task { let held = record self.now { passed = from } in
             IfSome result (λ _. states.next_of label.now (Some held) ≡ Some out.new) }
         ensures passes { let held = record self.now { passed = from } in
@@ -251,7 +251,7 @@ impl LiveSession {
     {
         let i = self.next_tile_from(from)?;
         let _tiles = self.sim.tiles();
-        if self.sim.task_in(i, label, out) {
+        if self.sim.task_into(i, label, out) {
             Some(i + 1)
         } else {
             None
@@ -259,13 +259,13 @@ impl LiveSession {
     }
 
     /// Writes the task of the first tile that is neither posted nor in, the i-th of the cover, to `out`.
-    pub(crate) fn task_in(&self, i: usize, label: &Label, out: &mut Task) -> bool
+    pub(crate) fn task_into(&self, i: usize, label: &Label, out: &mut Task) -> bool
         requires { states.next_tile self.now ≡ Some i }
         ensures some { result ≡ true → states.next_of label.now (Some self.now) ≡ Some out.new }
         ensures none { result ≡ false → states.next_of label.now (Some self.now) ≡ None }
         ensures unchanged { result ≡ false → out.new ≡ out.old }
     {
-        self.sim.task_in(i, label, out)
+        self.sim.task_into(i, label, out)
     }
 
     /// Notes the first tile that is neither posted nor in, the i-th of the cover, as posted.
@@ -279,13 +279,17 @@ impl LiveSession {
     }
 
     /// Accepts the result of a tile that the open step awaits. Any other changes nothing.
-    pub(crate) fn take_in(&mut self, label: &Label, done: &DoneRef<'_>) -> Result<(), NotAwaited>
+    pub(crate) fn accept_from(
+        &mut self,
+        label: &Label,
+        done: &DoneRef<'_>,
+    ) -> Result<(), NotAwaited>
         ensures accepted { IsOk result ↔ steps.IsAwaitedTask self.old.live label.now done.now }
         ensures taken { OnOk result
             (self.new ≡ states.with_tile_in (steps.tile_number_of done.now) self.old) }
         ensures unchanged { OnErr result (self.new ≡ self.old) }
     {
-        self.sim.take_in(label, done)
+        self.sim.accept_from(label, done)
     }
 
     /// Turns a whole force step: the motion advances by one step, one fewer is pending, and the next one is open if

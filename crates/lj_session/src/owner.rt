@@ -11,7 +11,7 @@ ghost use Rattle.lj_session.specs.Owner.{IsAnswered, IsReplied, IsAwaitedIn, IsL
 ghost use Rattle.lj_session.specs.Owner.{WaitsAlike};
 ghost use Rattle.lj_session.specs.Owner.{state_begun, command_left};
 ghost use Rattle.lj_session.specs.Owner.{user_in, owner_of_state, is_owing, is_busy, turns_left, is_waited_for, owner_begun};
-ghost use Rattle.lj_session.specs.Owner.{Owner, label_of, task_in};
+ghost use Rattle.lj_session.specs.Owner.{Owner, label_of, next_task_of};
 ghost use Rattle.lj_session.specs.Cursors.{IsPostedTo};
 ghost use Rattle.lj_session.specs.Owner.{with_task_posted, with_task_in, ready_session, owner_turned, state_turned};
 ghost use Rattle.lj_session.specs.Begins.{IfAnswered, OnRunning, OnRefused, OnRefusal, reply_of};
@@ -132,10 +132,10 @@ impl Owner {
     /// Returns the task of the first tile that is neither posted nor in, of the first session, in order of loading,
     /// that has one.
     pub fn next_task(&self) -> Option<Task>
-        ensures { result ≡ task_in self.now }
+        ensures { result ≡ next_task_of self.now }
     {
         let mut out = Task::blank();
-        if self.next_task_in(&mut out) {
+        if self.next_task_into(&mut out) {
             Some(out)
         } else {
             None
@@ -143,22 +143,22 @@ impl Owner {
     }
 
     /// Writes the task that `next_task` returns to `out`. Returns false if there is none; `out` is unchanged then.
-    pub fn next_task_in(&self, out: &mut Task) -> bool
-        ensures some { result ≡ true → task_in self.now ≡ Some out.new }
-        ensures none { result ≡ false → task_in self.now ≡ None }
+    pub fn next_task_into(&self, out: &mut Task) -> bool
+        ensures some { result ≡ true → next_task_of self.now ≡ Some out.new }
+        ensures none { result ≡ false → next_task_of self.now ≡ None }
         ensures unchanged { result ≡ false → out.new ≡ out.old }
     {
         let Some((i, k)) = self.state.next_tile() else {
             return false;
         };
         let label = self.label(self.state.name_at(i).copy());
-        self.state.task_in(i, k, &label, out)
+        self.state.task_into(i, k, &label, out)
     }
 
     /// Returns the cursor at the task that `next_task` returns.
     pub fn first_tile(&self) -> Option<TileCursor>
         ensures some { IfSome result (λ cursor. IsPostedTo cursor self.now self.now) }
-        ensures none { IfNone result (task_in self.now ≡ None) }
+        ensures none { IfNone result (next_task_of self.now ≡ None) }
     {
         let Some((session, _)) = self.state.next_tile() else {
             return None;
@@ -170,9 +170,9 @@ impl Owner {
     /// Writes the task at a cursor to `out`, and moves the cursor behind it. This task is the next one once all before
     /// the cursor are posted; it posts none. Returns false if the session of the cursor has no task there; nothing has
     /// changed then.
-    pub fn task_from_in(&self, cursor: &mut TileCursor, out: &mut Task) -> bool
+    pub fn task_from_into(&self, cursor: &mut TileCursor, out: &mut Task) -> bool
         ensures task { result ≡ true → (later : Owner) → IsPostedTo cursor.old self.now later
-            → task_in later ≡ Some out.new }
+            → next_task_of later ≡ Some out.new }
         ensures moved { result ≡ true → (later : Owner) → IsPostedTo cursor.old self.now later
             → IsPostedTo cursor.new self.now (with_task_posted later) }
         ensures unchanged { result ≡ false → out.new ≡ out.old }
@@ -183,7 +183,7 @@ impl Owner {
             return false;
         }
         let label = self.label(self.state.name_at(session).copy());
-        let Some(next) = self.state.task_from_in(session, from, &label, out) else {
+        let Some(next) = self.state.task_from_into(session, from, &label, out) else {
             return false;
         };
         cursor.from = next;
@@ -192,7 +192,7 @@ impl Owner {
 
     /// Notes the tile of the task that `next_task` returns as posted.
     pub fn posted(&mut self)
-        requires { IsSome (task_in self.old) }
+        requires { IsSome (next_task_of self.old) }
         ensures noted { self.new ≡ with_task_posted self.old }
         ensures user { user_in self.new ≡ user_in self.old }
     {
@@ -212,14 +212,14 @@ impl Owner {
         ensures stray { IfErr result (λ s. s.done ≡ done) }
         ensures unchanged { OnErr result (self.new ≡ self.old) }
     {
-        match self.take_in(&done.by_ref()) {
+        match self.accept_from(&done.by_ref()) {
             Ok(()) => Ok(()),
             Err(NotAwaited) => Err(Stray { done }),
         }
     }
 
     /// Accepts a result by reference, as `accept` does, and copies nothing of it.
-    pub fn take_in(&mut self, done: &DoneRef<'_>) -> Result<(), NotAwaited>
+    pub fn accept_from(&mut self, done: &DoneRef<'_>) -> Result<(), NotAwaited>
         ensures accepted { IsOk result ↔ IsAwaitedIn self.old done.now }
         ensures taken { OnOk result (self.new ≡ with_task_in done.now self.old) }
         ensures user { user_in self.new ≡ user_in self.old }
@@ -229,7 +229,7 @@ impl Owner {
         if label.user != self.user {
             return Err(NotAwaited);
         }
-        self.state.take_in(label, done)
+        self.state.accept_from(label, done)
     }
 
     /// Returns whether some session has a step to make.

@@ -21,7 +21,7 @@ use Rattle.lj_step.specs.declared.partial.Partial.{Partial}
 use Rattle.lj_step.specs.Motion.{Simulation, place_at, next_place, force, moved_place, next_frame, next_simulation, potential}
 use Rattle.lj_step.specs.Laws.{AreOnRing}
 use Rattle.lj_step.specs.Sim.{Sim, OpenStep}
-use Rattle.lj_step.specs.OpenSteps.{blocks, is_tile, cover, task_of, task_in, task_at}
+use Rattle.lj_step.specs.OpenSteps.{blocks, is_tile, cover, task_of, task_of_open, task_at}
 use Rattle.lj_step.specs.OpenSteps.{is_number_awaited, is_tile_awaited_in, is_tile_awaited, kind_of}
 use Rattle.lj_step.specs.OpenSteps.{is_whole, with_step_closed}
 use Rattle.lj_step.specs.Sums.{IsPartial}
@@ -133,7 +133,7 @@ pub task_found : (live : Sim) (label : Label) (p : OpenStep) (i number : ℕ) �
     → slice_get (cover live.composition live.sim.cur) i ≡ Some number
     → Some (task_of live label p.kind number) ≡ task_at live label i
 task_found live label p i number part found =
-    sym (ap (task_in live label i) part ∙ ap (option_map (task_of live label p.kind)) found)
+    sym (ap (task_of_open live label i) part ∙ ap (option_map (task_of live label p.kind)) found)
 
 pub awaits_found : (live : Sim) (p : OpenStep) (i number : ℕ) → live.part ≡ Some p
     → slice_get (cover live.composition live.sim.cur) i ≡ Some number

@@ -14,7 +14,7 @@ use Rattle.lj_base.specs.declared.names.Label.{Label}
 use Rattle.lj_tile.specs.declared.task_name.Kind.{Kind}
 use Rattle.lj_tile.specs.Task.{Task}
 use Rattle.lj_step.specs.Sim.{Sim, OpenStep}
-use Rattle.lj_step.specs.OpenSteps.{blocks, is_tile, cover, opened_step, tile_number_of, task_of, task_in, task_at}
+use Rattle.lj_step.specs.OpenSteps.{blocks, is_tile, cover, opened_step, tile_number_of, task_of, task_of_open, task_at}
 use Rattle.lj_step.specs.OpenSteps.{IsAwaitedTaskIn, IsAwaitedTask, with_tile, kind_of, is_whole}
 use Rattle.lj_step.proofs.Flags.{count_flags}
 use Rattle.lj_step.proofs.OpenedFlags.{opened_flag}
@@ -66,7 +66,7 @@ number_is live label kind k = omega arith
 task_read : (live : Sim) (label : Label) (kind : Kind) (i : ℕ) (o : Option Task)
     → AwaitsFrom kind live.composition live.sim.cur i live.part → o ≡ task_at live label i
     → o ≡ option_map (task_of live label kind) (slice_get (cover live.composition live.sim.cur) i)
-task_read live label kind i o h e = e ∙ ap (task_in live label i) h.is_open
+task_read live label kind i o h e = e ∙ ap (task_of_open live label i) h.is_open
 
 pub none_past : (live : Sim) (label : Label) (kind : Kind) (i : ℕ) (o : Option Task)
     → AwaitsFrom kind live.composition live.sim.cur i live.part → o ≡ task_at live label i → o ≡ None

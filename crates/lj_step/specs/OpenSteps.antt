@@ -90,13 +90,13 @@ abbrev pub tile_number_of : Task → ℕ
 tile_number_of work = tile_number work.name.bi work.name.bj
 
 -- the i-th task of the open step, if there is one
-abbrev pub task_in : Sim → Label → ℕ → Option OpenStep → Option Task
-task_in live label i None = None
-task_in live label i (Some p) =
+abbrev pub task_of_open : Sim → Label → ℕ → Option OpenStep → Option Task
+task_of_open live label i None = None
+task_of_open live label i (Some p) =
     option_map (task_of live label p.kind) (slice_get (cover live.composition live.sim.cur) i)
 
 abbrev pub task_at : Sim → Label → ℕ → Option Task
-task_at live label i = task_in live label i live.part
+task_at live label i = task_of_open live label i live.part
 
 -- an open step that awaits all its tiles
 abbrev pub opened_step : Kind → Composition → List Place → OpenStep

@@ -233,7 +233,7 @@ impl Sim {
         ensures tile { IfSome result (HasTileValue self.now i) }
     {
         let mut out = Task::blank();
-        if self.task_in(i, label, &mut out) {
+        if self.task_into(i, label, &mut out) {
             Some(out)
         } else {
             None
@@ -242,7 +242,7 @@ impl Sim {
 
     /// Writes the task of the i-th tile of the open step's cover to `out`. Returns false past the last one, and if no
     /// step is open; `out` is unchanged then.
-    pub fn task_in(&self, i: usize, label: &Label, out: &mut Task) -> bool
+    pub fn task_into(&self, i: usize, label: &Label, out: &mut Task) -> bool
         ensures some { result ≡ true → steps.task_at self.now label.now i ≡ Some out.new }
         ensures none { result ≡ false → steps.task_at self.now label.now i ≡ None }
         ensures unchanged { result ≡ false → out.new ≡ out.old }
@@ -290,14 +290,14 @@ impl Sim {
         ensures stray { IfErr result (λ s. s.done ≡ done) }
         ensures unchanged { OnErr result (self.new ≡ self.old) }
     {
-        match self.take_in(label, &done.by_ref()) {
+        match self.accept_from(label, &done.by_ref()) {
             Ok(()) => Ok(()),
             Err(NotAwaited) => Err(Stray { done }),
         }
     }
 
     /// Accepts a result by reference, as `accept` does, and copies nothing of it.
-    pub fn take_in(&mut self, label: &Label, done: &DoneRef<'_>) -> Result<(), NotAwaited>
+    pub fn accept_from(&mut self, label: &Label, done: &DoneRef<'_>) -> Result<(), NotAwaited>
         ensures accepted { IsOk result ↔ steps.IsAwaitedTask self.old label.now done.now }
         ensures kind { steps.kind_of self.new.part ≡ steps.kind_of self.old.part }
         ensures taken { OnOk result

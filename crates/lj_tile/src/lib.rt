@@ -16,6 +16,6 @@ mod tasks;
 pub use blocks::{BLOCK, Block};
 pub use lj_base::{Label, Name};
 pub use pairs::{Push, pair_push};
-pub use results::{Done, DoneRef, Sums, compute, compute_in, compute_sums};
+pub use results::{Done, DoneRef, Sums, compute, compute_into, compute_sums};
 pub use task_name::{Kind, TaskName};
 pub use tasks::Task;

@@ -40,7 +40,7 @@ impl Sums {
     }
 }
 
-/// The result of a task: the task with its sums. Only `compute` and `compute_in` make the result of a given task.
+/// The result of a task: the task with its sums. Only `compute` and `compute_into` make the result of a given task.
 #[derive(Debug, Drop)]
 pub struct Done {
     task: Task,
@@ -238,7 +238,7 @@ pub fn compute(task: Task, table: &Table) -> Done
 /// Computes a task, and overwrites an older result.
 ///
 /// Promise: the result is of that very task.
-pub fn compute_in(task: &Task, table: &Table, out: &mut Done)
+pub fn compute_into(task: &Task, table: &Table, out: &mut Done)
     ensures { out.new ≡ task.now }
 {
     compute_sums(task, table, &mut out.sums);

@@ -85,11 +85,11 @@ impl<S: Source> LineReader<S> {
         ensures fault { OnErr result (HasFailed self.old self.new) }
     {
         let mut item = Item::Bad(Fault::Syntax);
-        Ok(self.next_in(&mut item)?.then_some(item))
+        Ok(self.next_into(&mut item)?.then_some(item))
     }
 
     /// Puts the item that `next` would return into `item`; returns false where there is none.
-    pub fn next_in(&mut self, item: &mut Item) -> Result<bool, ReadFault>
+    pub fn next_into(&mut self, item: &mut Item) -> Result<bool, ReadFault>
         ensures item { IfOk result (λ some. some ≡ true → HandsOut self.old self.new item.new) }
         ensures none { IfOk result (λ some. some ≡ false → HandsNone self.old self.new) }
         ensures fault { OnErr result (HasFailed self.old self.new) }

@@ -27,12 +27,12 @@ pub fn read_line(line: &[u8]) -> LineReading
     ensures body { result.body ≡ body_len_announced line.now }
 {
     let mut item = Item::Bad(Fault::Syntax);
-    let body = read_line_in(line, &mut item);
+    let body = read_line_into(line, &mut item);
     LineReading { item, body }
 }
 
 /// Puts the item that `read_line` would return into `item`, and returns the number of bytes of body after the line.
-pub(crate) fn read_line_in(line: &[u8], item: &mut Item) -> usize
+pub(crate) fn read_line_into(line: &[u8], item: &mut Item) -> usize
     ensures item { item.new ≡ item_with line.now Unread }
     ensures body { result ≡ body_len_announced line.now }
 {

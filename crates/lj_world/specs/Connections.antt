@@ -4,7 +4,7 @@ use Rattle.std.specs.Prelude.{◌≡◌, ℕ, ◌+◌, ◌-◌, ◌^◌, ◌<◌
 use Rattle.std.specs.Prelude.{Option, Some, None, ◌⊎◌}
 use Rattle.lj_tile.specs.Task.{Task}
 use Rattle.lj_session.specs.UserState.{UserState, with_steps_restarted}
-use Rattle.lj_session.specs.Owner.{Owner, owner_of_state, is_busy, task_in, with_task_posted, IsAwaitedIn, with_task_in}
+use Rattle.lj_session.specs.Owner.{Owner, owner_of_state, is_busy, next_task_of, with_task_posted, IsAwaitedIn, with_task_in}
 use Rattle.lj_wire.specs.declared.item.Item.{Item}
 use Rattle.lj_wire.specs.Items.{is_ending}
 use Rattle.lj_access.specs.Rows.{UserRow, CanEnter, with_row_changed, without_home, with_home}
@@ -87,7 +87,7 @@ pub record PostsNext (old : ConnectionView) (text : Option (List ℕ)) (new : Co
   pub owner : Owner
   pub owns : old.connection.state ≡ inside owner
   pub work : Task
-  pub task : task_in owner ≡ Some work
+  pub task : next_task_of owner ≡ Some work
   pub few : old.connection.posted < MAX_POSTED
   pub room : entry_count old.book < MAX_ENTRIES
   pub counted : old.book.posted < 2 ^ 64 - 1

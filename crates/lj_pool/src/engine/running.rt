@@ -1,7 +1,7 @@
 //! Runs the pending steps of sessions over a pool, while a command waits for them and before the next command is read. Tasks
 //! are written in slots that the caller owns.
 ghost use Rattle.std.specs.Prelude.{◌≡◌, ◌+◌, ◌<◌, ◌≤◌, length, ℕ, Bool, true, false, [], Some, None, Ok, IsSome, IfOk, IfErr, IfSome, OnErr};
-ghost use Rattle.lj_session.specs.Owner.{task_in, ready_session};
+ghost use Rattle.lj_session.specs.Owner.{next_task_of, ready_session};
 ghost use Rattle.lj_pool.specs.declared.engine.running.Halt.TheVariants.{TooManyStrays};
 ghost use Rattle.lj_pool.specs.Seen.{IsStray, SameOwed};
 ghost use Rattle.lj_pool.specs.Gathering.{Gathers};
@@ -186,7 +186,7 @@ fn write_next(owner: &Owner, most: usize, slots: &mut TaskSlots) -> usize
         return 0;
     };
     for here in 0..most {
-        if !owner.task_from_in(&mut cursor, &mut slots[here]) {
+        if !owner.task_from_into(&mut cursor, &mut slots[here]) {
             return here;
         }
     }
@@ -196,7 +196,7 @@ fn write_next(owner: &Owner, most: usize, slots: &mut TaskSlots) -> usize
 /// Records the next `posted` tasks as posted.
 #[tactic(auto, using(crate::proofs::Posts::after_more))]
 fn note_posted(owner: &mut Owner, posted: usize)
-    requires { (k : ℕ) → k < posted → IsSome (task_in (after_posts k owner.old)) }
+    requires { (k : ℕ) → k < posted → IsSome (next_task_of (after_posts k owner.old)) }
     ensures { owner.new ≡ after_posts posted owner.old }
 {
     for _done in 0..posted {
@@ -257,7 +257,7 @@ fn post_next<P: Pool>(
     if pool.is_full() {
         return Ok(false);
     }
-    if !owner.next_task_in(slot) {
+    if !owner.next_task_into(slot) {
         return Ok(false);
     }
     match pool.post_from(slot, wait) {
@@ -300,7 +300,7 @@ fn fetch_next<P: Pool>(owner: &mut Owner, user: u8, pool: &mut P) -> Result<bool
     if !pool.fetch_uncounted(user) {
         return Err(Halt::PoolClosed);
     }
-    Ok(take_in_and_count(owner, pool))
+    Ok(accept_and_count(owner, pool))
 }
 
 /// Takes in a result that is there now. Returns `Some(false)`, and drops it, if it is of no awaited tile; `None` if there is no
@@ -314,12 +314,12 @@ fn poll_next<P: Pool>(owner: &mut Owner, user: u8, pool: &mut P) -> Option<bool>
     if !pool.poll_uncounted(user) {
         return None;
     }
-    Some(take_in_and_count(owner, pool))
+    Some(accept_and_count(owner, pool))
 }
 
 /// Takes in the result that the pool shows, and has the pool count it. Returns false if it is of no awaited tile. The task of an
 /// awaited tile was compared as it was taken in, so the pool finds it by its name.
-fn take_in_and_count<P: Pool>(owner: &mut Owner, pool: &mut P) -> bool
+fn accept_and_count<P: Pool>(owner: &mut Owner, pool: &mut P) -> bool
     requires gathers { Gathers owner.old (P.seen pool.old).owed }
     requires uncounted { P.is_uncounted pool.old }
     ensures goes_on { GoesOn owner.old (P.seen pool.old) owner.new (P.seen pool.new) }
@@ -327,7 +327,7 @@ fn take_in_and_count<P: Pool>(owner: &mut Owner, pool: &mut P) -> bool
     ensures stray { result ≡ false → IsStray (P.last pool.old) (P.seen pool.old) (P.seen pool.new) }
     ensures own { (user : ℕ) → P.for_others pool.new user ≡ P.for_others pool.old user }
 {
-    if owner.take_in(&pool.fetched()).is_err() {
+    if owner.accept_from(&pool.fetched()).is_err() {
         pool.count();
         return false;
     }

@@ -73,7 +73,7 @@ pub fn serve_lines<R: Source, W: Sink, P: Pool>(
             Ok(owes) => owes,
             Err(halt) => return given_up(owner, halt),
         };
-        match lines.next_in(&mut item) {
+        match lines.next_into(&mut item) {
             Ok(true) => {}
             Ok(false) => return (Some(owner.into_state()), Served::End),
             Err(ReadFault) => return (Some(owner.into_state()), Served::ReadFault),

@@ -66,14 +66,14 @@ impl UserState {
     }
 
     /// Writes the task of the next tile, the k-th of the i-th session, to `out`.
-    pub(crate) fn task_in(&self, i: usize, k: usize, label: &Label, out: &mut Task) -> bool
+    pub(crate) fn task_into(&self, i: usize, k: usize, label: &Label, out: &mut Task) -> bool
         requires next { IsNextTile self.now i k }
         requires label { slice_get (names self.now) i ≡ Some label.now.session }
         ensures some { result ≡ true → states.next_task self.now label.now ≡ Some out.new }
         ensures none { result ≡ false → states.next_task self.now label.now ≡ None }
         ensures unchanged { result ≡ false → out.new ≡ out.old }
     {
-        self.at(i).task_in(k, label, out)
+        self.at(i).task_into(k, label, out)
     }
 
     /// Returns how many tiles of the i-th session were posted, or skipped because they were in.
@@ -86,7 +86,7 @@ impl UserState {
 
     /// Writes the task of the first awaited tile of the i-th session, from a position of its cover on, to `out`.
     /// Returns the position after it.
-    pub(crate) fn task_from_in(
+    pub(crate) fn task_from_into(
         &self,
         i: usize,
         from: usize,
@@ -100,7 +100,7 @@ impl UserState {
             → with_posted (record held { passed = from }) ≡ record held { passed = next }) }
         ensures unchanged { IfNone result (out.new ≡ out.old) }
     {
-        self.at(i).task_from_in(from, label, out)
+        self.at(i).task_from_into(from, label, out)
     }
 
     /// Notes the next tile, the k-th of the i-th session, as posted.
@@ -117,7 +117,11 @@ impl UserState {
     }
 
     /// Accepts the result of a tile that a session's open step awaits. Any other changes nothing.
-    pub(crate) fn take_in(&mut self, label: &Label, done: &DoneRef<'_>) -> Result<(), NotAwaited>
+    pub(crate) fn accept_from(
+        &mut self,
+        label: &Label,
+        done: &DoneRef<'_>,
+    ) -> Result<(), NotAwaited>
         ensures accepted { IsOk result ↔ IsAwaited self.old label.now done.now }
         ensures taken { OnOk result
             (self.new ≡ with_session_changed label.now.session
@@ -128,7 +132,7 @@ impl UserState {
         let Some(session) = self.sessions.get_mut(&label.session) else {
             return Err(NotAwaited);
         };
-        session.take_in(label, done)
+        session.accept_from(label, done)
     }
 
     /// Returns whether a step is open in a session and all its tiles are in.

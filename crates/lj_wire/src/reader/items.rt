@@ -6,7 +6,7 @@ ghost use Rattle.lj_wire.specs.Steps.{may_take_body, Finishes, ReadsItem, TakesF
 use super::load_body::{pass, read_body};
 use super::source_input::{Front, Input, SkippedLine};
 use crate::item::{Fault, Item};
-use crate::reading::read_line_in;
+use crate::reading::read_line_into;
 use crate::source_and_sink::{ReadFault, Source};
 use lj_session::Command;
 use std::alloc::Global;
@@ -24,7 +24,7 @@ pub(crate) fn read_item<S: Source>(
     match input.find_line()? {
         Front::Line(count) => {
             let (line, _) = input.held().split_at(count);
-            let body = read_line_in(line, item);
+            let body = read_line_into(line, item);
             input.take(count + 1);
             finish(alloc, input, item, body)
         }

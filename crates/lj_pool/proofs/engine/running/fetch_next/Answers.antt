@@ -8,7 +8,7 @@ returns-then-not-fetch_uncounted-clause-awaits_still g c =
 
 pub returns-clause-stray : goal.returns-clause-stray
 returns-clause-stray g c taken =
-    let is = c.take_in_and_count.ensures.stray taken in
+    let is = c.accept_and_count.ensures.stray taken in
     let same = c.fetch_uncounted.ensures.unchanged in
     let counted = is.strays in
     let before = same.strays in
@@ -18,6 +18,6 @@ returns-clause-stray g c taken =
     record {
       stray = λ below. omega (arith, counted, before, below);
       kept = kept;
-      awaits = owed-coming c.take_in_and_count.new.owner (g.P.Pool.seen c.take_in_and_count.new.pool)
-          c.take_in_and_count.ensures.goes_on.gathers (omega (arith, many, some));
+      awaits = owed-coming c.accept_and_count.new.owner (g.P.Pool.seen c.accept_and_count.new.pool)
+          c.accept_and_count.ensures.goes_on.gathers (omega (arith, many, some));
     }

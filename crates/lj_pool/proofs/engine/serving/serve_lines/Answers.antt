@@ -56,14 +56,14 @@ returns-in-Ok-false-clause-dialogue g c =
     c.work_ahead.new.owner.state s c.into_state.result c.into_state.ensures.user
     (back_few c.work_ahead.new.owner (g.P.Pool.seen c.work_ahead.new.pool) c.work_ahead.ensures.goes_on.gathers idle
     c.into_state.result c.into_state.ensures.state)
-    c.next_in.new.self (ceases_open c.items.lines c.next_in.new.self s.phase none)
+    c.next_into.new.self (ceases_open c.items.lines c.next_into.new.self s.phase none)
 
 pub returns-in-Ok-false-clause-cause : goal.returns-in-Ok-false-clause-cause
 returns-in-Ok-false-clause-cause g c =
     let none = c.in-Ok-false.ensures.none c.in-Ok-false.field-0-test in
-    has_cause c.next_in.new.self.left c.args.lines.now.errors c.next_in.new.self.errors (g.W.Sink.faults c.args.writer.now)
+    has_cause c.next_into.new.self.left c.args.lines.now.errors c.next_into.new.self.errors (g.W.Sink.faults c.args.writer.now)
     (g.W.Sink.faults c.items.writer) (g.P.Pool.seen c.args.pool.now) (g.P.Pool.seen c.work_ahead.new.pool) served.End
-    (ceases_open c.items.lines c.next_in.new.self c.items.invariant.serving.phase none).at_end
+    (ceases_open c.items.lines c.next_into.new.self c.items.invariant.serving.phase none).at_end
 
 pub returns-in-Ok-false-clause-handed_back : goal.returns-in-Ok-false-clause-handed_back
 returns-in-Ok-false-clause-handed_back g c =
@@ -72,53 +72,53 @@ returns-in-Ok-false-clause-handed_back g c =
     c.into_state.result c.into_state.ensures.state
     c.args.state (c.work_ahead.ensures.goes_on.quota ∙ c.items.invariant.quota)
 
-pub returns-in-Err-next_in-clause-dialogue : goal.returns-in-Err-next_in-clause-dialogue
-returns-in-Err-next_in-clause-dialogue g c =
+pub returns-in-Err-next_into-clause-dialogue : goal.returns-in-Err-next_into-clause-dialogue
+returns-in-Err-next_into-clause-dialogue g c =
     let s = ahead_serving c.items.invariant.idle c.work_ahead.ensures.goes_on c.items.invariant.serving in
     let idle = ahead_idle c.items.invariant.idle c.work_ahead.ensures.goes_on in
     serving-fails c.args.state c.args.lines.now c.items.lines (g.W.Sink.contents c.args.writer.now)
     (g.W.Sink.contents c.items.writer) (g.P.Pool.seen c.args.pool.now) (g.P.Pool.seen c.work_ahead.new.pool)
-    c.work_ahead.new.owner.state s c.into_state-in-Err-next_in.result c.into_state-in-Err-next_in.ensures.user
+    c.work_ahead.new.owner.state s c.into_state-in-Err-next_into.result c.into_state-in-Err-next_into.ensures.user
     (back_few c.work_ahead.new.owner (g.P.Pool.seen c.work_ahead.new.pool) c.work_ahead.ensures.goes_on.gathers idle
-    c.into_state-in-Err-next_in.result c.into_state-in-Err-next_in.ensures.state)
-    c.next_in.new.self (fails_open c.items.lines c.next_in.new.self s.phase c.in-Err-next_in.ensures.fault)
+    c.into_state-in-Err-next_into.result c.into_state-in-Err-next_into.ensures.state)
+    c.next_into.new.self (fails_open c.items.lines c.next_into.new.self s.phase c.in-Err-next_into.ensures.fault)
 
-pub returns-in-Err-next_in-clause-cause : goal.returns-in-Err-next_in-clause-cause
-returns-in-Err-next_in-clause-cause g c =
-    let fails = fails_open c.items.lines c.next_in.new.self c.items.invariant.serving.phase c.in-Err-next_in.ensures.fault in
-    has_cause c.next_in.new.self.left c.args.lines.now.errors c.next_in.new.self.errors (g.W.Sink.faults c.args.writer.now)
+pub returns-in-Err-next_into-clause-cause : goal.returns-in-Err-next_into-clause-cause
+returns-in-Err-next_into-clause-cause g c =
+    let fails = fails_open c.items.lines c.next_into.new.self c.items.invariant.serving.phase c.in-Err-next_into.ensures.fault in
+    has_cause c.next_into.new.self.left c.args.lines.now.errors c.next_into.new.self.errors (g.W.Sink.faults c.args.writer.now)
     (g.W.Sink.faults c.items.writer) (g.P.Pool.seen c.args.pool.now) (g.P.Pool.seen c.work_ahead.new.pool) served.ReadFault
-    (subst (λ errors. Rises errors c.next_in.new.self.errors) c.items.invariant.serving.errors fails.errors_rise)
+    (subst (λ errors. Rises errors c.next_into.new.self.errors) c.items.invariant.serving.errors fails.errors_rise)
 
-pub returns-in-Err-next_in-clause-handed_back : goal.returns-in-Err-next_in-clause-handed_back
-returns-in-Err-next_in-clause-handed_back g c =
+pub returns-in-Err-next_into-clause-handed_back : goal.returns-in-Err-next_into-clause-handed_back
+returns-in-Err-next_into-clause-handed_back g c =
     hands_back c.work_ahead.new.owner (g.P.Pool.seen c.work_ahead.new.pool) c.work_ahead.ensures.goes_on.gathers
     (ahead_idle c.items.invariant.idle c.work_ahead.ensures.goes_on)
-    c.into_state-in-Err-next_in.result c.into_state-in-Err-next_in.ensures.state
+    c.into_state-in-Err-next_into.result c.into_state-in-Err-next_into.ensures.state
     c.args.state (c.work_ahead.ensures.goes_on.quota ∙ c.items.invariant.quota)
 
 pub returns-in-Err-answer-clause-dialogue : goal.returns-in-Err-answer-clause-dialogue
 returns-in-Err-answer-clause-dialogue g c =
     let item = c.in-Ok-true.ensures.item c.in-Ok-true.field-0-test in
     let s = ahead_serving c.items.invariant.idle c.work_ahead.ensures.goes_on c.items.invariant.serving in
-    given (λ kind state. Serves kind c.args.state c.args.lines.now.left c.next_in.new.self.left
+    given (λ kind state. Serves kind c.args.state c.args.lines.now.left c.next_into.new.self.left
     (g.W.Sink.contents c.args.writer.now) (g.W.Sink.contents c.items.writer) (g.P.Pool.seen c.args.pool.now)
     (g.P.Pool.seen c.answer.new.pool) state)
     c.in-Err-answer.halt c.given_up-in-Err-answer.result c.given_up-in-Err-answer.ensures.none
     c.given_up-in-Err-answer.ensures.served
     (serving-halts c.args.state c.args.lines.now c.items.lines (g.W.Sink.contents c.args.writer.now)
     (g.W.Sink.contents c.items.writer) (g.P.Pool.seen c.args.pool.now) (g.P.Pool.seen c.work_ahead.new.pool)
-    c.work_ahead.new.owner.state s c.next_in.new.self c.next_in.new.item item
+    c.work_ahead.new.owner.state s c.next_into.new.self c.next_into.new.item item
     c.in-Err-answer.halt (g.P.Pool.seen c.answer.new.pool) c.in-Err-answer.ensures.unanswered.waits
     c.in-Err-answer.ensures.unanswered.missing)
 
 pub returns-in-Err-answer-clause-cause : goal.returns-in-Err-answer-clause-cause
 returns-in-Err-answer-clause-cause g c =
     let s = ahead_serving c.items.invariant.idle c.work_ahead.ensures.goes_on c.items.invariant.serving in
-    subst (λ kind. HasCause kind c.next_in.new.self.left c.args.lines.now.errors c.next_in.new.self.errors
+    subst (λ kind. HasCause kind c.next_into.new.self.left c.args.lines.now.errors c.next_into.new.self.errors
     (g.W.Sink.faults c.args.writer.now) (g.W.Sink.faults c.items.writer) (g.P.Pool.seen c.args.pool.now)
     (g.P.Pool.seen c.answer.new.pool)) (sym c.given_up-in-Err-answer.ensures.served)
-    (halt_cause c.next_in.new.self.left c.args.lines.now.errors c.next_in.new.self.errors
+    (halt_cause c.next_into.new.self.left c.args.lines.now.errors c.next_into.new.self.errors
     (g.W.Sink.faults c.args.writer.now) (g.W.Sink.faults c.items.writer) (g.P.Pool.seen c.args.pool.now)
     (g.P.Pool.seen c.answer.new.pool) c.in-Err-answer.halt
     (halted_on c.in-Err-answer.halt (g.P.Pool.seen c.args.pool.now) (g.P.Pool.seen c.work_ahead.new.pool)
@@ -131,14 +131,14 @@ returns-in-Err-put_reply-clause-dialogue g c =
     let s = ahead_serving c.items.invariant.idle c.work_ahead.ensures.goes_on c.items.invariant.serving in
     serving-breaks c.args.state c.args.lines.now c.items.lines (g.W.Sink.contents c.args.writer.now)
     (g.W.Sink.contents c.items.writer) (g.P.Pool.seen c.args.pool.now) (g.P.Pool.seen c.work_ahead.new.pool)
-    c.work_ahead.new.owner.state s c.next_in.new.self c.next_in.new.item item
+    c.work_ahead.new.owner.state s c.next_into.new.self c.next_into.new.item item
     c.in-Ok-answer.reply c.answer.new.owner.state c.in-Ok-answer.ensures.answered.answered begun.0
     (g.W.Sink.contents c.put_reply.new.writer) (g.P.Pool.seen c.answer.new.pool) c.into_state-in-Err-put_reply.result
     c.into_state-in-Err-put_reply.ensures.user begun.1 begun.2
 
 pub returns-in-Err-put_reply-clause-cause : goal.returns-in-Err-put_reply-clause-cause
 returns-in-Err-put_reply-clause-cause g c =
-    has_cause c.next_in.new.self.left c.args.lines.now.errors c.next_in.new.self.errors (g.W.Sink.faults c.args.writer.now)
+    has_cause c.next_into.new.self.left c.args.lines.now.errors c.next_into.new.self.errors (g.W.Sink.faults c.args.writer.now)
     (g.W.Sink.faults c.put_reply.new.writer) (g.P.Pool.seen c.args.pool.now) (g.P.Pool.seen c.answer.new.pool)
     served.WriteFault
     (subst (λ faults. Rises faults (g.W.Sink.faults c.put_reply.new.writer)) c.items.invariant.faults
@@ -159,7 +159,7 @@ returns-in-Some-clause-dialogue g c =
     let finished = c.in-Ok-answer.ensures.answered.finished in
     serving-ends c.args.state c.args.lines.now c.items.lines (g.W.Sink.contents c.args.writer.now)
     (g.W.Sink.contents c.items.writer) (g.P.Pool.seen c.args.pool.now) (g.P.Pool.seen c.work_ahead.new.pool)
-    c.work_ahead.new.owner.state s c.next_in.new.self c.next_in.new.item item
+    c.work_ahead.new.owner.state s c.next_into.new.self c.next_into.new.item item
     c.in-Ok-answer.reply c.answer.new.owner.state c.in-Ok-answer.ensures.answered.answered
     (g.W.Sink.contents c.put_reply.new.writer) written (g.P.Pool.seen c.answer.new.pool) finished.counted finished.handed
     c.into_state-in-Some.result c.into_state-in-Some.ensures.user
@@ -169,13 +169,13 @@ returns-in-Some-clause-dialogue g c =
 
 pub returns-in-Some-clause-cause : goal.returns-in-Some-clause-cause
 returns-in-Some-clause-cause g c =
-    item_cause c.next_in.new.self.left c.args.lines.now.errors c.next_in.new.self.errors (g.W.Sink.faults c.args.writer.now)
+    item_cause c.next_into.new.self.left c.args.lines.now.errors c.next_into.new.self.errors (g.W.Sink.faults c.args.writer.now)
     (g.W.Sink.faults c.put_reply.new.writer) (g.P.Pool.seen c.args.pool.now) (g.P.Pool.seen c.answer.new.pool)
-    c.next_in.new.item c.in-Some.served (sym c.ending_of-ending.ensures ∙ c.in-Some.is)
+    c.next_into.new.item c.in-Some.served (sym c.ending_of-ending.ensures ∙ c.in-Some.is)
 
 pub returns-in-Some-clause-all_read : goal.returns-in-Some-clause-all_read
 returns-in-Some-clause-all_read g c is =
-    no_item_ends c.next_in.new.item c.in-Some.served served.ReadFault (sym c.ending_of-ending.ensures ∙ c.in-Some.is) refl is
+    no_item_ends c.next_into.new.item c.in-Some.served served.ReadFault (sym c.ending_of-ending.ensures ∙ c.in-Some.is) refl is
 
 pub returns-in-Some-clause-handed_back : goal.returns-in-Some-clause-handed_back
 returns-in-Some-clause-handed_back g c =
@@ -194,7 +194,7 @@ items-preserved g c =
       serving =
           serving-more c.args.state c.args.lines.now c.items.lines (g.W.Sink.contents c.args.writer.now)
           (g.W.Sink.contents c.items.writer) (g.P.Pool.seen c.args.pool.now) (g.P.Pool.seen c.work_ahead.new.pool)
-          c.work_ahead.new.owner.state s c.next_in.new.self c.next_in.new.item item
+          c.work_ahead.new.owner.state s c.next_into.new.self c.next_into.new.item item
           c.in-Ok-answer.reply c.answer.new.owner.state answered.answered (g.W.Sink.contents c.put_reply.new.writer)
           written (g.P.Pool.seen c.answer.new.pool) answered.finished.counted answered.finished.handed
           (sym c.ending_of-ending.ensures ∙ c.in_default-ending.is) answered.owes;

@@ -30,14 +30,14 @@ returns-in-Line-clause-item g c =
     c.take.ensures c.finish.ensures.reads_for in
     IfOk-weaker c.finish.result _ _
     (λ whole f. finished c.args.input.now c.take.new.self c.finish.new.input line _ _
-    (if whole then Some c.finish.new.item else None) (taken g c) on c.read_line_in-body.ensures.item c.read_line_in-body.ensures.body f)
+    (if whole then Some c.finish.new.item else None) (taken g c) on c.read_line_into-body.ensures.item c.read_line_into-body.ensures.body f)
     c.finish.ensures.item
 
 pub returns-in-Line-clause-part : goal.returns-in-Line-clause-part
 returns-in-Line-clause-part g c =
     IfErr-weaker c.finish.result _ _
     (λ fault f. open_body c.args.input.now c.take.new.self c.finish.new.input c.split_at.result.0.now _ (taken g c)
-    c.read_line_in-body.ensures.body f)
+    c.read_line_into-body.ensures.body f)
     c.finish.ensures.part
 
 -- no line feed was found

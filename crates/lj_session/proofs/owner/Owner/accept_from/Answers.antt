@@ -5,10 +5,10 @@ use Rattle.lj_session.specs.declared.command.Command.{Command}
 use Rattle.lj_session.specs.KeptOwners.{IsOwner}
 use Rattle.lj_session.proofs.AtWork.{at_work-taken}
 use Rattle.lj_session.proofs.Owing.{either-way, owed-changed, turns-kept, turns-some}
-use Rattle.lj_session.proofs.owner.Owner.take_in.Goals as goal
+use Rattle.lj_session.proofs.owner.Owner.accept_from.Goals as goal
 
 pub invariant_of-self : goal.invariant_of-self
-invariant_of-self c = either-way c.take_in.result c.take_in.ensures.taken c.take_in.ensures.unchanged taken unchanged
+invariant_of-self c = either-way c.accept_from.result c.accept_from.ensures.taken c.accept_from.ensures.unchanged taken unchanged
   where
     old : UserState
     old = c.self.inside.state
@@ -19,17 +19,17 @@ invariant_of-self c = either-way c.take_in.result c.take_in.ensures.taken c.take
     tile : LiveSession → LiveSession
     tile = with_tile_in (tile_number_of c.args.done.now)
 
-    taken : c.take_in.new.self ≡ with_session_changed c.name.result.now.label.session tile old
-        → IsOwner (record { state = c.take_in.new.self; user = c.self.inside.user; waiting = waiting })
+    taken : c.accept_from.new.self ≡ with_session_changed c.name.result.now.label.session tile old
+        → IsOwner (record { state = c.accept_from.new.self; user = c.self.inside.user; waiting = waiting })
     taken is = record {
       at_work = subst (λ (owned : UserState). IsAtWork waiting owned) (sym is)
           (at_work-taken waiting old c.name.result.now.label.session (tile_number_of c.args.done.now) c.self.invariant.at_work);
-      some = turns-some waiting old c.take_in.new.self (λ command w. turns-kept old c.take_in.new.self command c.take_in.ensures.user
+      some = turns-some waiting old c.accept_from.new.self (λ command w. turns-kept old c.accept_from.new.self command c.accept_from.ensures.user
           (λ other waits. ap (λ (owned : UserState). owed_in owned other) is ∙ owed-changed old c.name.result.now.label.session tile (λ held. refl) other))
           c.self.invariant.some;
     }
 
-    unchanged : c.take_in.new.self ≡ old
-        → IsOwner (record { state = c.take_in.new.self; user = c.self.inside.user; waiting = waiting })
+    unchanged : c.accept_from.new.self ≡ old
+        → IsOwner (record { state = c.accept_from.new.self; user = c.self.inside.user; waiting = waiting })
     unchanged is = subst (λ (owned : UserState). IsOwner (record { state = owned; user = c.self.inside.user; waiting = waiting }))
         (sym is) c.self.invariant

@@ -7,8 +7,8 @@ use Rattle.lj_session.specs.Cursors.{IsPostedTo}
 use Rattle.lj_session.specs.Owner.{Owner, label_of}
 use Rattle.lj_session.specs.UserState.{LiveSession, UserState, live_session_at, names, next_of}
 use Rattle.lj_session.proofs.Cursors.{cursor-behind, task-at}
-use Rattle.lj_session.proofs.owner.Owner.task_from_in.Goals.{In-Some}
-use Rattle.lj_session.proofs.owner.Owner.task_from_in.Goals as goal
+use Rattle.lj_session.proofs.owner.Owner.task_from_into.Goals.{In-Some}
+use Rattle.lj_session.proofs.owner.Owner.task_from_into.Goals as goal
 
 module _ (state : UserState) (owner : Owner) (view : state ≡ owner.state) (cursor : TileCursor) (later : Owner)
     (p : IsPostedTo cursor owner later) where
@@ -27,21 +27,21 @@ module _ (state : UserState) (owner : Owner) (view : state ≡ owner.state) (cur
 
 -- the task that is written is the next one from the cursor on
 next_is : (c : In-Some) (later : Owner) (p : IsPostedTo c.args.cursor.now c.args.self.now later)
-    → next_of (label_of c.args.self.now p.name) (Some (record p.held { passed = c.args.cursor.now.from })) ≡ Some c.task_from_in.new.out
+    → next_of (label_of c.args.self.now p.name) (Some (record p.held { passed = c.args.cursor.now.from })) ≡ Some c.task_from_into.new.out
 next_is c later p =
     of_label c.self.inside.state c.args.self.now (ap (λ (o : Owner). o.state) c.self.view_is) c.args.cursor.now later p
     c.name_at.result.now c.name_at.ensures c.label-label.result
-    (c.label-label.ensures ∙ ap (label_of c.args.self.now) c.copy.ensures) c.task_from_in.new.out c.in-Some.ensures.task
+    (c.label-label.ensures ∙ ap (label_of c.args.self.now) c.copy.ensures) c.task_from_into.new.out c.in-Some.ensures.task
 
 pub returns-clause-task : goal.returns-clause-task
 returns-clause-task c = λ _ later p.
-    task-at c.args.cursor.now c.args.self.now later p c.task_from_in.new.out
+    task-at c.args.cursor.now c.args.self.now later p c.task_from_into.new.out
     (next_is (goal.at.returns-clause-task c).In-Some later p)
 
 pub returns-clause-moved : goal.returns-clause-moved
 returns-clause-moved c = λ _ later p.
     let cursor = c.args.cursor.now in
     let view = ap (λ (o : Owner). o.state) c.self.view_is in
-    cursor-behind cursor c.args.self.now later p c.task_from_in.new.out
+    cursor-behind cursor c.args.self.now later p c.task_from_into.new.out
     (next_is (goal.at.returns-clause-moved c).In-Some later p) c.in-Some.next
     (c.in-Some.ensures.passes p.held (at_cursor c.self.inside.state c.args.self.now view cursor later p))

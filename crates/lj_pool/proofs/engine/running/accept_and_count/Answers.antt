@@ -3,14 +3,14 @@ use Rattle.lj_pool.proofs.Gathered.{known_by_name}
 use Rattle.lj_pool.proofs.Going.{comes, comes_fewer, comes_stray, shown}
 use Rattle.lj_pool.specs.Accounts.{IsKnownByName}
 use Rattle.lj_pool.specs.Seen.{IsStray}
-use Rattle.lj_pool.proofs.engine.running.take_in_and_count.Goals as goal
+use Rattle.lj_pool.proofs.engine.running.accept_and_count.Goals as goal
 
 pub returns-then-is_err-clause-goes_on : goal.returns-then-is_err-clause-goes_on
 returns-then-is_err-clause-goes_on g c =
     let old = g.P.Pool.seen c.args.pool.now in
     let new = g.P.Pool.seen c.count.new.self in
     comes c.args.owner.now old new c.requires.gathers c.fetched.result (shown old new c.fetched.ensures c.count.ensures.handed_out)
-    c.take_in.new.self c.take_in.result c.take_in.ensures.accepted c.take_in.ensures.taken c.take_in.ensures.unchanged
+    c.accept_from.new.self c.accept_from.result c.accept_from.ensures.accepted c.accept_from.ensures.taken c.accept_from.ensures.unchanged
 
 pub returns-then-is_err-clause-stray : goal.returns-then-is_err-clause-stray
 returns-then-is_err-clause-stray g c _ =
@@ -18,13 +18,13 @@ returns-then-is_err-clause-stray g c _ =
     let new = g.P.Pool.seen c.count.new.self in
     subst (λ work. IsStray work old new) c.fetched.ensures
     (comes_stray c.args.owner.now old new c.requires.gathers c.fetched.result (shown old new c.fetched.ensures c.count.ensures.handed_out)
-    c.take_in.new.self c.take_in.result c.take_in.ensures.accepted (c.is_err.ensures.negation ∙ ap not c.if-is_err.true))
+    c.accept_from.new.self c.accept_from.result c.accept_from.ensures.accepted (c.is_err.ensures.negation ∙ ap not c.if-is_err.true))
 
 pub count_by_name-requires-clause-known : goal.count_by_name-requires-clause-known
 count_by_name-requires-clause-known g c =
     let owed = (g.P.Pool.seen c.args.pool.now).owed in
     subst (IsKnownByName owed) c.fetched.ensures
-    (known_by_name c.args.owner.now owed c.requires.gathers c.fetched.result (c.take_in.ensures.accepted.0
+    (known_by_name c.args.owner.now owed c.requires.gathers c.fetched.result (c.accept_from.ensures.accepted.0
     (c.is_err.ensures.negation ∙ ap not c.if-is_err.false)))
 
 pub returns-clause-goes_on : goal.returns-clause-goes_on
@@ -33,7 +33,7 @@ returns-clause-goes_on g c =
     let new = g.P.Pool.seen c.count_by_name.new.self in
     comes c.args.owner.now old new c.requires.gathers c.fetched.result
     (shown old new c.fetched.ensures c.count_by_name.ensures.handed_out)
-    c.take_in.new.self c.take_in.result c.take_in.ensures.accepted c.take_in.ensures.taken c.take_in.ensures.unchanged
+    c.accept_from.new.self c.accept_from.result c.accept_from.ensures.accepted c.accept_from.ensures.taken c.accept_from.ensures.unchanged
 
 pub returns-clause-fewer : goal.returns-clause-fewer
 returns-clause-fewer g c _ =
@@ -41,5 +41,5 @@ returns-clause-fewer g c _ =
     let new = g.P.Pool.seen c.count_by_name.new.self in
     comes_fewer c.args.owner.now old new c.requires.gathers c.fetched.result
     (shown old new c.fetched.ensures c.count_by_name.ensures.handed_out)
-    c.take_in.new.self c.take_in.result c.take_in.ensures.accepted c.take_in.ensures.taken
+    c.accept_from.new.self c.accept_from.result c.accept_from.ensures.accepted c.accept_from.ensures.taken
     (c.is_err.ensures.negation ∙ ap not c.if-is_err.false)

@@ -1,5 +1,5 @@
 use Rattle.lj_step.proofs.Sound.{sums_fit, with_result}
-use Rattle.lj_step.proofs.simulations.Sim.take_in.Goals as goal
+use Rattle.lj_step.proofs.simulations.Sim.accept_from.Goals as goal
 
 pub add-requires-clause-left : goal.add-requires-clause-left
 add-requires-clause-left c =

@@ -6,8 +6,8 @@ use Rattle.lj_step.specs.OpenSteps.{is_tile, blocks, cover}
 use Rattle.lj_step.proofs.Steps.{tile_found, task_found, step_part}
 use Rattle.lj_step.proofs.TileValues.{open_value}
 use Rattle.std.specs.Prelude.{slice_get}
-use Rattle.lj_step.proofs.simulations.Sim.task_in.Goals.{In-Some-get}
-use Rattle.lj_step.proofs.simulations.Sim.task_in.Goals as goal
+use Rattle.lj_step.proofs.simulations.Sim.task_into.Goals.{In-Some-get}
+use Rattle.lj_step.proofs.simulations.Sim.task_into.Goals as goal
 
 -- the tile is one of the cover
 found : (c : In-Some-get) → (is_tile c.args.self.now.composition c.args.self.now.sim.cur c.in-Some-get.tile.now ≡ true)

@@ -2,7 +2,7 @@ use Rattle.std.proofs.Common.{◌≡◌, ◌+◌, refl, sym, ap, ◌∙◌, arit
 use Rattle.lj_wire.specs.declared.line_limits.TheConstants.{MAX_ITEMS}
 use Rattle.lj_wire.specs.declared.reader.phase.Phase.TheVariants.{Open}
 use Rattle.lj_wire.proofs.Wholes.{enough}
-use Rattle.lj_wire.proofs.reader.LineReader.next_in.Goals as goal
+use Rattle.lj_wire.proofs.reader.LineReader.next_into.Goals as goal
 
 pub returns-then-self-eq-MAX_ITEMS-clause-item : goal.returns-then-self-eq-MAX_ITEMS-clause-item
 returns-then-self-eq-MAX_ITEMS-clause-item g c = λ some.

@@ -2,7 +2,7 @@ use Rattle.std.proofs.Common.{ap, sym, ◌∙◌}
 use Rattle.lj_session.specs.declared.body.LoadBody.TheVariants.{Unread}
 use Rattle.lj_wire.specs.Commands.{verb_body_len, verb_item}
 use Rattle.lj_wire.proofs.Parsing.{says_empty, says_words}
-use Rattle.lj_wire.proofs.reading.read_line_in.Goals as goal
+use Rattle.lj_wire.proofs.reading.read_line_into.Goals as goal
 
 pub returns-in_default-clause-item : goal.returns-in_default-clause-item
 returns-in_default-clause-item c =
