@@ -2,6 +2,7 @@
 use Rattle.std.specs.Prelude.{ℕ, Bool, ◌+◌, ◌*◌, ◌^◌, ◌≡◌, ◌<◌, ◌≤◌, false, List, length, slice_index}
 use Rattle.lj_ring.specs.declared.coordinates.Place.{Place}
 use Rattle.lj_ring.specs.Ring.{IsOnRing, place_at}
+use Rattle.lj_tile.specs.declared.blocks.TheConstants.{BLOCK}
 use Rattle.lj_tile.specs.declared.near.Bounds.{Bounds}
 use Rattle.lj_tile.specs.declared.near.Columns.{Columns}
 use Rattle.lj_tile.specs.declared.near.Lanes.{Lanes}
@@ -38,6 +39,6 @@ pub record HasColumns (interact : ℕ → Bool) (columns : Columns) (places : Li
   pub grain : columns.grain ≤ 16
   pub reach : IsReach interact columns.grain columns.reach
   pub few : columns.grain < 16 → SpansFew interact columns.grain
-  pub most : length places ≤ 64
+  pub most : length places ≤ BLOCK
   pub fine : HasLanes columns.grain columns.fine places
   pub whole : HasLanes 16 columns.whole places

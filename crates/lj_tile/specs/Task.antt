@@ -5,7 +5,7 @@ use Rattle.lj_ring.specs.declared.mixes.Class.{Class}
 use Rattle.lj_ring.specs.Mix.{Mix, class_of}
 use Rattle.lj_tile.specs.declared.pairs.Push.{Push}
 use Rattle.lj_tile.specs.declared.task_name.TaskName.{TaskName}
-use Rattle.lj_tile.specs.declared.blocks.TheConstants.{BLOCK}
+use Rattle.lj_tile.specs.declared.blocks.TheConstants.{BLOCK, MAX_BLOCKS}
 use Rattle.lj_tile.specs.Block.{Block}
 use Rattle.lj_tile.specs.Species.{species_at}
 use Rattle.lj_tile.specs.Tiles.{place_at, push_sum, chosen_energy}
@@ -54,7 +54,7 @@ pub record IsTask (w : Task) : Type 0 where
   pub some_second : 1 ≤ length w.b.places
   pub most_first : length w.a.places ≤ BLOCK
   pub most_second : length w.b.places ≤ BLOCK
-  pub first_index : w.name.bi < 64
-  pub second_index : w.name.bj < 64
+  pub first_index : w.name.bi < MAX_BLOCKS
+  pub second_index : w.name.bj < MAX_BLOCKS
   pub diagonal : w.name.bi ≡ w.name.bj → w.a ≡ w.b
   pub in_order : w.name.bi ≤ w.name.bj

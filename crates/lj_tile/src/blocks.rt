@@ -10,6 +10,9 @@ use std::simd::prelude::*;
 /// The most atoms of a block.
 pub const BLOCK: usize = 64;
 
+/// The most blocks of a simulation: a task names its two by numbers below it.
+pub const MAX_BLOCKS: usize = 64;
+
 /// A block of places of atoms that stand next to each other in the file, at most `BLOCK`. Bit `t` of `species_bits` is 1 if
 /// the atom at place `t` is of the second species.
 #[derive(PartialEq, Eq, Debug, Drop)]

@@ -13,7 +13,7 @@ mod sums;
 mod task_name;
 mod tasks;
 
-pub use blocks::{BLOCK, Block};
+pub use blocks::{BLOCK, Block, MAX_BLOCKS};
 pub use lj_base::{Label, Name};
 pub use pairs::{Push, pair_push};
 pub use results::{Done, DoneRef, Sums, compute, compute_into, compute_sums};

@@ -4,13 +4,13 @@ ghost use Rattle.lj_tile.specs.declared.task_name.Kind.TheVariants.{Energy};
 ghost use Rattle.lj_tile.specs.Task.{IsTask};
 ghost use Rattle.lj_tile.specs.Blank.{blank_task};
 
-use crate::blocks::{BLOCK, Block};
+use crate::blocks::{BLOCK, Block, MAX_BLOCKS};
 use crate::task_name::TaskName;
 use lj_ring::{Mix, Place, Scale};
 use std::marker::Model;
 
 /// A task: one tile of a step, with all data to compute it. A force task gives the sums of the atoms of both its
-/// blocks; place t of block n is atom 64 n + t.
+/// blocks; place t of block n is atom `BLOCK * n + t`.
 #[derive(PartialEq, Eq, Debug, Drop)]
 pub struct Task {
     name: TaskName,
@@ -36,8 +36,8 @@ impl Task {
     pub fn new(name: TaskName, mix: Mix, a: Block, b: Block) -> Task
         requires some_first { 1 ≤ length a.places }
         requires some_second { 1 ≤ length b.places }
-        requires first_index { name.bi < 64 }
-        requires second_index { name.bj < 64 }
+        requires first_index { name.bi < MAX_BLOCKS }
+        requires second_index { name.bj < MAX_BLOCKS }
         requires diagonal { name.bi ≡ name.bj → a ≡ b }
         requires in_order { name.bi ≤ name.bj }
         ensures { result ≡ record { name = name; mix = mix; a = a; b = b } }
@@ -121,8 +121,8 @@ impl Task {
         requires some_second { 1 ≤ length b.0.now }
         requires most_first { length a.0.now ≤ BLOCK }
         requires most_second { length b.0.now ≤ BLOCK }
-        requires first_index { name.bi < 64 }
-        requires second_index { name.bj < 64 }
+        requires first_index { name.bi < MAX_BLOCKS }
+        requires second_index { name.bj < MAX_BLOCKS }
         requires diagonal { name.bi ≡ name.bj → (a.0.now ≡ b.0.now) × (a.1 ≡ b.1) }
         requires in_order { name.bi ≤ name.bj }
         ensures { self.new ≡ record {
