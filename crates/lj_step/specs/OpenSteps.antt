@@ -1,9 +1,10 @@
 -- An open step: its cover by tiles of two blocks, the tasks of these tiles, and which of them are still awaited.
-use Rattle.std.specs.Prelude.{ℕ, ◌+◌, ◌*◌, ◌/◌, ◌%◌, ◌≡◌, ◌&&◌, ◌==◌, not, if◌then◌else◌, Bool, true, false, nat_le, nat_lt, min, List, length}
+use Rattle.std.specs.Prelude.{ℕ, ◌+◌, ◌*◌, ◌-◌, ◌/◌, ◌%◌, ◌≡◌, ◌&&◌, ◌==◌, not, if◌then◌else◌, Bool, true, false, nat_le, nat_lt, min, List, length}
 use Rattle.std.specs.Prelude.{map, count_by, slice_index_or, slice_set, slice_range, slice_get, Option, Some, None}
 use Rattle.std.specs.List.{range_with_len, filter}
 use Rattle.std.specs.Option.{option_map, option_map_or}
 use Rattle.lj_ring.specs.declared.coordinates.Place.{Place}
+use Rattle.lj_tile.specs.declared.blocks.TheConstants.{BLOCK}
 use Rattle.lj_tile.specs.Species.{Composition}
 use Rattle.lj_ring.specs.Mix.{can_interact}
 use Rattle.lj_ring.specs.Arcs.{arcs_of, squared_gap}
@@ -17,23 +18,23 @@ use Rattle.lj_step.specs.Motion.{Simulation}
 use Rattle.lj_step.specs.Sim.{Sim, OpenStep}
 use Rattle.lj_step.specs.Sets.{species_bits_in}
 
--- how many blocks of 64 a count of atoms has, the last one perhaps not full
+-- how many blocks a count of atoms has, the last one perhaps not full
 abbrev pub blocks : ℕ → ℕ
-blocks count = (count + 63) / 64
+blocks count = (count + (BLOCK - 1)) / BLOCK
 
 -- the number of the tile of two blocks
 abbrev pub tile_number : ℕ → ℕ → ℕ
-tile_number bi bj = 64 * bi + bj
+tile_number bi bj = BLOCK * bi + bj
 
 abbrev pub first_block : ℕ → ℕ
-first_block k = k / 64
+first_block k = k / BLOCK
 
 abbrev pub second_block : ℕ → ℕ
-second_block k = k % 64
+second_block k = k % BLOCK
 
 -- the places of a block of a frame
 abbrev pub block : List Place → ℕ → List Place
-block frame b = slice_range frame (64 * b) (min (64 * b + 64) (length frame))
+block frame b = slice_range frame (BLOCK * b) (min (BLOCK * b + BLOCK) (length frame))
 
 -- a block of a frame: its places, and which of them are of atoms of the second species
 abbrev pub sites_of : Composition → List Place → ℕ → Block
@@ -57,7 +58,7 @@ is_tile u frame k = is_in_order (length frame) k && not (is_out_of_reach u frame
 
 -- the cover of a step: the numbers of its tiles, in order of the first block, then of the second
 abbrev pub cover : Composition → List Place → List ℕ
-cover u frame = filter (is_tile u frame) (range_with_len 0 (64 * blocks (length frame)))
+cover u frame = filter (is_tile u frame) (range_with_len 0 (BLOCK * blocks (length frame)))
 
 -- how many tiles the open step has
 abbrev pub tiles_in : Composition → List Place → Option OpenStep → ℕ
@@ -101,7 +102,7 @@ task_at live label i = task_of_open live label i live.part
 -- an open step that awaits all its tiles
 abbrev pub opened_step : Kind → Composition → List Place → OpenStep
 opened_step kind u frame =
-    record { kind = kind; awaited = map (is_tile u frame) (range_with_len 0 (64 * blocks (length frame))) }
+    record { kind = kind; awaited = map (is_tile u frame) (range_with_len 0 (BLOCK * blocks (length frame))) }
 
 -- the open step awaits the tile of this number
 abbrev pub is_number_awaited : OpenStep → ℕ → Bool

@@ -1,9 +1,10 @@
 -- Sets of atoms as numbers: bit i of the number is 1 if atom i is in the set.
 use Rattle.std.specs.Prelude.{ℕ, ◌+◌, ◌*◌, ◌/◌, ◌%◌, ◌^◌, List, [], ◌∷◌}
+use Rattle.lj_tile.specs.declared.blocks.TheConstants.{BLOCK}
 
--- the part of a set in block b: its bits 64 b to 64 b + 63
+-- the part of a set in block b: one bit for each of the block's atoms
 abbrev pub species_bits_in : ℕ → ℕ → ℕ
-species_bits_in species_bits b = species_bits / 2 ^ (64 * b) % 2 ^ 64
+species_bits_in species_bits b = species_bits / 2 ^ (BLOCK * b) % 2 ^ BLOCK
 
 -- the set that has these parts in its blocks
 abbrev pub number_of_bits : List ℕ → ℕ

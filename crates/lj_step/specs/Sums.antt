@@ -3,6 +3,7 @@ use Rattle.std.specs.Prelude.{ℕ, ◌+◌, ◌*◌, ◌^◌, ◌<◌, ◌≤◌
 use Rattle.std.specs.Prelude.{length, slice_index_or, vec_capacity, count_by, min, max, Option, Some, None, if◌then◌else◌}
 use Rattle.lj_ring.specs.declared.coordinates.Place.{Place}
 use Rattle.lj_ring.specs.Ring.{ring_sum, int_sum_below}
+use Rattle.lj_tile.specs.declared.blocks.TheConstants.{BLOCK}
 use Rattle.lj_tile.specs.Species.{Composition, class_between}
 use Rattle.lj_tile.specs.declared.pairs.Push.{Push}
 use Rattle.lj_tile.specs.declared.task_name.Kind.{Kind}
@@ -15,7 +16,7 @@ use Rattle.lj_step.specs.OpenSteps.{blocks, tile_number, is_tile, cover}
 
 -- the number of the tile of a pair of atoms, in either order
 abbrev pub pair_number : ℕ → ℕ → ℕ
-pair_number i j = tile_number (min (i / 64) (j / 64)) (max (i / 64) (j / 64))
+pair_number i j = tile_number (min (i / BLOCK) (j / BLOCK)) (max (i / BLOCK) (j / BLOCK))
 
 -- the flag of the tile of a pair of atoms
 abbrev pub is_pair_awaited : List Bool → ℕ → ℕ → Bool
@@ -46,8 +47,8 @@ energy_so_far u frame awaited =
 -- a partial step has memory for `count` atoms
 pub record HasRoom (count : ℕ) (p : Partial) : Type 0 where
   pub pushes : length p.pushes.items ≡ count
-  pub awaited : length p.awaited.items ≡ 64 * blocks count
-  pub tiles : 64 * blocks count ≤ vec_capacity p.tiles
+  pub awaited : length p.awaited.items ≡ BLOCK * blocks count
+  pub tiles : BLOCK * blocks count ≤ vec_capacity p.tiles
   pub arcs : blocks count ≤ vec_capacity p.arcs
 
 -- the tiles, flags and sums of an open step are those of the tiles that are in

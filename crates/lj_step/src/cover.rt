@@ -8,13 +8,13 @@ ghost use Rattle.lj_step.specs.Kept.{block_arcs};
 use crate::atoms::Atoms;
 use crate::tile_id::TileId;
 use lj_ring::{Arcs, Place};
-use lj_tile::BLOCK;
+use lj_tile::{BLOCK, MAX_BLOCKS};
 
 /// Returns how many blocks `count` atoms have.
 pub(crate) fn blocks(count: usize) -> usize
     requires { count ≤ MAX_ATOMS }
     ensures value { result ≡ steps.blocks count }
-    ensures most { result ≤ 64 }
+    ensures most { result ≤ MAX_BLOCKS }
 {
     count.div_ceil(BLOCK)
 }
@@ -32,7 +32,7 @@ pub(crate) fn block(frame: &[Place], index: usize) -> &[Place]
 
 /// Returns whether a step over a frame has this tile, by the arcs of its blocks.
 pub(crate) fn is_tile(tile: TileId, arcs: &[Arcs], atoms: &Atoms, frame: &[Place]) -> bool
-    requires within { tile < 64 * steps.blocks (length frame.now) }
+    requires within { tile < BLOCK * steps.blocks (length frame.now) }
     requires most { length frame.now ≤ MAX_ATOMS }
     requires arcs { arcs.now
         ≡ map (block_arcs frame.now) (range_with_len 0 (steps.blocks (length frame.now))) }

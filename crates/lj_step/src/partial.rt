@@ -15,7 +15,7 @@ use crate::atoms::Atoms;
 use crate::cover::{block, blocks, is_tile};
 use crate::tile_id::TileId;
 use lj_ring::{Arcs, Place};
-use lj_tile::{BLOCK, DoneRef, Kind, Push};
+use lj_tile::{BLOCK, DoneRef, Kind, MAX_BLOCKS, Push};
 use std::alloc::{AllocError, Global};
 
 /// The tiles and sums of the open step, in memory that is enough for any step.
@@ -66,7 +66,7 @@ impl Partial {
         ensures tiles { self.new.tiles.items ≡ steps.cover atoms.now frame.now }
         ensures awaited { self.new.awaited.items
             ≡ map (steps.is_tile atoms.now frame.now)
-            (range_with_len 0 (64 * steps.blocks (length frame.now))) }
+            (range_with_len 0 (BLOCK * steps.blocks (length frame.now))) }
         ensures left { self.new.left ≡ length (steps.cover atoms.now frame.now) }
         ensures pushes { self.new.pushes.items ≡ replicate (length frame.now) no_push }
         ensures energy { self.new.energy ≡ pos 0 }
@@ -128,12 +128,12 @@ fn list_arcs(arcs: &mut Vec<Arcs>, frame: &[Place])
 
 /// Sets the flag of each tile of the cover, and clears the others.
 fn await_tiles(awaited: &mut Vec<bool>, arcs: &[Arcs], atoms: &Atoms, frame: &[Place])
-    requires room { length awaited.old.items ≡ 64 * steps.blocks (length frame.now) }
+    requires room { length awaited.old.items ≡ BLOCK * steps.blocks (length frame.now) }
     requires most { length frame.now ≤ MAX_ATOMS }
     requires arcs { arcs.now
         ≡ map (block_arcs frame.now) (range_with_len 0 (steps.blocks (length frame.now))) }
     ensures { awaited.new.items
-        ≡ map (steps.is_tile atoms.now frame.now) (range_with_len 0 (64 * steps.blocks (length frame.now))) }
+        ≡ map (steps.is_tile atoms.now frame.now) (range_with_len 0 (BLOCK * steps.blocks (length frame.now))) }
 {
     for number in 0..BLOCK * blocks(frame.len()) {
         awaited[number] = is_tile(TileId::of_number(number), arcs, atoms, frame);
@@ -143,7 +143,7 @@ fn await_tiles(awaited: &mut Vec<bool>, arcs: &[Arcs], atoms: &Atoms, frame: &[P
 /// Writes the awaited tiles to the list reserved for them.
 fn list_tiles(tiles: &mut Vec<TileId>, awaited: &[bool])
     requires room { length awaited.now ≤ vec_capacity tiles.old }
-    requires most { length awaited.now ≤ 64 * 64 }
+    requires most { length awaited.now ≤ BLOCK * MAX_BLOCKS }
     ensures tiles { tiles.new.items ≡ set_numbers awaited.now }
     ensures room { vec_capacity tiles.new ≡ vec_capacity tiles.old }
 {

@@ -23,7 +23,7 @@ use crate::snapshots::Snapshot;
 use crate::tile_id::TileId;
 use lj_base::Label;
 use lj_ring::{Edge, Mix, Place};
-use lj_tile::{Done, DoneRef, Kind, Push, Task, TaskName};
+use lj_tile::{BLOCK, Done, DoneRef, Kind, Push, Task, TaskName};
 use std::alloc::{AllocError, Global};
 use std::marker::Model;
 use std::mem;
@@ -369,7 +369,7 @@ impl Sim {
     /// Returns whether this is the task of a tile of the present step. It copies no places.
     fn is_task_of(&self, task: &Task, label: &Label, kind: Kind, tile: TileId) -> bool
         requires tile { steps.is_tile self.now.composition self.now.sim.cur tile ≡ true }
-        requires within { tile < 64 * steps.blocks (length self.now.sim.cur) }
+        requires within { tile < BLOCK * steps.blocks (length self.now.sim.cur) }
         ensures { IsTrue result ↔ (task.now ≡ steps.task_of self.now label.now kind tile) }
     {
         let name = self.name_of(label, kind, tile);
@@ -382,7 +382,7 @@ impl Sim {
     /// Writes the task of a tile of the present step to `out`.
     fn write_task(&self, label: &Label, kind: Kind, tile: TileId, out: &mut Task)
         requires tile { steps.is_tile self.now.composition self.now.sim.cur tile ≡ true }
-        requires within { tile < 64 * steps.blocks (length self.now.sim.cur) }
+        requires within { tile < BLOCK * steps.blocks (length self.now.sim.cur) }
         ensures { out.new ≡ steps.task_of self.now label.now kind tile }
     {
         let name = self.name_of(label, kind, tile);
@@ -397,7 +397,7 @@ impl Sim {
 
     /// Returns the name of the task of a tile of the present step.
     fn name_of(&self, label: &Label, kind: Kind, tile: TileId) -> TaskName
-        requires { tile < 64 * steps.blocks (length self.now.sim.cur) }
+        requires { tile < BLOCK * steps.blocks (length self.now.sim.cur) }
         ensures { result ≡ (steps.task_of self.now label.now kind tile).name }
     {
         TaskName {

@@ -2,7 +2,7 @@
 ghost use Rattle.std.specs.Prelude.{◌≡◌, ◌<◌, ◌*◌};
 ghost use Rattle.lj_step.specs.OpenSteps as steps;
 
-use lj_tile::{BLOCK, Task};
+use lj_tile::{BLOCK, MAX_BLOCKS, Task};
 use std::marker::Model;
 
 /// A tile by its two blocks. Contracts see its number.
@@ -14,13 +14,14 @@ pub(crate) struct TileId {
 
 impl Model for TileId {
     ghost use Rattle.std.specs.Prelude.{ℕ, ◌<◌};
+    ghost use Rattle.lj_tile.specs.declared.blocks.TheConstants.{MAX_BLOCKS};
     ghost use Rattle.lj_step.specs.OpenSteps.{tile_number, first_block, second_block};
 
     ghost Value = { ℕ };
 
     ghost view = { λ t. tile_number t.first t.second };
 
-    ghost invariant = { λ t. t.second < 64 };
+    ghost invariant = { λ t. t.second < MAX_BLOCKS };
 
     ghost inverse = { λ k. record { first = first_block k; second = second_block k } };
 
@@ -32,7 +33,7 @@ impl Model for TileId {
 impl TileId {
     /// Returns the tile of a number.
     pub fn of_number(number: usize) -> TileId
-        requires { number < 64 * 64 }
+        requires { number < BLOCK * MAX_BLOCKS }
         ensures { result ≡ number }
     {
         TileId {
