@@ -1,5 +1,5 @@
 -- The state of the machine: users, connections, workers, and the book of tasks.
-use Rattle.std.specs.Prelude.{ℕ, ◌≤◌, Bool, false, List, [], map, replicate, slice_index_or, slice_set, Option, Some, None}
+use Rattle.std.specs.Prelude.{ℕ, ◌+◌, ◌≤◌, Bool, false, List, [], map, replicate, slice_index_or, slice_set, Option, Some, None}
 use Rattle.lj_tile.specs.Task.{Task}
 use Rattle.lj_session.specs.Owner.{Owner}
 use Rattle.lj_wire.specs.declared.item.Item.{Item}
@@ -96,7 +96,7 @@ empty_book = record { slots = []; posted = 0; given = 0; fetched = 0; withdrawn 
 abbrev pub start : List User → Machine
 start users = record {
   rows = map first_row users;
-  connections = replicate 65 None;
-  workers = replicate 17 None;
+  connections = replicate (MAX_CONNECTIONS + 1) None;
+  workers = replicate (MAX_WORKERS + 1) None;
   book = empty_book;
 }
