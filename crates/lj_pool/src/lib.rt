@@ -12,7 +12,7 @@ mod waking;
 pub use account::Account;
 pub use engine::{Served, serve, serve_lines};
 pub use inline::InlinePool;
-pub use lock::{Gate, LockEnd, LockPool, gather, work};
+pub use lock::{Gate, LockEnd, LockPool, MAX_ENDS, gather, work};
 pub use pool::{MAX_AHEAD, MAX_OWED, MAX_POSTS, MAX_STRAYS, NotPosted, Pool, Refused};
 pub use share::{Share, merged, shares_of};
 pub use waking::{TASKS_AT_ONCE, UnsignalledPosts, WAIT_QUEUES, WaitQueues, wait_queue_of};

@@ -6,5 +6,5 @@ mod pool_state;
 mod working;
 
 pub use lock_end::LockEnd;
-pub use lock_pool::LockPool;
+pub use lock_pool::{LockPool, MAX_ENDS};
 pub use working::{Gate, gather, work};
