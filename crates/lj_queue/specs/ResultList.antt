@@ -24,7 +24,7 @@ with_last kept done = record { user = kept.user; results = kept.results ++ done 
 abbrev pub with_first : Task → ResultList → ResultList
 with_first done kept = record { user = kept.user; results = done ∷ kept.results }
 
--- The results are of this user, at most 64, and the deque has memory for 64.
+-- The results are of this user, at most `MAX_RESULTS`, and the deque has memory for all.
 pub record HasPlaces (user : ℕ) (results : VecDeque Task Global) : Type 0 where
   pub most : deque_len results ≤ MAX_RESULTS
   pub places : MAX_RESULTS ≤ deque_capacity results

@@ -2,20 +2,20 @@
 ghost use Rattle.std.specs.Prelude.{◌≡◌, ◌+◌, ◌-◌, ◌<◌, ◌^◌, ◌↔◌, [], None, Some, length, replicate, true, false, vec_len, IfErr, IfNone, IfOk, IfSome, IsOk, IsTrue, OnErr, OnOk};
 ghost use Rattle.std.specs.List.{All};
 ghost use Rattle.lj_queue.specs.ResultList.{empty_list, with_last};
-ghost use Rattle.lj_pool.specs.declared.waking.TheConstants.{WAIT_QUEUES};
 ghost use Rattle.lj_queue.specs.Mailboxes.{mailbox_of, list_of, present_of, with_list};
+ghost use Rattle.lj_queue.specs.declared.mailboxes.TheConstants.{USERS};
 
 use crate::result_list::{MAX_RESULTS, ResultList};
 use crate::spares::Spares;
 use lj_book::DoneBox;
-use lj_pool::{Share, WaitQueues};
+use lj_pool::{Share, WAIT_QUEUES, WaitQueues};
 use std::alloc::{AllocError, Global};
 use std::mem;
 use std::sync::Wait;
 use std::sync::ledger::{self, Ledger};
 
-/// The number of mailboxes. Users whose numbers are equal modulo this share one.
-pub const USERS: usize = 64;
+/// The number of mailboxes, one for each wait queue. Users whose numbers are equal modulo this share one.
+pub const USERS: usize = WAIT_QUEUES;
 
 /// Returns the mailbox of a user, 0 to 63.
 pub(crate) fn mailbox_of(user: u8) -> usize
@@ -40,7 +40,7 @@ pub(crate) struct Mailboxes<L: Ledger> {
     pub(crate) wait_queues: WaitQueues,
     closed: bool,
     ghost counted: { given ≡ results.total },
-    ghost lists_are: { vec_len lists ≡ 64 },
+    ghost lists_are: { vec_len lists ≡ USERS },
 }
 
 impl<L: Ledger> Mailboxes<L> {

@@ -15,8 +15,8 @@ use crate::result_list::ResultList;
 use crate::root_pass::{RootPass, passes_of};
 use crate::rule::{OpenTasks, TaskPass};
 use crate::spares::Spares;
-use lj_book::{DoneBox, TaskBox};
-use lj_pool::{NotPosted, Share, WAIT_QUEUES, shares_of, wait_queue_of};
+use lj_book::{DoneBox, MAX_ENTRIES, TaskBox};
+use lj_pool::{MAX_ENDS, NotPosted, Share, WAIT_QUEUES, shares_of, wait_queue_of};
 use lj_tile::Task;
 use std::alloc::{AllocError, Global};
 use std::array;
@@ -26,10 +26,10 @@ use std::sync::ledger::{self, Blank};
 use std::sync::{Condvar, Mutex, Wait};
 
 /// The most tasks that are open at once in the pool with a queue.
-pub const MAX_OPEN_TASKS: usize = 1024;
+pub const MAX_OPEN_TASKS: usize = MAX_ENTRIES;
 
 /// The number of passes for connections. Those of the workers come after them.
-pub const CONNECTIONS: usize = 64;
+pub const CONNECTIONS: usize = MAX_ENDS;
 
 /// The parts that a pool is made from: an empty queue, its first pass and a blank ledger.
 #[derive(Drop)]
@@ -95,7 +95,8 @@ pub struct QueuePool<L: PoolIdentity> {
 }
 
 impl<L: PoolIdentity> QueuePool<L> {
-    /// Makes an empty pool, its passes, the first 64 for connections and the others for the workers, and a share for each worker.
+    /// Makes an empty pool, its passes, the first `CONNECTIONS` for connections and the others for the workers, and a share for each
+    /// worker.
     ///
     /// # Errors
     /// Out of memory.

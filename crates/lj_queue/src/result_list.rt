@@ -3,16 +3,17 @@ ghost use Rattle.std.specs.Prelude.{◌≡◌, ◌<◌, ◌↔◌, [], length, I
 ghost use Rattle.lj_queue.specs.ResultList.{empty_list, with_first, with_last};
 
 use lj_book::DoneBox;
+use lj_pool::MAX_OWED;
 use lj_tile::DoneRef;
 use std::alloc::{AllocError, Global};
 use std::collections::VecDeque;
 use std::marker::Model;
 
 /// The most results that the pool with a queue keeps for a user.
-pub const MAX_RESULTS: usize = 64;
+pub const MAX_RESULTS: usize = MAX_OWED;
 
-/// At most 64 results, all of one user, first in, first out. Each comes in and goes out in its box. The list takes its memory
-/// when it is made.
+/// At most `MAX_RESULTS` results, all of one user, first in, first out. Each comes in and goes out in its box. The list takes its
+/// memory when it is made.
 #[derive(Drop)]
 pub struct ResultList {
     user: u8,
