@@ -1,6 +1,7 @@
 -- The limits of quotas and of open connections, and the limits of several crates that are equal.
 use Rattle.std.specs.Prelude.{◌≡◌, refl}
 use Rattle.lj_access.specs.declared.directory.TheConstants.{MAX_USERS}
+use Rattle.lj_pool.specs.declared.lock.lock_pool.TheConstants.{MAX_ENDS}
 use Rattle.lj_pool.specs.declared.pool.TheConstants.{MAX_OWED}
 use Rattle.lj_queue.specs.declared.mailboxes.TheConstants.{USERS}
 use Rattle.lj_queue.specs.declared.queue_pool.TheConstants.{CONNECTIONS}
@@ -21,8 +22,8 @@ most_atoms = refl
 most_branches : MAX_QUOTA_BRANCHES ≡ 256
 most_branches = refl
 
--- at most 64 connections of a server are open at once
-most_open : MAX_OPEN_CONNECTIONS ≡ 64
+-- as many connections of a server are open at once as a pool behind a lock has boxes for
+most_open : MAX_OPEN_CONNECTIONS ≡ MAX_ENDS
 most_open = refl
 
 -- as many as a schedule can name

@@ -1,9 +1,10 @@
 //! The limit of the open connections of a server.
 
+use lj_pool::MAX_ENDS;
 use std::sync::atomic::{AtomicU64, Ordering};
 
 /// The most connections that are open at once.
-pub const MAX_OPEN_CONNECTIONS: u64 = 64;
+pub const MAX_OPEN_CONNECTIONS: u64 = MAX_ENDS as u64;
 
 /// The count of open connections.
 #[derive(Drop)]
@@ -24,7 +25,8 @@ impl ConnectionLimit {
         }
     }
 
-    /// Returns a permit for one more connection, if fewer than 64 are open. Only one thread may ask at a time.
+    /// Returns a permit for one more connection, if fewer than `MAX_OPEN_CONNECTIONS` are open. Only one thread may ask at a
+    /// time.
     pub fn permit(&self) -> Option<ConnectionPermit<'_>> {
         if self.open.load(Ordering::SeqCst) >= MAX_OPEN_CONNECTIONS {
             return None;
