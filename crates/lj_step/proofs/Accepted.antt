@@ -2,7 +2,7 @@
 use Rattle.std.proofs.Common.{ℕ, ◌+◌, ◌-◌, ◌*◌, ◌/◌, ◌^◌, ◌<◌, ◌≤◌, ◌≡◌, ◌≢◌, ◌+ℤ◌, unsigned_abs, Bool, true}
 use Rattle.std.proofs.Common.{false, not, nat_le, nat_lt, cond, List, length, slice_index_or, slice_set, count_by, inl}
 use Rattle.std.proofs.Common.{inr, sym, ap, ◌∙◌, get_or-set_same, get_or-set_other, arith}
-use Rattle.std.proofs.lemmas.Bool.{cases_eq, cases_lt, true≢false, and_parts, leb-true}
+use Rattle.std.proofs.lemmas.Bool.{cases_eq, cases_lt, true≢false, and_parts, leb-true, ltb-true}
 use Rattle.std.proofs.lemmas.List.Sums.{sum_by-set, get_or-le-sum_by}
 use Rattle.lj_ring.specs.declared.coordinates.Place.{Place}
 use Rattle.lj_tile.specs.Species.{Composition}
@@ -13,11 +13,11 @@ use Rattle.lj_tile.specs.Pushes.{no_push, sum_of_pushes}
 use Rattle.lj_tile.specs.Block.{Block}
 use Rattle.lj_tile.specs.Task.{Task, task_force, task_second, task_energy}
 use Rattle.lj_step.specs.declared.partial.Partial.{Partial}
-use Rattle.lj_step.specs.OpenSteps.{blocks, sites_of, tile_number_of, first_block, second_block, is_in_order, is_tile}
+use Rattle.lj_step.specs.OpenSteps.{blocks, sites_of, tile_number, tile_number_of, first_block, second_block, is_in_order, is_tile}
 use Rattle.lj_step.specs.OpenSteps.{is_out_of_reach}
-use Rattle.lj_step.specs.Sums.{HasRoom, HasAdded, IsOpen, IsOutside, force_so_far, energy_so_far}
+use Rattle.lj_step.specs.Sums.{CanAdd, HasRoom, HasAdded, IsOpen, IsOutside, force_so_far, energy_so_far}
 use Rattle.lj_step.proofs.BlockSums.{length_in}
-use Rattle.lj_step.proofs.BlockPlaces.{block_length, place_in}
+use Rattle.lj_step.proofs.BlockPlaces.{block_length, first_in, place_in}
 use Rattle.lj_step.proofs.PartialForces.{block_force, task_is, second_is, force_more, force_more_second, force_same}
 use Rattle.lj_step.proofs.PartialEnergies.{energy_task_is, energy_more}
 
@@ -28,14 +28,14 @@ module _ (u : Composition) (frame : List Place) (p q : Partial) (kind : Kind) (w
     (kind_is : work.name.kind ≡ kind)
     (second : work.name.bj < 64) (within : tile_number_of work < length p.awaited.items)
     (awaited : slice_index_or p.awaited.items (tile_number_of work) false ≡ true) where
-  pub one_left : 1 ≤ p.left
+  one_left : 1 ≤ p.left
   one_left =
       let one : cond (slice_index_or p.awaited.items (tile_number_of work) false) 1 0
       ≤ count_by (λ awaited. awaited) p.awaited.items =
       get_or-le-sum_by (λ (awaited : Bool). cond awaited 1 0) p.awaited.items (tile_number_of work) false within in
       omega (arith, open_before.left, rw awaited at one)
 
-  pub size_before : unsigned_abs p.energy + 2 ^ 63 ≤ 2 ^ 75
+  size_before : unsigned_abs p.energy + 2 ^ 63 ≤ 2 ^ 75
   size_before = omega (arith, open_before.size, one_left)
 
   left_after : (m : ℕ) → m + 1 ≡ p.left → m ≡ count_by
@@ -60,22 +60,48 @@ module _ (u : Composition) (frame : List Place) (p q : Partial) (kind : Kind) (w
             ∙ set)
       ]
 
-  -- the two blocks are in order
+  -- the number is that of two blocks in order
+  numbered : is_in_order (length frame) (tile_number_of work) ≡ true
+  numbered = (and_parts (is_in_order (length frame) (tile_number_of work))
+      (not (is_out_of_reach u frame (tile_number_of work))) (open_before.within (tile_number_of work) awaited)).0
+
+  ordered : (nat_lt (second_block (tile_number_of work)) (blocks (length frame)) ≡ true)
+      × (nat_le (first_block (tile_number_of work)) (second_block (tile_number_of work)) ≡ true)
+  ordered = and_parts (nat_lt (second_block (tile_number_of work)) (blocks (length frame)))
+      (nat_le (first_block (tile_number_of work)) (second_block (tile_number_of work))) numbered
+
   in_order : work.name.bi ≤ work.name.bj
   in_order =
-      let tile = and_parts (is_in_order (length frame) (tile_number_of work))
-      (not (is_out_of_reach u frame (tile_number_of work))) (open_before.within (tile_number_of work) awaited) in
-      let parts = and_parts (nat_lt (second_block (tile_number_of work)) (blocks (length frame)))
-      (nat_le (first_block (tile_number_of work)) (second_block (tile_number_of work))) tile.0 in
-      let ordered : first_block (tile_number_of work) ≤ second_block (tile_number_of work) =
-      leb-true (first_block (tile_number_of work)) (second_block (tile_number_of work)) parts.1 in
-      omega (arith, ordered, second)
+      let below : first_block (tile_number_of work) ≤ second_block (tile_number_of work) =
+      leb-true (first_block (tile_number_of work)) (second_block (tile_number_of work)) ordered.1 in
+      omega (arith, below, second)
+
+  second_within : work.name.bj < blocks (length frame)
+  second_within =
+      let below : second_block (tile_number_of work) < blocks (length frame) =
+      ltb-true (second_block (tile_number_of work)) (blocks (length frame)) ordered.0 in
+      omega (arith, below, second)
 
   first_length : length work.a.places ≡ length_in work.name.bi (length frame)
   first_length = ap (λ (sites : Block). length sites.places) a ∙ block_length frame work.name.bi
 
   second_length : length work.b.places ≡ length_in work.name.bj (length frame)
   second_length = ap (λ (sites : Block). length sites.places) b ∙ block_length frame work.name.bj
+
+  -- the places of both blocks have sums
+  fits : (b n : ℕ) → n ≡ length_in b (length frame) → b < blocks (length frame) → tile_number b n ≤ length p.pushes.items
+  fits b n count below =
+      let all = (first_in (length frame) b below).2 in
+      omega (arith, all, count, room.pushes)
+
+  pub can_add : CanAdd work p
+  can_add = record {
+    awaited = within;
+    left = one_left;
+    first = fits work.name.bi (length work.a.places) first_length (omega (arith, in_order, second_within));
+    second = fits work.name.bj (length work.b.places) second_length second_within;
+    size = size_before;
+  }
 
   -- what is added to an atom at a place of a block
   pushes_at : (b n : ℕ) (sum : ℕ → Push) → n ≡ length_in b (length frame) → kind ≡ Force

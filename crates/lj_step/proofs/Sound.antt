@@ -14,8 +14,8 @@ use Rattle.lj_step.specs.Kept.{IsSound, sim_of, sign_of}
 use Rattle.lj_step.specs.Laws.{AreOnRing}
 use Rattle.lj_step.specs.Sim.{Sim}
 use Rattle.lj_step.specs.OpenSteps.{blocks, tile_number_of, task_of, IsAwaitedTask}
-use Rattle.lj_step.specs.Sums.{HasAdded, HasRoom, IsPartial}
-use Rattle.lj_step.proofs.TakenIn.{awaited_at, left_some, size_fits, partial_after}
+use Rattle.lj_step.specs.Sums.{CanAdd, HasAdded, HasRoom, IsPartial}
+use Rattle.lj_step.proofs.TakenIn.{awaited_at, accepts, partial_after}
 
 -- with another open step
 pub with_partial : (a : Inside) (p : Partial) → IsSound a → HasRoom (length a.cur.items) p
@@ -62,11 +62,8 @@ module _ (a : Inside) (now : Sim) (label : Label) (asked work : Task) (sound : I
       × (work ≡ task_of (sim_of a) label kind (tile_number_of work))
   wanted = awaited_at (sim_of a) now label asked work a.partial.kind a.partial.awaited.items view refl same awaited
 
-  pub sums_fit : (1 ≤ a.partial.left) × (unsigned_abs a.partial.energy + 2 ^ 63 ≤ 2 ^ 75)
-  sums_fit = (
-    left_some (sim_of a) label work a.partial sound.most sound.room sound.partial wanted,
-    size_fits (sim_of a) label work a.partial sound.most sound.room sound.partial wanted,
-  )
+  pub takes_in : CanAdd work a.partial
+  takes_in = accepts (sim_of a) label work a.partial sound.most sound.room sound.partial wanted
 
   pub with_result : (q : Partial) → q.kind ≡ a.partial.kind → vec_capacity q.arcs ≡ vec_capacity a.partial.arcs
       → q.tiles.items ≡ a.partial.tiles.items

@@ -8,10 +8,10 @@ use Rattle.lj_tile.specs.Task.{Task, task_energy}
 use Rattle.lj_step.specs.declared.partial.Partial.{Partial}
 use Rattle.lj_step.specs.Sim.{Sim}
 use Rattle.lj_step.specs.OpenSteps.{sites_of, tile_number_of, task_of, IsAwaitedTaskIn, IsAwaitedTask}
-use Rattle.lj_step.specs.Sums.{HasRoom, HasAdded, IsOpen, IsPartial}
+use Rattle.lj_step.specs.Sums.{CanAdd, HasRoom, HasAdded, IsOpen, IsPartial}
 use Rattle.lj_step.specs.Kept.{open_step_of}
 use Rattle.lj_step.proofs.Flags.{set_within}
-use Rattle.lj_step.proofs.Accepted.{accepted_is, one_left, size_before}
+use Rattle.lj_step.proofs.Accepted.{accepted_is, can_add}
 
 -- the step that awaits a task, its flag, and the task
 pub awaited_in : (live : Sim) (label : Label) (work : Task) (o : Option Kind) (flags : List Bool)
@@ -56,14 +56,9 @@ module _ (live : Sim) (label : Label) (work : Task) (p : Partial) (few : length 
   opened : IsOpen live.composition live.sim.cur p wanted.0
   opened = subst (λ (o : Option Kind). IsPartial live.composition live.sim.cur p o) wanted.1 before
 
-  pub left_some : 1 ≤ p.left
-  left_some =
-      one_left live.composition live.sim.cur p p wanted.0 work few opened room (ap (λ (w : Task). w.mix) wanted.3)
-      first_block_is second_block_is (ap (λ (w : Task). w.name.kind) wanted.3) second_below within wanted.2
-
-  pub size_fits : unsigned_abs p.energy + 2 ^ 63 ≤ 2 ^ 75
-  size_fits =
-      size_before live.composition live.sim.cur p p wanted.0 work few opened room (ap (λ (w : Task). w.mix) wanted.3)
+  pub accepts : CanAdd work p
+  accepts =
+      can_add live.composition live.sim.cur p p wanted.0 work few opened room (ap (λ (w : Task). w.mix) wanted.3)
       first_block_is second_block_is (ap (λ (w : Task). w.name.kind) wanted.3) second_below within wanted.2
 
   pub partial_after : (q : Partial) → q.kind ≡ p.kind → q.tiles.items ≡ p.tiles.items

@@ -60,6 +60,10 @@ is_tile u frame k = is_in_order (length frame) k && not (is_out_of_reach u frame
 abbrev pub cover : Composition → List Place → List ℕ
 cover u frame = filter (is_tile u frame) (range_with_len 0 (BLOCK * blocks (length frame)))
 
+-- for each tile number, whether a step over a frame has that tile
+abbrev pub all_awaited : Composition → List Place → List Bool
+all_awaited u frame = map (is_tile u frame) (range_with_len 0 (BLOCK * blocks (length frame)))
+
 -- how many tiles the open step has
 abbrev pub tiles_in : Composition → List Place → Option OpenStep → ℕ
 tiles_in u frame None = 0
@@ -101,8 +105,7 @@ task_at live label i = task_of_open live label i live.part
 
 -- an open step that awaits all its tiles
 abbrev pub opened_step : Kind → Composition → List Place → OpenStep
-opened_step kind u frame =
-    record { kind = kind; awaited = map (is_tile u frame) (range_with_len 0 (BLOCK * blocks (length frame))) }
+opened_step kind u frame = record { kind = kind; awaited = all_awaited u frame }
 
 -- the open step awaits the tile of this number
 abbrev pub is_number_awaited : OpenStep → ℕ → Bool

@@ -12,7 +12,7 @@ use Rattle.lj_tile.specs.Pushes.{no_push, sum_of_pushes, energy}
 use Rattle.lj_tile.specs.Task.{Task, task_force, task_second}
 use Rattle.lj_step.specs.Motion.{place_at, push_of}
 use Rattle.lj_step.specs.declared.partial.Partial.{Partial}
-use Rattle.lj_step.specs.OpenSteps.{blocks, tile_number, is_tile, cover}
+use Rattle.lj_step.specs.OpenSteps.{blocks, tile_number, tile_number_of, is_tile, cover}
 
 -- the number of the tile of a pair of atoms, in either order
 abbrev pub pair_number : ℕ → ℕ → ℕ
@@ -101,3 +101,18 @@ pub record HasAdded (work : Task) (old new : List Push) : Type 0 where
   pub others : (i : ℕ) → IsOutside work.name.bi (length work.a.places) i
       → IsOutside work.name.bj (length work.b.places) i
       → slice_index_or new i no_push ≡ slice_index_or old i no_push
+
+-- a task is of an awaited tile of a partial step, which has a sum for each of its atoms, and its energy can be added
+pub record CanAdd (work : Task) (p : Partial) : Type 0 where
+  pub awaited : tile_number_of work < length p.awaited.items
+  pub left : 1 ≤ p.left
+  pub first : tile_number work.name.bi (length work.a.places) ≤ length p.pushes.items
+  pub second : tile_number work.name.bj (length work.b.places) ≤ length p.pushes.items
+  pub size : unsigned_abs p.energy + 2 ^ 63 ≤ 2 ^ 75
+
+-- a partial step keeps its kind, its tiles and the memory for both lists
+pub record HasKeptTiles (old new : Partial) : Type 0 where
+  pub kind : new.kind ≡ old.kind
+  pub arcs : vec_capacity new.arcs ≡ vec_capacity old.arcs
+  pub tiles : new.tiles.items ≡ old.tiles.items
+  pub capacity : vec_capacity new.tiles ≡ vec_capacity old.tiles

@@ -1,5 +1,5 @@
 //! The partial sums of an open step, over the tiles whose results are in.
-ghost use Rattle.std.specs.Prelude.{◌≡◌, ◌≤◌, ◌<◌, ◌+◌, ◌-◌, ◌*◌, ◌^◌, ℕ, pos, ◌+ℤ◌, unsigned_abs, length, map};
+ghost use Rattle.std.specs.Prelude.{◌≡◌, ◌≤◌, ◌+◌, ◌-◌, ◌*◌, ◌^◌, ℕ, pos, ◌+ℤ◌, unsigned_abs, length, map};
 ghost use Rattle.std.specs.Prelude.{count_by, slice_index_or, slice_set, vec_capacity, IfOk, Some, None, false, true};
 ghost use Rattle.std.specs.List.{range_with_len};
 ghost use Rattle.std.proofs.Common.{replicate};
@@ -8,7 +8,7 @@ ghost use Rattle.lj_tile.specs.Pushes.{no_push};
 ghost use Rattle.lj_tile.specs.Task.{task_energy};
 ghost use Rattle.lj_step.specs.declared.frames.TheConstants.{MAX_ATOMS};
 ghost use Rattle.lj_step.specs.OpenSteps as steps;
-ghost use Rattle.lj_step.specs.Sums.{HasRoom, HasAdded, HasBlockAdded, HasPartAdded, sum_of};
+ghost use Rattle.lj_step.specs.Sums.{HasRoom, CanAdd, HasKeptTiles, HasAdded, HasBlockAdded, HasPartAdded, sum_of};
 ghost use Rattle.lj_step.specs.Kept.{block_arcs, set_numbers};
 
 use crate::atoms::Atoms;
@@ -64,9 +64,7 @@ impl Partial {
         ensures room { HasRoom (length frame.now) self.new }
         ensures kind { self.new.kind ≡ Some kind }
         ensures tiles { self.new.tiles.items ≡ steps.cover atoms.now frame.now }
-        ensures awaited { self.new.awaited.items
-            ≡ map (steps.is_tile atoms.now frame.now)
-            (range_with_len 0 (BLOCK * steps.blocks (length frame.now))) }
+        ensures awaited { self.new.awaited.items ≡ steps.all_awaited atoms.now frame.now }
         ensures left { self.new.left ≡ length (steps.cover atoms.now frame.now) }
         ensures pushes { self.new.pushes.items ≡ replicate (length frame.now) no_push }
         ensures energy { self.new.energy ≡ pos 0 }
@@ -82,17 +80,8 @@ impl Partial {
 
     /// Adds the sums of an awaited tile, which is then in.
     pub fn add(&mut self, done: &DoneRef<'_>)
-        requires awaited { steps.tile_number_of done.now < length self.old.awaited.items }
-        requires left { 1 ≤ self.old.left }
-        requires first { steps.tile_number done.now.name.bi
-            (length done.now.a.places) ≤ length self.old.pushes.items }
-        requires second { steps.tile_number done.now.name.bj
-            (length done.now.b.places) ≤ length self.old.pushes.items }
-        requires size { unsigned_abs self.old.energy + 2 ^ 63 ≤ 2 ^ 75 }
-        ensures kind { self.new.kind ≡ self.old.kind }
-        ensures arcs { vec_capacity self.new.arcs ≡ vec_capacity self.old.arcs }
-        ensures tiles { self.new.tiles.items ≡ self.old.tiles.items }
-        ensures capacity { vec_capacity self.new.tiles ≡ vec_capacity self.old.tiles }
+        requires { CanAdd done.now self.old }
+        ensures kept { HasKeptTiles self.old self.new }
         ensures awaited { self.new.awaited.items
             ≡ slice_set self.old.awaited.items (steps.tile_number_of done.now) false }
         ensures left { self.new.left + 1 ≡ self.old.left }
@@ -132,8 +121,7 @@ fn await_tiles(awaited: &mut Vec<bool>, arcs: &[Arcs], atoms: &Atoms, frame: &[P
     requires most { length frame.now ≤ MAX_ATOMS }
     requires arcs { arcs.now
         ≡ map (block_arcs frame.now) (range_with_len 0 (steps.blocks (length frame.now))) }
-    ensures { awaited.new.items
-        ≡ map (steps.is_tile atoms.now frame.now) (range_with_len 0 (BLOCK * steps.blocks (length frame.now))) }
+    ensures { awaited.new.items ≡ steps.all_awaited atoms.now frame.now }
 {
     for number in 0..BLOCK * blocks(frame.len()) {
         awaited[number] = is_tile(TileId::of_number(number), arcs, atoms, frame);
