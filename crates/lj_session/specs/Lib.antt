@@ -11,6 +11,7 @@ pub mod ParsedLoads
 pub mod Faults
 pub mod Owner
 pub mod Begins
+pub mod OwnerCalls
 pub mod Cursors
 pub mod KeptOwners
 pub mod Laws

@@ -1,19 +1,20 @@
 //! The owner of a user's state: it begins commands, and hands out their steps as tasks that anyone may compute.
 ghost use Rattle.std.specs.Prelude.{◌≡◌, ◌↔◌, ◌<◌, ◌+◌, ℕ, Bool, true, false, Some, None, IsOk, IsSome};
-ghost use Rattle.std.specs.Prelude.{IfSome, IfErr, OnOk, OnErr, OnSome, IfNone, is_some};
+ghost use Rattle.std.specs.Prelude.{IfSome, IfErr, OnOk, OnErr, IfNone, is_some};
 ghost use Rattle.std.specs.List.{IsDistinct};
 ghost use Rattle.std.specs.Str.{bytes_eq};
 ghost use Rattle.lj_session.specs.Answers.{AnswersAlike};
-ghost use Rattle.lj_session.specs.UserState.{OthersKept, OtherSessionsKept, StepsFollow, IsIdleIn, is_measured};
+ghost use Rattle.lj_session.specs.UserState.{OthersKept, StepsFollow, is_measured};
 ghost use Rattle.lj_session.specs.UserState.{is_whole_in, names, with_steps_restarted};
 ghost use Rattle.lj_session.specs.UserState.{IsAtWork, index_waited_for, turns_before, user_of};
-ghost use Rattle.lj_session.specs.Owner.{IsAnswered, IsReplied, IsAwaitedIn, IsLastTurn, IsSettled};
+ghost use Rattle.lj_session.specs.Owner.{IsAnswered, IsAwaitedIn, IsLastTurn, IsSettled};
 ghost use Rattle.lj_session.specs.Owner.{WaitsAlike};
 ghost use Rattle.lj_session.specs.Owner.{state_begun, command_left};
-ghost use Rattle.lj_session.specs.Owner.{user_in, owner_of_state, is_owing, is_busy, turns_left, is_waited_for, owner_begun};
+ghost use Rattle.lj_session.specs.Owner.{user_in, owner_of_state, is_owing, is_busy, turns_left, is_waited_for};
 ghost use Rattle.lj_session.specs.Owner.{Owner, label_of, next_task_of};
 ghost use Rattle.lj_session.specs.Cursors.{IsPostedTo};
-ghost use Rattle.lj_session.specs.Owner.{with_task_posted, with_task_in, ready_session, owner_turned, state_turned};
+ghost use Rattle.lj_session.specs.Owner.{with_task_posted, with_task_in, ready_session, owner_turned};
+ghost use Rattle.lj_session.specs.OwnerCalls.{AnswersAtOnce, AnswersAtTurn, WaitsForTurns, KeptByCommand, KeptByTurn};
 ghost use Rattle.lj_session.specs.Begins.{IfAnswered, OnRunning, OnRefused, OnRefusal, reply_of};
 
 use crate::command::Command;
@@ -82,21 +83,10 @@ impl Owner {
     /// changed, and it changes no other session.
     pub fn begin(&mut self, command: Command) -> Begin
         requires idle { self.old.waiting ≡ None }
-        ensures at_once { IfAnswered result (λ _. turns_before self.old.state command ≡ 0) }
-        ensures answered { IfAnswered result (λ reply.
-            IsAnswered (user_in self.old) command reply (user_in self.new)) }
-        ensures idle { IfAnswered result (λ _. self.new.waiting ≡ None) }
-        ensures settled { IfAnswered result (IsSettled self.new.state) }
-        ensures steps { IfAnswered result (λ _. StepsFollow command self.old.state self.new.state) }
-        ensures takes_turns { OnRunning result (0 < turns_before self.old.state command) }
-        ensures begun { OnRunning result (self.new ≡ owner_begun command self.old) }
-        ensures alike { OnRunning result (IfSome self.new.waiting (λ left.
-            AnswersAlike (user_in self.new) left (user_in self.old) command)) }
-        ensures turns { OnRunning result (turns_left self.new ≡ turns_before self.old.state command) }
+        ensures answered { IfAnswered result (AnswersAtOnce command self.old self.new) }
+        ensures running { OnRunning result (WaitsForTurns command self.old self.new) }
         ensures unchanged { OnRefused result (self.new ≡ self.old) }
-        ensures others { OthersKept command self.old.state self.new.state }
-        ensures number { self.new.number ≡ self.old.number }
-        ensures quota { self.new.state.quota ≡ self.old.state.quota }
+        ensures kept { KeptByCommand command self.old self.new }
     {
         let mut command = command;
         self.begin_from(&mut command)
@@ -105,21 +95,10 @@ impl Owner {
     /// Begins a command as `begin` does, in place, so that it is not moved. `command` is unspecified afterwards.
     pub fn begin_from(&mut self, command: &mut Command) -> Begin
         requires idle { self.old.waiting ≡ None }
-        ensures at_once { IfAnswered result (λ _. turns_before self.old.state command.old ≡ 0) }
-        ensures answered { IfAnswered result (λ reply.
-            IsAnswered (user_in self.old) command.old reply (user_in self.new)) }
-        ensures idle { IfAnswered result (λ _. self.new.waiting ≡ None) }
-        ensures settled { IfAnswered result (IsSettled self.new.state) }
-        ensures steps { IfAnswered result (λ _. StepsFollow command.old self.old.state self.new.state) }
-        ensures takes_turns { OnRunning result (0 < turns_before self.old.state command.old) }
-        ensures begun { OnRunning result (self.new ≡ owner_begun command.old self.old) }
-        ensures alike { OnRunning result (IfSome self.new.waiting (λ left.
-            AnswersAlike (user_in self.new) left (user_in self.old) command.old)) }
-        ensures turns { OnRunning result (turns_left self.new ≡ turns_before self.old.state command.old) }
+        ensures answered { IfAnswered result (AnswersAtOnce command.old self.old self.new) }
+        ensures running { OnRunning result (WaitsForTurns command.old self.old self.new) }
         ensures unchanged { OnRefused result (self.new ≡ self.old) }
-        ensures others { OthersKept command.old self.old.state self.new.state }
-        ensures number { self.new.number ≡ self.old.number }
-        ensures quota { self.new.state.quota ≡ self.old.state.quota }
+        ensures kept { KeptByCommand command.old self.old self.new }
     {
         let index = self.state.index_waited_for(command);
         if self.state.is_at_once(command, index) {
@@ -270,17 +249,10 @@ impl Owner {
     pub fn turn_session(&mut self, name: &Name) -> Option<Reply>
         requires { is_whole_in self.old.state name.now ≡ true }
         ensures last { IsSome result ↔ IsLastTurn name.now self.old }
-        ensures replied { IfSome result (λ reply. IsReplied self.old reply (user_in self.new)) }
-        ensures idle { OnSome result (self.new.waiting ≡ None) }
-        ensures settled { IfSome result (IsSettled self.new.state) }
-        ensures rests { OnSome result (IsIdleIn self.new.state name.now) }
-        ensures refused { IfSome result (λ reply.
-            OnRefusal reply (self.new.state ≡ state_turned name.now self.old.state)) }
+        ensures answered { IfSome result (AnswersAtTurn name.now self.old self.new) }
         ensures turned { IfNone result (self.new ≡ owner_turned name.now self.old) }
         ensures alike { IfNone result (WaitsAlike self.old self.new) }
-        ensures others { OtherSessionsKept name.now self.old.state self.new.state }
-        ensures number { self.new.number ≡ self.old.number }
-        ensures quota { self.new.state.quota ≡ self.old.state.quota }
+        ensures kept { KeptByTurn name.now self.old self.new }
     {
         if !self.is_waited_for(name) {
             self.state.finish_step(name);
@@ -337,13 +309,8 @@ impl Owner {
     fn hold(&mut self, command: &mut Command)
         requires idle { self.old.waiting ≡ None }
         requires waits { 0 < turns_before self.old.state command.old }
-        ensures begun { self.new ≡ owner_begun command.old self.old }
-        ensures alike { IfSome self.new.waiting (λ left.
-            AnswersAlike (user_in self.new) left (user_in self.old) command.old) }
-        ensures turns { turns_left self.new ≡ turns_before self.old.state command.old }
-        ensures others { OthersKept command.old self.old.state self.new.state }
-        ensures number { self.new.number ≡ self.old.number }
-        ensures quota { self.new.state.quota ≡ self.old.state.quota }
+        ensures held { WaitsForTurns command.old self.old self.new }
+        ensures kept { KeptByCommand command.old self.old self.new }
     {
         let command = mem::replace(command, Command::Bye);
         self.waiting = Some(take_up(&mut self.state, command));

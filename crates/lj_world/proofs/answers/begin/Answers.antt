@@ -19,7 +19,8 @@ returns c =
           let b = w.in-Answered.ensures in
           rw (w.in-Command.is, w.owner-is)
           (command_answered c.args.owner.now w.begin.new.self w.in-Command.command w.in-Answered.reply c.in_ok-text_of.field-0
-          b.at_once b.answered b.idle w.begin.ensures.number w.begin.ensures.others b.steps b.unchanged (rw (← w.owner-is, ← w.reply-is) made))
+          b.answered.at_once b.answered.answered b.answered.idle w.begin.ensures.kept.number w.begin.ensures.kept.others
+          b.answered.steps b.unchanged (rw (← w.owner-is, ← w.reply-is) made))
       | in-Bad w ↦
           rw (w.in-Bad.is, w.owner-is)
           (fault_answered c.args.owner.now w.in-Bad.fault c.in_ok-text_of.field-0 c.requires (reply_text w.owner-is _ (w.reply-is ∙ ap Refused w.into.ensures))).0

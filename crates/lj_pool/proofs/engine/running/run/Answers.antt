@@ -9,10 +9,10 @@ pub returns-in-Some-turn_session-clause-answered : goal.returns-in-Some-turn_ses
 returns-in-Some-turn_session-clause-answered g c =
     ends c.args.owner.now (g.P.Pool.seen c.args.pool.now) c.loop-name.owner (g.P.Pool.seen c.loop-name.pool)
     c.loop-name.invariant.among.goes c.in-Some.name c.in-Some.ensures.whole (c.in-Some-turn_session.ensures.last.0 refl)
-    c.turn_session.new.self c.in-Some-turn_session.reply c.turn_session.ensures.number c.in-Some-turn_session.ensures.idle
-    c.turn_session.ensures.others c.in-Some-turn_session.ensures.rests
+    c.turn_session.new.self c.in-Some-turn_session.reply c.turn_session.ensures.kept.number c.in-Some-turn_session.ensures.answered.idle
+    c.turn_session.ensures.kept.others c.in-Some-turn_session.ensures.answered.rests
     (alike_some c.args.owner.now c.loop-name.owner c.loop-name.invariant.among.goes.alike c.requires.waits)
-    c.in-Some-turn_session.ensures.replied c.in-Some-turn_session.ensures.settled
+    c.in-Some-turn_session.ensures.answered.replied c.in-Some-turn_session.ensures.answered.settled
 
 -- a turn that answers nothing
 turned : (g : Over) (c : In_default-turn_session g)
@@ -22,7 +22,7 @@ turned g c =
     c.loop-name.invariant.among.goes.gathers c.in-Some.name c.in-Some.ensures.whole
     (λ e. let last : false ≡ true = c.in_default-turn_session.ensures.last.1 e in cc)
     c.in_default-turn_session.ensures.turned c.in_default-turn_session.ensures.alike
-    c.turn_session.ensures.number c.turn_session.ensures.quota
+    c.turn_session.ensures.kept.number c.turn_session.ensures.kept.quota
 
 pub poll_next-requires : goal.poll_next-requires
 poll_next-requires g c = record { gathers = (turned g (goal.at.poll_next-requires g c).In_default-turn_session).goes.gathers }

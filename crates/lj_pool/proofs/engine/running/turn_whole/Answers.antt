@@ -17,7 +17,7 @@ turned g c =
     c.loop-name.invariant.goes.gathers c.in-Some.name c.in-Some.ensures.whole not_last
     (when_none c.turn_session-none.result not_some c.turn_session-none.ensures.turned)
     (when_none c.turn_session-none.result not_some c.turn_session-none.ensures.alike)
-    c.turn_session-none.ensures.number c.turn_session-none.ensures.quota
+    c.turn_session-none.ensures.kept.number c.turn_session-none.ensures.kept.quota
 
 pub poll_next-requires : goal.poll_next-requires
 poll_next-requires g c = record { gathers = (turned g (goal.at.poll_next-requires g c).After-turn_session-none).goes.gathers }

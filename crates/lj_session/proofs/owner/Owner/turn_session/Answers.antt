@@ -1,4 +1,4 @@
-use Rattle.std.proofs.Common.{◌≡◌, ◌<◌, true, false, List, ℕ, Option, Some, None, refl, ◌∙◌, ap, sym, subst, arith}
+use Rattle.std.proofs.Common.{◌≡◌, ◌<◌, true, false, List, ℕ, Option, Some, None, refl, ◌∙◌, ap, sym, subst, arith, rules}
 use Rattle.std.proofs.lemmas.Bool.{false≢true}
 use Rattle.std.specs.Prelude.{IfSome}
 use Rattle.lj_session.specs.declared.command.Command.{Command}
@@ -47,12 +47,14 @@ invariant_of-self c =
           (subst (λ (w : Option Command). is_waited_for w c.args.name.now ≡ false) is not)))) c.self.invariant.some;
     }
 
-pub returns-then-not-is_waited_for-clause-others :
-    goal.returns-then-not-is_waited_for-clause-others
-returns-then-not-is_waited_for-clause-others c = λ other apart.
-    ap (λ (state : UserState). live_session state other) c.finish_step.ensures.passed
-    ∙ others-changed c.self.inside.state c.args.name.now with_step_finished other (λ e. apart (same_Some c.args.name.now other e))
-    ∙ ap (λ (owner : Owner). live_session owner.state other) c.self.view_is
+pub returns-then-not-is_waited_for-clause-kept : goal.returns-then-not-is_waited_for-clause-kept
+returns-then-not-is_waited_for-clause-kept c = record {
+  others = λ other apart. ap (λ (state : UserState). live_session state other) c.finish_step.ensures.passed
+      ∙ others-changed c.self.inside.state c.args.name.now with_step_finished other (λ e. apart (same_Some c.args.name.now other e))
+      ∙ ap (λ (owner : Owner). live_session owner.state other) c.self.view_is;
+  number = search rules;
+  quota = search rules;
+}
 
 -- the step is whole, and a command waits for the session
 whole_for : (c : After-owed) → is_whole_in c.self.inside.state c.args.name.now ≡ true
@@ -95,33 +97,30 @@ returns-then-owed-eq0-clause-last c =
       λ _. refl,
     )
 
-pub returns-then-owed-eq0-clause-replied : goal.returns-then-owed-eq0-clause-replied
-returns-then-owed-eq0-clause-replied c =
-    let p = goal.at.returns-then-owed-eq0-clause-replied c in
-    subst (λ (owner : Owner). IsReplied owner c.measured-reply.result (user_of c.close_step.new.self)) c.self.view_is
-    (measured-replied (owner_of_kept c.self.inside) c.args.name.now c.in_ok-command.command c.in_ok-command.ensures.value
-    (waited_for p.After-owed) c.self.invariant.at_work (whole_for p.After-owed) (none p.Then-owed-eq0)
-    c.close_step.new.self c.copy.result c.measured-reply.result c.copy.ensures c.measured-reply.ensures
-    c.close_step.ensures.user)
+pub returns-then-owed-eq0-clause-answered : goal.returns-then-owed-eq0-clause-answered
+returns-then-owed-eq0-clause-answered c =
+    let p = goal.at.returns-then-owed-eq0-clause-answered c in record {
+      replied = subst (λ (owner : Owner). IsReplied owner c.measured-reply.result (user_of c.close_step.new.self)) c.self.view_is
+          (measured-replied (owner_of_kept c.self.inside) c.args.name.now c.in_ok-command.command c.in_ok-command.ensures.value
+          (waited_for p.After-owed) c.self.invariant.at_work (whole_for p.After-owed) (none p.Then-owed-eq0)
+          c.close_step.new.self c.copy.result c.measured-reply.result c.copy.ensures c.measured-reply.ensures
+          c.close_step.ensures.user);
+      idle = search rules;
+      settled =
+          settled-measured c.self.inside.state c.close_step.new.self c.copy.result c.measured-reply.result c.measured-reply.ensures;
+      rests = subst (λ (o : UserState). IsIdleIn o c.args.name.now) (sym c.close_step.ensures.closed)
+          (rests-closed c.self.inside.state c.args.name.now (none p.Then-owed-eq0));
+      refused = measured-unrefused _ c.self.inside.state c.copy.result c.measured-reply.result c.measured-reply.ensures;
+    }
 
-pub returns-then-owed-eq0-clause-settled : goal.returns-then-owed-eq0-clause-settled
-returns-then-owed-eq0-clause-settled c =
-    settled-measured c.self.inside.state c.close_step.new.self c.copy.result c.measured-reply.result c.measured-reply.ensures
-
-pub returns-then-owed-eq0-clause-rests : goal.returns-then-owed-eq0-clause-rests
-returns-then-owed-eq0-clause-rests c =
-    subst (λ (o : UserState). IsIdleIn o c.args.name.now) (sym c.close_step.ensures.closed)
-    (rests-closed c.self.inside.state c.args.name.now (none (goal.at.returns-then-owed-eq0-clause-rests c).Then-owed-eq0))
-
-pub returns-then-owed-eq0-clause-refused : goal.returns-then-owed-eq0-clause-refused
-returns-then-owed-eq0-clause-refused c =
-    measured-unrefused _ c.self.inside.state c.copy.result c.measured-reply.result c.measured-reply.ensures
-
-pub returns-then-owed-eq0-clause-others : goal.returns-then-owed-eq0-clause-others
-returns-then-owed-eq0-clause-others c =
-    subst (λ (owner : Owner). OtherSessionsKept c.args.name.now owner.state c.close_step.new.self) c.self.view_is
-    (subst (λ (o : UserState). OtherSessionsKept c.args.name.now c.self.inside.state o) (sym c.close_step.ensures.closed)
-    (others-closed c.self.inside.state c.args.name.now))
+pub returns-then-owed-eq0-clause-kept : goal.returns-then-owed-eq0-clause-kept
+returns-then-owed-eq0-clause-kept c = record {
+  others = subst (λ (owner : Owner). OtherSessionsKept c.args.name.now owner.state c.close_step.new.self) c.self.view_is
+      (subst (λ (o : UserState). OtherSessionsKept c.args.name.now c.self.inside.state o) (sym c.close_step.ensures.closed)
+      (others-closed c.self.inside.state c.args.name.now));
+  number = search rules;
+  quota = search rules;
+}
 
 pub finish_step-requires-2-clause-whole : goal.finish_step-requires-2-clause-whole
 finish_step-requires-2-clause-whole c =
@@ -148,7 +147,7 @@ others c waited whole =
     subst (λ (owner : Owner). OtherSessionsKept c.args.name.now owner.state c.begin.new.self.state) c.self.view_is
     (passed-others (owner_of_kept c.self.inside) c.args.name.now c.in_ok-command.command c.in_ok-command.ensures.value
     waited c.self.invariant.at_work whole (some_of _ _ c.if-owed-eq0.false c.owed.ensures)
-    c.finish_step-2.new.self c.finish_step-2.ensures.passed c.begin.new.self.state c.begin.ensures.others)
+    c.finish_step-2.new.self c.finish_step-2.ensures.passed c.begin.new.self.state c.begin.ensures.kept.others)
 
 pub returns-in-Answered-clause-last : goal.returns-in-Answered-clause-last
 returns-in-Answered-clause-last c =
@@ -156,27 +155,33 @@ returns-in-Answered-clause-last c =
       λ _. subst (λ (owner : Owner). IsLastTurn c.args.name.now owner) c.self.view_is
           (passed-last (owner_of_kept c.self.inside) c.args.name.now c.in_ok-command.command c.in_ok-command.ensures.value
           (waited_for p.After-owed) c.self.invariant.at_work (whole_for p.After-owed) (some_of _ _ c.if-owed-eq0.false c.owed.ensures)
-          c.finish_step-2.new.self c.finish_step-2.ensures.passed c.in-Answered.ensures.at_once),
+          c.finish_step-2.new.self c.finish_step-2.ensures.passed c.in-Answered.ensures.answered.at_once),
       λ _. refl,
     )
 
-pub returns-in-Answered-clause-rests : goal.returns-in-Answered-clause-rests
-returns-in-Answered-clause-rests c =
-    let p = goal.at.returns-in-Answered-clause-rests c in
-    passed-rests (owner_of_kept c.self.inside) c.args.name.now c.in_ok-command.command c.in_ok-command.ensures.value
-    (waited_for p.After-owed) c.self.invariant.at_work (whole_for p.After-owed) (some_of _ _ c.if-owed-eq0.false c.owed.ensures)
-    c.finish_step-2.new.self c.finish_step-2.ensures.passed c.begin.new.self.state c.in-Answered.ensures.at_once
-    c.in-Answered.ensures.steps
+pub returns-in-Answered-clause-answered : goal.returns-in-Answered-clause-answered
+returns-in-Answered-clause-answered c =
+    let p = goal.at.returns-in-Answered-clause-answered c in record {
+      replied = search rules;
+      idle = c.in-Answered.ensures.answered.idle;
+      settled = c.in-Answered.ensures.answered.settled;
+      rests =
+          passed-rests (owner_of_kept c.self.inside) c.args.name.now c.in_ok-command.command c.in_ok-command.ensures.value
+          (waited_for p.After-owed) c.self.invariant.at_work (whole_for p.After-owed) (some_of _ _ c.if-owed-eq0.false c.owed.ensures)
+          c.finish_step-2.new.self c.finish_step-2.ensures.passed c.begin.new.self.state c.in-Answered.ensures.answered.at_once
+          c.in-Answered.ensures.answered.steps;
+      refused =
+          on_refusal c.in-Answered.reply (λ same. ap (λ (owner : Owner). owner.state) same ∙ c.finish_step-2.ensures.passed
+          ∙ ap (λ (owner : Owner). state_turned c.args.name.now owner.state) c.self.view_is) c.in-Answered.ensures.unchanged;
+    }
 
-pub returns-in-Answered-clause-refused : goal.returns-in-Answered-clause-refused
-returns-in-Answered-clause-refused c =
-    on_refusal c.in-Answered.reply (λ same. ap (λ (owner : Owner). owner.state) same ∙ c.finish_step-2.ensures.passed
-    ∙ ap (λ (owner : Owner). state_turned c.args.name.now owner.state) c.self.view_is) c.in-Answered.ensures.unchanged
-
-pub returns-in-Answered-clause-others : goal.returns-in-Answered-clause-others
-returns-in-Answered-clause-others c =
-    let p = goal.at.returns-in-Answered-clause-others c in
-    others p.After-begin (waited_for p.After-owed) (whole_for p.After-owed)
+pub returns-in-Answered-clause-kept : goal.returns-in-Answered-clause-kept
+returns-in-Answered-clause-kept c =
+    let p = goal.at.returns-in-Answered-clause-kept c in record {
+      others = others p.After-begin (waited_for p.After-owed) (whole_for p.After-owed);
+      number = search rules;
+      quota = search rules;
+    }
 
 pub returns-in-Running-clause-last : goal.returns-in-Running-clause-last
 returns-in-Running-clause-last c =
@@ -185,11 +190,14 @@ returns-in-Running-clause-last c =
       λ last.
           absurd (passed-more (owner_of_kept c.self.inside) c.args.name.now c.in_ok-command.command c.in_ok-command.ensures.value
           (waited_for p.After-owed) c.self.invariant.at_work (whole_for p.After-owed) (some_of _ _ c.if-owed-eq0.false c.owed.ensures)
-          c.finish_step-2.new.self c.finish_step-2.ensures.passed c.in-Running.ensures.takes_turns
+          c.finish_step-2.new.self c.finish_step-2.ensures.passed c.in-Running.ensures.running.takes_turns
           (subst (λ (owner : Owner). IsLastTurn c.args.name.now owner) (sym c.self.view_is) last)),
     )
 
-pub returns-in-Running-clause-others : goal.returns-in-Running-clause-others
-returns-in-Running-clause-others c =
-    let p = goal.at.returns-in-Running-clause-others c in
-    others p.After-begin (waited_for p.After-owed) (whole_for p.After-owed)
+pub returns-in-Running-clause-kept : goal.returns-in-Running-clause-kept
+returns-in-Running-clause-kept c =
+    let p = goal.at.returns-in-Running-clause-kept c in record {
+      others = others p.After-begin (waited_for p.After-owed) (whole_for p.After-owed);
+      number = search rules;
+      quota = search rules;
+    }
