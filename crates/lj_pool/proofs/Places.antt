@@ -223,13 +223,13 @@ task_at tasks places owed here kept within d =
     ap (λ k. get_or tasks k None) (sym (get_or-take owed places here 0 within))
     ∙ works_at tasks (take owed places) here d (kept.held ∙ sym len) (omega (arith, len, within))
 
--- where a question tells of each task that is owed whether it is this one
-module _ (Tells : Task → Bool → Type 0) (task : Task) (old : Seen) where
-  abbrev TellsOf : Type 0
-  TellsOf = (other : Task) → Contains old.owed other → (told : Bool) → Tells other told → IsTrue told ↔ (other ≡ task)
+-- where a predicate returns for each task that is owed whether it is this one
+module _ (Returns : Task → Bool → Type 0) (task : Task) (old : Seen) where
+  abbrev ReturnsOf : Type 0
+  ReturnsOf = (other : Task) → Contains old.owed other → (returned : Bool) → Returns other returned → IsTrue returned ↔ (other ≡ task)
 
-  -- the first of which it tells true is owed no more, and a result is counted
-  pub taken_off : (new : Seen) (here : ℕ) → IsFirst Tells old.owed here → TellsOf → new.owed ≡ remove old.owed here
+  -- the first for which it returns true is owed no more, and a result is counted
+  pub taken_off : (new : Seen) (here : ℕ) → IsFirst Returns old.owed here → ReturnsOf → new.owed ≡ remove old.owed here
       → new.expected ≡ one_more old.expected → new.strays ≡ old.strays → TakesOff task old new
   taken_off new here first same left expected strays = record {
     front = take here old.owed;
@@ -253,8 +253,8 @@ module _ (Tells : Task → Bool → Type 0) (task : Task) (old : Seen) where
       is : get_or old.owed here blank_task ≡ task
       is = (same (get_or old.owed here blank_task) (here, first.within, get_or_default old.owed here _ _ first.within) true first.is).0 refl
 
-  -- where it tells false of each, this one is a stray
-  pub is_stray : (new : Seen) → IsNowhere Tells old.owed → TellsOf → new.owed ≡ old.owed
+  -- where it returns false for each, this one is a stray
+  pub is_stray : (new : Seen) → IsNowhere Returns old.owed → ReturnsOf → new.owed ≡ old.owed
       → new.expected ≡ old.expected → new.strays ≡ one_more old.strays → IsStray task old new
   is_stray new none same owed expected strays = record {
     absent = λ there.
@@ -267,8 +267,8 @@ module _ (Tells : Task → Bool → Type 0) (task : Task) (old : Seen) where
     strays = strays;
   }
 
--- a name by which one is known tells which task it is
-pub tells_by_name : (owed : List Task) (task other : Task) (told : Bool) → IsKnownByName owed task → Contains owed other
-    → (IsTrue told ↔ (other.name ≡ task.name)) → IsTrue told ↔ (other ≡ task)
-tells_by_name owed task other told known owes tells =
-    (λ yes. known other owes (tells.0 yes), λ is. tells.1 (ap (λ (t : Task). t.name) is))
+-- by a name by which a task is known, whether another is that task
+pub returns_by_name : (owed : List Task) (task other : Task) (returned : Bool) → IsKnownByName owed task → Contains owed other
+    → (IsTrue returned ↔ (other.name ≡ task.name)) → IsTrue returned ↔ (other ≡ task)
+returns_by_name owed task other returned known owes agrees =
+    (λ yes. known other owes (agrees.0 yes), λ is. agrees.1 (ap (λ (t : Task). t.name) is))

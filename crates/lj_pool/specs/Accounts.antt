@@ -25,12 +25,12 @@ pub record IsKept (tasks : List (Option Task)) (places : List ℕ) (owed : ℕ) 
 abbrev pub IsKnownByName : List Task → Task → Type 0
 IsKnownByName owed task = (other : Task) → Contains owed other → other.name ≡ task.name → other ≡ task
 
--- A question, which tells true or false of a task, tells true of the one at this position, and false of those before it.
-pub record IsFirst (Tells : Task → Bool → Type 0) (owed : List Task) (here : ℕ) : Type 0 where
+-- A predicate returns true for the task at this position, and false for those before it.
+pub record IsFirst (Returns : Task → Bool → Type 0) (owed : List Task) (here : ℕ) : Type 0 where
   pub within : here < length owed
-  pub is : Tells (slice_index_or owed here blank_task) true
-  pub before : (k : ℕ) → k < here → Tells (slice_index_or owed k blank_task) false
+  pub is : Returns (slice_index_or owed here blank_task) true
+  pub before : (k : ℕ) → k < here → Returns (slice_index_or owed k blank_task) false
 
--- It tells false of each.
-pub record IsNowhere (Tells : Task → Bool → Type 0) (owed : List Task) : Type 0 where
-  pub each : (k : ℕ) → k < length owed → Tells (slice_index_or owed k blank_task) false
+-- A predicate returns false for each.
+pub record IsNowhere (Returns : Task → Bool → Type 0) (owed : List Task) : Type 0 where
+  pub each : (k : ℕ) → k < length owed → Returns (slice_index_or owed k blank_task) false

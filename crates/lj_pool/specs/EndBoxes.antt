@@ -1,20 +1,22 @@
 -- The boxes of an end of a pool behind a lock.
-use Rattle.std.specs.Prelude.{◌≡◌, ◌≢◌, ℕ, ◌+◌, ◌<◌, ◌≤◌, true, List, [], ◌++◌, Option, Some, None, is_some, cond, length, slice_index_or, unwrap_or}
+use Rattle.std.specs.Prelude.{◌≡◌, ◌≢◌, ℕ, ◌+◌, ◌<◌, ◌≤◌, Bool, true, false, List, [], ◌++◌, Option, Some, None, is_some, cond, length, slice_index_or, unwrap_or}
 use Rattle.std.specs.List.{All, remove}
 use Rattle.lj_tile.specs.Task.{Task}
 use Rattle.lj_tile.specs.Blank.{blank_task}
 use Rattle.lj_book.specs.Book.{user_of}
 use Rattle.lj_pool.specs.declared.lock.end_boxes.TheConstants.{MAX_IN_HAND, MAX_SPARE}
 
--- the result handed out last; those in hand, in the order of handing out; and the number of spare boxes
+-- the result handed out last; those in hand, in the order of handing out; the number of spare boxes; and whether the last fetch took
+-- all results that the pool had, until the next poll or post
 pub record EndBoxes : Type 0 where
   pub last : Option Task
   pub hand : List Task
   pub spare : ℕ
+  pub took_all : Bool
 
 -- no box
 abbrev pub no_boxes : EndBoxes
-no_boxes = record { last = None; hand = []; spare = 0 }
+no_boxes = record { last = None; hand = []; spare = 0; took_all = false }
 
 -- the result in a place, blank where there is none
 abbrev pub result_in : Option Task → Task

@@ -5,7 +5,7 @@ ghost use Rattle.lj_session.specs.Owner.{next_task_of, ready_session};
 ghost use Rattle.lj_pool.specs.declared.engine.running.Halt.TheVariants.{TooManyStrays};
 ghost use Rattle.lj_pool.specs.Seen.{IsStray, SameOwed};
 ghost use Rattle.lj_pool.specs.Gathering.{Gathers};
-ghost use Rattle.lj_pool.specs.Counting.{FallsShort};
+ghost use Rattle.lj_pool.specs.Counting.{FallsShort, StraysRise};
 ghost use Rattle.lj_pool.specs.Coming.{GoesOn, posts_coming, tiles_coming};
 ghost use Rattle.lj_pool.specs.Posting.{AreNext, after_posts};
 ghost use Rattle.lj_pool.specs.Running.{AnswersNext, AnswersPending, FetchesStray, IsHalted, IsSameUser, LeavesUnanswered};
@@ -309,6 +309,7 @@ fn poll_next<P: Pool>(owner: &mut Owner, user: u8, pool: &mut P) -> Option<bool>
     requires gathers { Gathers owner.old (P.seen pool.old).owed }
     ensures goes_on { GoesOn owner.old (P.seen pool.old) owner.new (P.seen pool.new) }
     ensures fewer { IfSome result (λ taken. taken ≡ true → tiles_coming owner.new < tiles_coming owner.old) }
+    ensures stray { IfSome result (λ taken. taken ≡ false → StraysRise 1 (P.seen pool.old) (P.seen pool.new)) }
     ensures own { P.for_others pool.new user ≡ P.for_others pool.old user }
 {
     if !pool.poll_uncounted(user) {

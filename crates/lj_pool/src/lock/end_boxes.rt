@@ -1,5 +1,5 @@
 //! The boxes of an end of a pool behind a lock.
-ghost use Rattle.std.specs.Prelude.{◌≡◌, ◌≢◌, ◌+◌, ◌<◌, ◌≤◌, ◌↔◌, ◌∷◌, [], ◌++◌, ℕ, Some, cond, count_by, is_some, length, slice_index_or, true, false, unwrap_or, IsTrue, IfNone, IfSome, OnSome};
+ghost use Rattle.std.specs.Prelude.{◌≡◌, ◌≢◌, ◌+◌, ◌<◌, ◌≤◌, ◌↔◌, ◌∷◌, [], ◌++◌, ℕ, Some, cond, count_by, is_some, length, nat_lt, slice_index_or, true, false, unwrap_or, IsTrue, IfNone, IfSome, OnSome};
 ghost use Rattle.std.specs.List.{All};
 ghost use Rattle.lj_book.specs.Book.{user_of};
 ghost use Rattle.lj_tile.specs.Blank.{blank_task};
@@ -41,7 +41,12 @@ impl Model for EndBoxes {
 
     ghost Value = { EndBoxes };
 
-    ghost view = { λ b. record { last = b.last; hand = map result_in b.hand.items; spare = length b.spare.items } };
+    ghost view = { λ b. record {
+      last = b.last;
+      hand = map result_in b.hand.items;
+      spare = length b.spare.items;
+      took_all = b.took_all;
+    } };
 
     ghost invariant = { λ b. ArePlaced b.hand.items b.spare.items };
 }
@@ -79,7 +84,8 @@ impl EndBoxes {
 
     /// Notes a fetch: it took all results that the pool had if there is room for more. Returns whether it did.
     pub(crate) fn note_fetch(&mut self) -> bool
-        ensures { self.new ≡ self.old }
+        ensures noted { self.new ≡ record self.old { took_all = nat_lt (length self.old.hand) MAX_IN_HAND } }
+        ensures value { result ≡ self.new.took_all }
     {
         self.took_all = !self.hand.is_full();
         self.took_all
@@ -87,14 +93,15 @@ impl EndBoxes {
 
     /// Notes a post: the next poll asks the pool, and wakes workers for the task.
     pub(crate) fn note_post(&mut self)
-        ensures { self.new ≡ self.old }
+        ensures { self.new ≡ record self.old { took_all = false } }
     {
         self.took_all = false;
     }
 
     /// Returns whether the last fetch took all results that the pool had, once after each fetch, and not after a post.
     pub(crate) fn forget_fetch(&mut self) -> bool
-        ensures { self.new ≡ self.old }
+        ensures value { result ≡ self.old.took_all }
+        ensures forgotten { self.new ≡ record self.old { took_all = false } }
     {
         mem::take(&mut self.took_all)
     }

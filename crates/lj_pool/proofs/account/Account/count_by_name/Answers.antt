@@ -1,17 +1,17 @@
 use Rattle.std.proofs.Common.{inl, inr, rules}
-use Rattle.lj_pool.proofs.Places.{is_stray, taken_off, tells_by_name}
+use Rattle.lj_pool.proofs.Places.{is_stray, taken_off, returns_by_name}
 use Rattle.lj_pool.proofs.account.Account.count_by_name.Goals as goal
 
 pub returns-in-Some-clause-handed_out : goal.returns-in-Some-clause-handed_out
 returns-in-Some-clause-handed_out c =
     let counted = c.count_owed.ensures in
     inl (taken_off _ c.args.task.now c.args.self.now _ c.in-Some.here c.in-Some.ensures.some
-    (λ other owes told tells. tells_by_name c.args.self.now.owed c.args.task.now other told c.requires owes (search rules))
+    (λ other owes returned agrees. returns_by_name c.args.self.now.owed c.args.task.now other returned c.requires owes (search rules))
     counted.owed counted.expected counted.strays)
 
 pub returns-in-None-clause-handed_out : goal.returns-in-None-clause-handed_out
 returns-in-None-clause-handed_out c =
     let counted = c.count_stray.ensures in
     inr (is_stray _ c.args.task.now c.args.self.now _ c.in-None.ensures.none
-    (λ other owes told tells. tells_by_name c.args.self.now.owed c.args.task.now other told c.requires owes (search rules))
+    (λ other owes returned agrees. returns_by_name c.args.self.now.owed c.args.task.now other returned c.requires owes (search rules))
     counted.owed counted.expected counted.strays)

@@ -18,6 +18,7 @@ loop-held-preserved g c =
       held = omega (arith, before.held, one_more);
       last = ap (λ (own : EndBoxes). own.last) pushed ∙ before.last;
       spare = ap (λ (own : EndBoxes). own.spare) pushed ∙ before.spare;
+      took_all = ap (λ (own : EndBoxes). own.took_all) pushed ∙ before.took_all;
       others = (
         before.others.0 ++ done ∷ [],
         ap (λ (own : EndBoxes). own.hand) pushed ∙ ap (λ front. front ++ done ∷ []) before.others.1

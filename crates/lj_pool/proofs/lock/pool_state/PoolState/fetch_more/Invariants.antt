@@ -11,6 +11,7 @@ invariant-loop-held g l = record {
   held : l._held ≡ length l.own.hand;
   last : l.own.last ≡ l.fn.own.last;
   spare : l.own.spare ≡ l.fn.own.spare;
+  took_all : l.own.took_all ≡ l.fn.own.took_all;
   others : (xs : List Task) × (l.own.hand ≡ l.fn.own.hand ++ xs) × FetchesEach xs l.fn.self.book.held l.self.book.held
       × All (λ done. user_of done ≡ l.user) xs;
   kept : boxes l.self.book + length l.own.hand ≡ boxes l.fn.self.book + length l.fn.own.hand;

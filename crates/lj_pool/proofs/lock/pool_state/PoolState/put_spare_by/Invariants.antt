@@ -8,6 +8,7 @@ invariant-loop-spare g l = record {
   made : l.self.book.made ≡ l.fn.self.book.made;
   last : l.own.last ≡ l.fn.own.last;
   hand : l.own.hand ≡ l.fn.own.hand;
+  took_all : l.own.took_all ≡ l.fn.own.took_all;
   kept : NoneIsLost l.fn.self.book l.fn.own l.self.book l.own;
   closed : l.self.closed ≡ l.fn.self.closed;
   wait_queues : l.self.wait_queues ≡ l.fn.self.wait_queues;
