@@ -98,7 +98,7 @@ impl Pool for ClosingPool {
     }
 }
 
-/// What a stream was told, how it ended, and the state that was handed back.
+/// The replies to a stream, how it ended, and the state that was handed back.
 #[derive(Drop)]
 struct StreamOutcome {
     output: ArrayVec<u8, 256>,
@@ -128,7 +128,7 @@ fn serve_new(alloc: Global, input: &str, calls: u64) -> StreamOutcome {
 const STARTED: &str =
     "LOAD a 256 1 131072 rest 28\n2\ndimer\nAr 0 0 0\nAr 1.5 0 0\nSTART a 1\nBYE\n";
 
-const TOLD_STARTED: &str = "OK LOAD a 0 2\nOK START a 1\nOK BYE\n";
+const STARTED_OUTPUT: &str = "OK LOAD a 0 2\nOK START a 1\nOK BYE\n";
 
 const SHOWS: &str = "SHOW a 0\n";
 
@@ -139,7 +139,7 @@ const SHOWN: &str = "OK SHOW a 1 0 589 0 0\n";
 fn what_is_owed_is_done_for_the_next_stream(rt: HostRuntime) {
     for calls in [0, 1, u64::MAX] {
         let first = serve_new(rt.alloc(), STARTED, calls);
-        assert_eq!(rt; first.output.as_slice(), TOLD_STARTED.as_bytes());
+        assert_eq!(rt; first.output.as_slice(), STARTED_OUTPUT.as_bytes());
         assert_eq!(rt; first.served, Served::Bye);
         let state = first.state.expect(&rt, "a state");
         let second = serve_until(rt.alloc(), state, SHOWS, u64::MAX);
@@ -153,7 +153,7 @@ const SIDE_BY_SIDE: &str = "LOAD a 256 1 131072 rest 28\n2\ndimer\nAr 0 0 0\nAr 
     LOAD b 256 1 131072 rest 28\n2\ndimer\nAr 0 0 0\nAr 1.5 0 0\n\
     START a 2\nSTART b 1\nSHOW b 0\nLIST\nSHOW a 0\nBYE\n";
 
-/// What is told before the first of them waits, before the second one does, and in all.
+/// The replies before the first of them waits, before the second one does, and all replies.
 const BEFORE_FIRST: &str = "OK LOAD a 0 2\nOK LOAD b 0 2\nOK START a 2\nOK START b 1\n";
 
 const BEFORE_SECOND: &str = "OK LOAD a 0 2\nOK LOAD b 0 2\nOK START a 2\nOK START b 1\n\
@@ -165,14 +165,14 @@ const ALL: &str = "OK LOAD a 0 2\nOK LOAD b 0 2\nOK START a 2\nOK START b 1\n\
 /// More calls than the stream makes.
 const MOST_CALLS: u64 = 100;
 
-/// Where the pool is closed, the replies before an item that waits are told, and there is no state; else all is told.
-fn is_right(told: &StreamOutcome) -> bool {
-    let output = told.output.as_slice();
-    match told.served {
-        Served::Bye => output == ALL.as_bytes() && told.state.is_some(),
+/// Where the pool is closed, the replies are those before an item that waits, and there is no state; else they are all.
+fn is_right(outcome: &StreamOutcome) -> bool {
+    let output = outcome.output.as_slice();
+    match outcome.served {
+        Served::Bye => output == ALL.as_bytes() && outcome.state.is_some(),
         Served::PoolClosed => {
             (output == BEFORE_FIRST.as_bytes() || output == BEFORE_SECOND.as_bytes())
-                && told.state.is_none()
+                && outcome.state.is_none()
         }
         _ => false,
     }
@@ -182,9 +182,9 @@ fn is_right(told: &StreamOutcome) -> bool {
 fn a_pool_may_be_closed_at_any_call(rt: HostRuntime) {
     let mut whole = 0_u64;
     for calls in 0..MOST_CALLS {
-        let told = serve_new(rt.alloc(), SIDE_BY_SIDE, calls);
-        assert!(rt; is_right(&told));
-        whole = whole.saturating_add(u64::from(told.served == Served::Bye));
+        let outcome = serve_new(rt.alloc(), SIDE_BY_SIDE, calls);
+        assert!(rt; is_right(&outcome));
+        whole = whole.saturating_add(u64::from(outcome.served == Served::Bye));
     }
     assert!(rt; 0 < whole && whole < MOST_CALLS - 2);
 }

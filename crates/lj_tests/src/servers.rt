@@ -67,16 +67,16 @@ impl ClientScenario {
 
     /// Runs the scenario, and returns all replies to the clients.
     fn run<R: ServerHost>(self, rt: &R, address: SocketAddr) -> io::Result<String> {
-        let mut told = String::new(rt.alloc());
+        let mut output = String::new(rt.alloc());
         match self {
             ClientScenario::Step => {
                 let said = [HELLO, LOAD, "ADVANCE a 1\nBYE\n"];
-                hear_out(connect(rt, address, &said)?, &mut told)?;
+                hear_out(connect(rt, address, &said)?, &mut output)?;
             }
-            ClientScenario::ComeBack => come_back(rt, address, &mut told)?,
-            ClientScenario::Count => count(rt, address, &mut told)?,
+            ClientScenario::ComeBack => come_back(rt, address, &mut output)?,
+            ClientScenario::Count => count(rt, address, &mut output)?,
         }
-        Ok(told)
+        Ok(output)
     }
 }
 
@@ -91,38 +91,38 @@ fn connect<R: ServerHost>(rt: &R, address: SocketAddr, said: &[&str]) -> io::Res
 }
 
 /// Reads a connection until its end, and appends the replies.
-fn hear_out<S: Read + Drop>(mut stream: S, told: &mut String) -> io::Result<()> {
-    stream.read_to_string(told)?;
+fn hear_out<S: Read + Drop>(mut stream: S, output: &mut String) -> io::Result<()> {
+    stream.read_to_string(output)?;
     Ok(())
 }
 
 /// Keeps the first connection in while the others come. It leaves last but one.
-fn come_back<R: ServerHost>(rt: &R, address: SocketAddr, told: &mut String) -> io::Result<()> {
+fn come_back<R: ServerHost>(rt: &R, address: SocketAddr, output: &mut String) -> io::Result<()> {
     let first = connect(rt, address, &[HELLO, LOAD, "TUG a 0 5 0 0\n"])?;
     let mut replies = BufReader::new(rt.alloc(), &first)?;
     for _ in 0..3 {
-        replies.read_line(told)?;
+        replies.read_line(output)?;
     }
     let second = connect(rt, address, &[HELLO, "MEASURE a\nBYE\n"])?;
     let wrong_token = "HELLO A bbbbbbbbbbbbbbbbbbbbbbbbbbbbbbbb\n";
-    hear_out(connect(rt, address, &[wrong_token])?, told)?;
+    hear_out(connect(rt, address, &[wrong_token])?, output)?;
     let no_user = "HELLO C aaaaaaaaaaaaaaaaaaaaaaaaaaaaaaaa\n";
-    hear_out(connect(rt, address, &[no_user])?, told)?;
+    hear_out(connect(rt, address, &[no_user])?, output)?;
     let mut writer = &first;
     writer.write_all(b"BYE\n")?;
-    hear_out(replies, told)?;
-    hear_out(second, told)
+    hear_out(replies, output)?;
+    hear_out(second, output)
 }
 
 /// Lets eight connections count, and appends their replies in the order of their counts.
-fn count<R: ServerHost>(rt: &R, address: SocketAddr, told: &mut String) -> io::Result<()> {
-    hear_out(connect(rt, address, &[HELLO, LOAD, "BYE\n"])?, told)?;
+fn count<R: ServerHost>(rt: &R, address: SocketAddr, output: &mut String) -> io::Result<()> {
+    hear_out(connect(rt, address, &[HELLO, LOAD, "BYE\n"])?, output)?;
     let mut open = Vec::new(rt.alloc());
     for _ in 0..COUNTING {
         open.push(connect(rt, address, &[HELLO, "TUG a 0 1 0 0\nMEASURE a\nBYE\n"])?)?;
     }
     for replies in in_order(rt, open)? {
-        told.push_str(&replies)?;
+        output.push_str(&replies)?;
     }
     Ok(())
 }
@@ -131,9 +131,9 @@ fn count<R: ServerHost>(rt: &R, address: SocketAddr, told: &mut String) -> io::R
 fn in_order<R: ServerHost>(rt: &R, open: Vec<TcpStream>) -> io::Result<Vec<String>> {
     let mut all = Vec::new(rt.alloc());
     for stream in open {
-        let mut told = String::new(rt.alloc());
-        hear_out(stream, &mut told)?;
-        all.push(told)?;
+        let mut output = String::new(rt.alloc());
+        hear_out(stream, &mut output)?;
+        all.push(output)?;
     }
     all.sort()?;
     Ok(all)
@@ -159,22 +159,22 @@ fn run<R: ServerHost + Sync>(
     let listener = TcpListener::bind(rt, "127.0.0.1:0")?;
     let address = listener.local_addr()?;
     let listening = &listener;
-    let (tiles, told) = thread::join(
+    let (tiles, output) = thread::join(
         rt,
         move || serve(rt, listening, scenario.connections(), kept),
         move || scenario.run(rt, address),
     );
-    Ok((tiles, told?))
+    Ok((tiles, output?))
 }
 
 #[test]
 fn a_server_answers_how_many_tiles_were_computed(rt: HostRuntime) -> Result<(), Fail> {
     let quiet = Logged::new(rt, LevelFilter::Off, Discard);
     for kept in [Kept::Lock, Kept::Queue] {
-        let (tiles, told) = run(&quiet, ClientScenario::Step, kept)?;
+        let (tiles, output) = run(&quiet, ClientScenario::Step, kept)?;
         assert_eq!(quiet; tiles, Some(1));
         assert_eq!(quiet;
-            told.as_str(),
+            output.as_str(),
             "OK HELLO A\nOK LOAD a 0 2\nOK ADVANCE a 1\nOK BYE\n"
         );
     }
@@ -189,9 +189,9 @@ fn a_user_that_comes_back_finds_its_state(rt: HostRuntime) -> Result<(), Fail> {
         ERR 01 DENIED\nERR 01 DENIED\nOK BYE\n\
         OK HELLO A\nOK MEASURE a 0 2 5 0 0 25 -5349132\nOK BYE\n";
     for kept in [Kept::Lock, Kept::Queue] {
-        let (tiles, told) = run(&quiet, ClientScenario::ComeBack, kept)?;
+        let (tiles, output) = run(&quiet, ClientScenario::ComeBack, kept)?;
         assert_eq!(quiet; tiles, Some(1));
-        assert_eq!(quiet; told.as_str(), expected);
+        assert_eq!(quiet; output.as_str(), expected);
     }
     Ok(())
 }
@@ -201,17 +201,17 @@ fn a_user_that_comes_back_finds_its_state(rt: HostRuntime) -> Result<(), Fail> {
 fn connections_of_one_user_count_in_turn(rt: HostRuntime) -> Result<(), Fail> {
     let quiet = Logged::new(rt, LevelFilter::Off, Discard);
     for kept in [Kept::Lock, Kept::Queue] {
-        let (tiles, told) = run(&quiet, ClientScenario::Count, kept)?;
+        let (tiles, output) = run(&quiet, ClientScenario::Count, kept)?;
         assert_eq!(quiet; tiles, Some(COUNTING));
-        assert_eq!(quiet; told.as_str(), counted(&quiet)?.as_str());
+        assert_eq!(quiet; output.as_str(), counted(&quiet)?.as_str());
     }
     Ok(())
 }
 
 /// Returns the replies if they do: the momentum is n and the kinetic number n² after n tugs.
 fn counted(rt: &impl AllocGlobal) -> io::Result<String> {
-    let mut told = String::new(rt.alloc());
-    told.push_str("OK HELLO A\nOK LOAD a 0 2\nOK BYE\n")?;
+    let mut output = String::new(rt.alloc());
+    output.push_str("OK HELLO A\nOK LOAD a 0 2\nOK BYE\n")?;
     for (n, square) in [
         (1, 1),
         (2, 4),
@@ -223,9 +223,9 @@ fn counted(rt: &impl AllocGlobal) -> io::Result<String> {
         (8, 64),
     ] {
         let measured = format!(in rt.alloc(); "OK MEASURE a 0 2 {n} 0 0 {square} -5349132\n")?;
-        told.push_str("OK HELLO A\nOK TUG a 0 0\n")?;
-        told.push_str(&measured)?;
-        told.push_str("OK BYE\n")?;
+        output.push_str("OK HELLO A\nOK TUG a 0 0\n")?;
+        output.push_str(&measured)?;
+        output.push_str("OK BYE\n")?;
     }
-    Ok(told)
+    Ok(output)
 }

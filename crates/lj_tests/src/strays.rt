@@ -157,7 +157,7 @@ impl Pool for OddPool {
     }
 }
 
-/// What a user is told.
+/// The replies to a user.
 type StrayOutput = ArrayVec<u8, 256>;
 
 /// Two steps of two atoms 1.5 sigma apart.
@@ -192,7 +192,7 @@ struct StrayCase {
     fetches: u64,
     input: &'static str,
     served: Served,
-    told: &'static str,
+    replies: &'static str,
 }
 
 const TWO_STEPS: &str =
@@ -211,7 +211,7 @@ const PLAIN: StrayCase = StrayCase {
     fetches: u64::MAX,
     input: STEPS,
     served: Served::End,
-    told: TWO_STEPS,
+    replies: TWO_STEPS,
 };
 
 /// A pool that is closed at some post or fetch.
@@ -219,7 +219,7 @@ const CLOSING: StrayCase = StrayCase {
     posts: 9,
     fetches: 9,
     served: Served::PoolClosed,
-    told: NO_STEP,
+    replies: NO_STEP,
     ..PLAIN
 };
 
@@ -235,7 +235,7 @@ const LOST: StrayCase = StrayCase {
     copies: 4096,
     strays: 4096,
     served: Served::TooManyStrays,
-    told: ONE_STEP,
+    replies: ONE_STEP,
     ..PLAIN
 };
 
@@ -250,13 +250,13 @@ const CASES: [StrayCase; 11] = [
     StrayCase {
         is_second: true,
         input: STEP,
-        told: ONE_STEP,
+        replies: ONE_STEP,
         ..STRAYING
     },
     StrayCase {
         is_second: true,
         input: STEP,
-        told: NO_STEP,
+        replies: NO_STEP,
         ..LOST
     },
     StrayCase {
@@ -269,31 +269,31 @@ const CASES: [StrayCase; 11] = [
     },
     StrayCase {
         posts: 1,
-        told: ONE_STEP,
+        replies: ONE_STEP,
         ..CLOSING
     },
     StrayCase {
         fetches: 1,
-        told: ONE_STEP,
+        replies: ONE_STEP,
         ..CLOSING
     },
     StrayCase {
         posts: 0,
         fetches: 9,
         input: ALONE,
-        told: "OK LOAD b 0 1\nOK SHOW b 0 0 4294967295 0 0\nOK ADVANCE b 1\nOK SHOW b 1 0 4 0 0\n",
+        replies: "OK LOAD b 0 1\nOK SHOW b 0 0 4294967295 0 0\nOK ADVANCE b 1\nOK SHOW b 1 0 4 0 0\n",
         ..PLAIN
     },
     StrayCase {
         copies: 4000,
         strays: 12_000,
         input: CROWD,
-        told: "OK LOAD a 0 65\nOK ADVANCE a 2\nOK SHOW a 2 64 0 0 0\n",
+        replies: "OK LOAD a 0 65\nOK ADVANCE a 2\nOK SHOW a 2 64 0 0 0\n",
         ..PLAIN
     },
 ];
 
-/// What a connection was told, how it ended, and whether the state was handed back.
+/// The replies to a connection, how it ended, and whether the state was handed back.
 #[derive(Drop)]
 struct StrayOutcome {
     output: StrayOutput,
@@ -323,10 +323,10 @@ fn strays_are_dropped_and_a_closed_pool_ends_the_connection(rt: HostRuntime) {
         if case.is_second {
             serve_over(rt.alloc(), 4, STEP, &mut pool);
         }
-        let told = serve_over(rt.alloc(), 3, case.input, &mut pool);
-        assert_eq!(rt; told.output.as_slice(), case.told.as_bytes());
-        assert_eq!(rt; told.served, case.served);
-        assert_eq!(rt; told.is_handed_back, case.served == Served::End);
+        let outcome = serve_over(rt.alloc(), 3, case.input, &mut pool);
+        assert_eq!(rt; outcome.output.as_slice(), case.replies.as_bytes());
+        assert_eq!(rt; outcome.served, case.served);
+        assert_eq!(rt; outcome.is_handed_back, case.served == Served::End);
         assert_eq!(rt; pool.strays, case.strays);
     }
 }

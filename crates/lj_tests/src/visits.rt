@@ -222,7 +222,7 @@ struct VisitCase {
     input: &'static str,
     shut: Option<Shut>,
     calls: u64,
-    told: &'static str,
+    replies: &'static str,
     notes: &'static str,
     visited: Visited,
 }
@@ -232,14 +232,14 @@ const SILENT: VisitCase = VisitCase {
     input: "",
     shut: None,
     calls: u64::MAX,
-    told: "",
+    replies: "",
     notes: "",
     visited: Visited::NoLine,
 };
 
 const OTHER: VisitCase = VisitCase {
     input: "LIST\n",
-    told: "ERR 01 DENIED\n",
+    replies: "ERR 01 DENIED\n",
     visited: Visited::Denied,
     ..SILENT
 };
@@ -272,7 +272,7 @@ const GONE: VisitCase = VisitCase {
 
 const STEPPING: VisitCase = VisitCase {
     input: STEP,
-    told: "OK HELLO B\nOK LOAD a 0 2\nOK ADVANCE a 1\nOK BYE\n",
+    replies: "OK HELLO B\nOK LOAD a 0 2\nOK ADVANCE a 1\nOK BYE\n",
     notes: "granted B 1 0\nentered 1 0\nopened 1\nwithdrawn 1\nleft 1 0 1\n",
     visited: Visited::Attended(Served::Bye),
     ..SILENT
@@ -281,7 +281,7 @@ const STEPPING: VisitCase = VisitCase {
 /// The state does not come home from an end that was closed before its tasks were done.
 const CUT_OFF: VisitCase = VisitCase {
     calls: 0,
-    told: "OK HELLO B\nOK LOAD a 0 2\n",
+    replies: "OK HELLO B\nOK LOAD a 0 2\n",
     notes: "granted B 1 0\nentered 1 0\nopened 1\nwithdrawn 1\n",
     visited: Visited::Attended(Served::PoolClosed),
     ..STEPPING
@@ -297,7 +297,7 @@ fn a_visit_asks_for_no_more_than_it_may(rt: HostRuntime) -> Result<(), Fail> {
         let mut writer = Writing::new(ArrayVec::<u8, 256>::new());
         let visited = visit(&mut backend, &mut lines, &mut writer);
         assert_eq!(rt; visited, case.visited);
-        assert_eq!(rt; writer.into_inner().as_slice(), case.told.as_bytes());
+        assert_eq!(rt; writer.into_inner().as_slice(), case.replies.as_bytes());
         assert_eq!(rt; text_of(&backend)?.as_str(), case.notes);
     }
     Ok(())

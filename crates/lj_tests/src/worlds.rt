@@ -66,7 +66,7 @@ const STEPS: [Step; 24] = [
     Step::Leave(1),
 ];
 
-const TOLD: &str = "A 1 OK LOAD a 0 2\nB 2 OK LOAD b 0 2\nA 1 OK BRANCH a k 0\n\
+const EXPECTED: &str = "A 1 OK LOAD a 0 2\nB 2 OK LOAD b 0 2\nA 1 OK BRANCH a k 0\n\
     A 1 OK LIST 1\na 0 2 1\nB 2 OK ADVANCE b 1\nB 2 OK LIST 1\nb 1 2 0\n";
 
 /// Events at numbers of no connection and no worker.
@@ -166,35 +166,35 @@ fn events(rt: &(impl Abort + AllocGlobal)) -> Result<Vec<Event>, AllocError> {
 }
 
 /// Writes the name of the user of an entry, the number of the connection, and the text.
-fn tell(rt: &impl Abort, entry: &Entry, told: &mut TranscriptText) {
+fn put_entry(rt: &impl Abort, entry: &Entry, lines: &mut TranscriptText) {
     let name = USERS.get(usize::from(entry.user)).expect(rt, "a user");
     let text = str::from_utf8(entry.text.as_bytes())
         .ok()
         .expect(rt, "a text");
-    let written = write!(told, "{name} {} {text}", entry.connection).is_ok();
+    let written = write!(lines, "{name} {} {text}", entry.connection).is_ok();
     assert!(rt; written);
 }
 
 /// Runs the world, and returns its replies.
 fn run_once(rt: &(impl Abort + AllocGlobal)) -> Result<TranscriptText, OutOfMemory> {
     let transcript = World::run(rt.alloc(), users(rt)?, events(rt)?)?;
-    let mut told = TranscriptText::new();
+    let mut lines = TranscriptText::new();
     for entry in transcript.entries() {
-        tell(rt, entry, &mut told);
+        put_entry(rt, entry, &mut lines);
     }
-    Ok(told)
+    Ok(lines)
 }
 
 /// Runs the world. Any one growth may be refused (`rt try --test --fail-alloc`): the run is asked for once more.
 fn run(rt: &(impl Abort + AllocGlobal)) -> Result<TranscriptText, OutOfMemory> {
     match run_once(rt) {
-        Ok(told) if !told.as_str().contains("ERR 90 MEMORY") => Ok(told),
+        Ok(lines) if !lines.as_str().contains("ERR 90 MEMORY") => Ok(lines),
         _ => run_once(rt),
     }
 }
 
 #[test]
 fn events_of_nobody_change_nothing(rt: HostRuntime) -> Result<(), Fail> {
-    assert_eq!(rt; run(&rt)?.as_str(), TOLD);
+    assert_eq!(rt; run(&rt)?.as_str(), EXPECTED);
     Ok(())
 }

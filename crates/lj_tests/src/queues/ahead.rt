@@ -100,7 +100,7 @@ pub fn serve_until_closed<S: TestPool<R> + Sync, R: Host + Sync>(
 ) -> StartsOutcome {
     let started = AtomicU64::new(0);
     let count = &started;
-    let ((), told) = thread::join(
+    let ((), outcome) = thread::join(
         rt,
         move || {
             wait_for(rt, count);
@@ -108,7 +108,7 @@ pub fn serve_until_closed<S: TestPool<R> + Sync, R: Host + Sync>(
         },
         move || serve_starts(rt, test_pool, case, count),
     );
-    told
+    outcome
 }
 
 const FIFTEEN: StartsCase = StartsCase {

@@ -130,6 +130,6 @@ pub fn post_after_close<S: TestPool<R>, R: Host>(rt: &R, test_pool: &S) -> [Answ
 
 #[test]
 fn nothing_is_posted_to_a_closed_pool(rt: HostRuntime) -> Result<(), Fail> {
-    let told = Seen::Answers([Answer::Closed; 4]);
-    check_both(&rt, 1, Scenario::AfterClose, (told, 0))
+    let expected = Seen::Answers([Answer::Closed; 4]);
+    check_both(&rt, 1, Scenario::AfterClose, (expected, 0))
 }

@@ -105,13 +105,13 @@ fn serve_both<S: TestPool<R> + Sync, R: Host + Sync>(
     test_pool: &S,
     gate: &SendBack<R>,
 ) -> (HandBackOutput, HandBackOutput) {
-    let told = thread::join(
+    let outputs = thread::join(
         rt,
         move || serve_one(rt, test_pool, HELD, gate),
         move || serve_one(rt, test_pool, 1, gate),
     );
     test_pool.close(rt);
-    told
+    outputs
 }
 
 /// The replies to both users, the number of results in the workers' shares, and the counts of the gate.
@@ -141,13 +141,13 @@ pub fn serve_beside_workers<S: TestPool<R> + Sync, R: Host + Sync>(rt: &R, test_
 }
 
 /// Returns whether both users got the replies that they get alone, and each task was sent back once and computed once.
-fn is_right(told: &HandBackOutcome) -> bool {
+fn is_right(outcome: &HandBackOutcome) -> bool {
     let held = b"OK LOAD a 0 2\nOK ADVANCE a 1\n".as_slice();
     let other = b"OK LOAD a 0 2\nOK MEASURE a 0 2 0 0 0 0 -5349132\n".as_slice();
-    told.held.as_slice() == held
-        && told.other.as_slice() == other
-        && told.credited == 2
-        && told.gate == (2, 2, 1)
+    outcome.held.as_slice() == held
+        && outcome.other.as_slice() == other
+        && outcome.credited == 2
+        && outcome.gate == (2, 2, 1)
 }
 
 #[test]

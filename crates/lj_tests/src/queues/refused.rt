@@ -126,18 +126,18 @@ pub fn refuse_many<S: TestPool<R> + Sync, R: Host + Sync>(
     let refused = post_in_vain(rt, &mut last);
     let barrier = Barrier::new(rt);
     let keeper = &barrier;
-    let (_, told) = thread::join(
+    let (_, counts) = thread::join(
         rt,
         move || test_pool.work(rt, keeper),
         || go_on(rt, test_pool, keeper, &mut ends, &mut last),
     );
     test_pool.leave(rt, last);
     leave_all(rt, test_pool, ends);
-    Ok(RefusalCounts { refused, ..told })
+    Ok(RefusalCounts { refused, ..counts })
 }
 
 /// What is seen where all posts are refused but for one beside a task that is taken, which has this answer.
-fn told(beside_taken: Answer, fetched: u64) -> Seen {
+fn expected(beside_taken: Answer, fetched: u64) -> Seen {
     Seen::Refused(Ok(RefusalCounts {
         refused: REFUSED,
         beside_taken,
@@ -150,7 +150,7 @@ fn told(beside_taken: Answer, fetched: u64) -> Seen {
 #[test]
 fn no_room_of_a_book_is_lost_by_refused_posts(rt: HostRuntime) -> Result<(), Fail> {
     let (seen, _, counts) = over_lock(&rt, 1, Scenario::Refused)?;
-    assert_eq!(rt; (seen, counts.posted), (told(Answer::Full, 1024), 2048));
+    assert_eq!(rt; (seen, counts.posted), (expected(Answer::Full, 1024), 2048));
     Ok(())
 }
 
@@ -158,6 +158,9 @@ fn no_room_of_a_book_is_lost_by_refused_posts(rt: HostRuntime) -> Result<(), Fai
 #[test]
 fn no_room_of_a_queue_is_lost_by_refused_posts(rt: HostRuntime) -> Result<(), Fail> {
     let (seen, _, settled) = over_queue(&rt, 1, Scenario::Refused)?;
-    assert_eq!(rt; (seen, settled.pushed), (told(Answer::Posted, 1025), 2049));
+    assert_eq!(rt;
+        (seen, settled.pushed),
+        (expected(Answer::Posted, 1025), 2049)
+    );
     Ok(())
 }

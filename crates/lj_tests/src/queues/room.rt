@@ -127,12 +127,12 @@ impl FullPool {
         test_pool: &S,
         last: &mut P,
     ) -> (Answer, bool) {
-        let ((), told) = thread::join(
+        let ((), seen) = thread::join(
             rt,
             move || self.relieve(rt, test_pool),
             || post_and_fetch(rt, test_pool, last),
         );
-        told
+        seen
     }
 
     /// Fills the pool, and returns the answers to the end that comes last.
@@ -158,8 +158,8 @@ fn filled_until(relief: Relief) -> Scenario {
     Scenario::FullPool(FullPool { relief })
 }
 
-/// What is seen where the end that comes last is refused at first, and is then told so.
-fn told(waited: Answer, fetched: bool) -> Seen {
+/// What is seen where the end that comes last is refused at first.
+fn expected(waited: Answer, fetched: bool) -> Seen {
     Seen::FullPool(Ok((Answer::Full, waited, fetched)))
 }
 
@@ -167,7 +167,7 @@ fn told(waited: Answer, fetched: bool) -> Seen {
 fn who_waits_for_room_goes_on(rt: HostRuntime) -> Result<(), Fail> {
     assert_eq!(rt;
         over_queue(&rt, 1, filled_until(Relief::Worker))?,
-        (told(Answer::Posted, true), 1025, all_popped(1025))
+        (expected(Answer::Posted, true), 1025, all_popped(1025))
     );
     Ok(())
 }
@@ -176,7 +176,7 @@ fn who_waits_for_room_goes_on(rt: HostRuntime) -> Result<(), Fail> {
 fn who_waits_for_room_is_told_of_a_closed_pool(rt: HostRuntime) -> Result<(), Fail> {
     assert_eq!(rt;
         over_queue(&rt, 1, filled_until(Relief::Close))?,
-        (told(Answer::Closed, false), 0, all_left(1024))
+        (expected(Answer::Closed, false), 0, all_left(1024))
     );
     Ok(())
 }
@@ -192,7 +192,10 @@ fn who_waits_for_room_in_a_book_goes_on(rt: HostRuntime) -> Result<(), Fail> {
         withdrawn: 64,
         entries: 960,
     };
-    assert_eq!(rt; (seen, counts), (told(Answer::Posted, true), one_fetched));
+    assert_eq!(rt;
+        (seen, counts),
+        (expected(Answer::Posted, true), one_fetched)
+    );
     Ok(())
 }
 
@@ -207,7 +210,7 @@ fn who_waits_for_room_in_a_book_is_told_of_a_closed_pool(rt: HostRuntime) -> Res
     };
     assert_eq!(rt;
         over_lock(&rt, 1, filled_until(Relief::Close))?,
-        (told(Answer::Closed, false), 0, none_taken)
+        (expected(Answer::Closed, false), 0, none_taken)
     );
     Ok(())
 }

@@ -88,7 +88,7 @@ const STARTS: &str = "LOAD a 256 1 131072 rest 28\n2\ndimer\nAr 0 0 0\nAr 1.5 0 
 /// The command that shows the first one.
 const SHOW: &str = "SHOW a 0\n";
 
-const TOLD: &str =
+const EXPECTED: &str =
     "OK LOAD a 0 2\nOK LOAD b 0 2\nOK START a 1\nOK START b 1\nOK SHOW a 1 0 589 0 0\n";
 
 /// Serves the user, and then closes the pool.
@@ -121,8 +121,8 @@ pub fn serve_beside_workers<S: TestPool<R> + Sync, R: Host + Sync>(rt: &R, test_
 
 /// Returns whether the session is shown as it is alone, and its task passed after the gate was called for the other one, while
 /// the user sent nothing.
-fn is_right(told: &SessionsOutput, counts: [u64; 3]) -> bool {
-    told.as_slice() == TOLD.as_bytes() && counts == [1, 1, 1]
+fn is_right(output: &SessionsOutput, counts: [u64; 3]) -> bool {
+    output.as_slice() == EXPECTED.as_bytes() && counts == [1, 1, 1]
 }
 
 #[test]

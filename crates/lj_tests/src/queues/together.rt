@@ -52,7 +52,7 @@ pub fn post_together<S: TestPool<R>, R: Host>(
 }
 
 /// Two of 1,024 places were left: 62 tasks and 15 times 64 had the others.
-const TOLD: [PostsOutcome; 3] = [
+const EXPECTED: [PostsOutcome; 3] = [
     PostsOutcome {
         posted: 2,
         owed: 2,
@@ -72,5 +72,10 @@ const TOLD: [PostsOutcome; 3] = [
 
 #[test]
 fn the_first_of_four_tasks_have_the_last_places(rt: HostRuntime) -> Result<(), Fail> {
-    check_both(&rt, 1, Scenario::Together, (Seen::Together(Ok(TOLD)), 1024))
+    check_both(
+        &rt,
+        1,
+        Scenario::Together,
+        (Seen::Together(Ok(EXPECTED)), 1024),
+    )
 }
