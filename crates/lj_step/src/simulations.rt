@@ -23,7 +23,7 @@ use crate::snapshots::Snapshot;
 use crate::tile_id::TileId;
 use lj_base::Label;
 use lj_ring::{Edge, Mix, Place};
-use lj_tile::{BLOCK, Done, DoneRef, Kind, Push, Task, TaskName};
+use lj_tile::{BLOCK, Done, DoneRef, Kind, Push, Task, TaskNameRef};
 use std::alloc::{AllocError, Global};
 use std::marker::Model;
 use std::mem;
@@ -388,7 +388,7 @@ impl Sim {
         let name = self.name_of(label, kind, tile);
         let (first, second) = (tile.first(), tile.second());
         out.remake(
-            name,
+            &name,
             self.atoms.mix(),
             (self.block(first), self.atoms.species_bits(first)),
             (self.block(second), self.atoms.species_bits(second)),
@@ -396,17 +396,12 @@ impl Sim {
     }
 
     /// Returns the name of the task of a tile of the present step.
-    fn name_of(&self, label: &Label, kind: Kind, tile: TileId) -> TaskName
+    fn name_of<'a>(&self, label: &'a Label, kind: Kind, tile: TileId) -> TaskNameRef<'a>
         requires { tile < BLOCK * steps.blocks (length self.now.sim.cur) }
         ensures { result ≡ (steps.task_of self.now label.now kind tile).name }
     {
-        TaskName {
-            label: label.copy(),
-            step: self.step,
-            kind,
-            bi: tile.first() as u8,
-            bj: tile.second() as u8,
-        }
+        let (first, second) = (tile.first() as u8, tile.second() as u8);
+        TaskNameRef::new(label, self.step, kind, first, second)
     }
 
     /// Returns the places of a block.

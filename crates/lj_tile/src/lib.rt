@@ -17,5 +17,5 @@ pub use blocks::{BLOCK, Block, MAX_BLOCKS};
 pub use lj_base::{Label, Name};
 pub use pairs::{Push, pair_push};
 pub use results::{Done, DoneRef, Sums, compute, compute_into, compute_sums};
-pub use task_name::{Kind, TaskName};
+pub use task_name::{Kind, TaskName, TaskNameRef};
 pub use tasks::Task;

@@ -3,6 +3,7 @@ ghost use Rattle.std.specs.Prelude.{◌≡◌, ◌↔◌, IsTrue};
 ghost use Rattle.lj_tile.specs.Blank.{blank_task};
 
 use lj_base::{Label, Name};
+use std::marker::Model;
 
 /// The kind of sum that a task computes: of pushes or of energies.
 #[derive(Clone, Copy, PartialEq, Eq, Debug)]
@@ -51,25 +52,81 @@ impl TaskName {
         }
     }
 
-    /// Makes this name equal to the other, field by field, where `copy` goes through a value on the stack.
+    /// Makes this name equal to the other.
     pub fn copy_from(&mut self, other: &TaskName)
         ensures { self.new ≡ other.now }
     {
-        self.label.copy_from(&other.label);
-        self.step = other.step;
-        self.kind = other.kind;
-        self.bi = other.bi;
-        self.bj = other.bj;
+        self.remake(&other.by_ref());
+    }
+
+    /// Returns the name by reference.
+    #[inline]
+    pub fn by_ref(&self) -> TaskNameRef<'_>
+        ensures { result ≡ self.now }
+    {
+        TaskNameRef::new(&self.label, self.step, self.kind, self.bi, self.bj)
+    }
+
+    /// Makes this the name that is given by reference.
+    pub(crate) fn remake(&mut self, name: &TaskNameRef<'_>)
+        ensures { self.new ≡ name.now }
+    {
+        self.label.copy_from(name.label);
+        self.step = name.step;
+        self.kind = name.kind;
+        self.bi = name.bi;
+        self.bj = name.bj;
     }
 
     /// Returns whether the other name is equal. It compares first the blocks, in which the tasks of a step differ.
     pub fn is(&self, other: &TaskName) -> bool
         ensures { IsTrue result ↔ (self.now ≡ other.now) }
     {
-        self.bj == other.bj
-            && self.bi == other.bi
-            && self.step == other.step
-            && self.kind == other.kind
-            && self.label == other.label
+        self.is_of(&other.by_ref())
+    }
+
+    /// Returns whether this is the name that is given by reference.
+    pub(crate) fn is_of(&self, name: &TaskNameRef<'_>) -> bool
+        ensures { IsTrue result ↔ (self.now ≡ name.now) }
+    {
+        self.bj == name.bj
+            && self.bi == name.bi
+            && self.step == name.step
+            && self.kind == name.kind
+            && self.label == *name.label
+    }
+}
+
+/// The name of a task with its label by reference, so that no label is copied where a task is written or compared.
+#[derive(Drop)]
+pub struct TaskNameRef<'a> {
+    label: &'a Label,
+    step: i64,
+    kind: Kind,
+    bi: u8,
+    bj: u8,
+}
+
+impl<'a> Model for TaskNameRef<'a> {
+    ghost use Rattle.lj_tile.specs.declared.task_name.TaskName.{TaskName};
+
+    ghost Value = { TaskName };
+
+    ghost view = { λ n. record { label = n.label.now; step = n.step; kind = n.kind; bi = n.bi; bj = n.bj } };
+}
+
+impl<'a> TaskNameRef<'a> {
+    /// Returns the name of a task of this session, step and kind over two blocks.
+    #[inline]
+    pub fn new(label: &'a Label, step: i64, kind: Kind, bi: u8, bj: u8) -> TaskNameRef<'a>
+        ensures { result ≡ record { label = label.now; step = step; kind = kind; bi = bi; bj = bj } }
+    {
+        TaskNameRef {
+            label,
+            step,
+            kind,
+            bi,
+            bj,
+        }
     }
 }

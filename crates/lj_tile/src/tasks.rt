@@ -5,7 +5,7 @@ ghost use Rattle.lj_tile.specs.Task.{IsTask};
 ghost use Rattle.lj_tile.specs.Blank.{blank_task};
 
 use crate::blocks::{BLOCK, Block, MAX_BLOCKS};
-use crate::task_name::TaskName;
+use crate::task_name::{TaskName, TaskNameRef};
 use lj_ring::{Mix, Place, Scale};
 use std::marker::Model;
 
@@ -116,23 +116,29 @@ impl Task {
 
     /// Makes this the task of this name over two blocks, each of places and the bits of those of the second species.
     /// The blocks are the same if the name has one index twice.
-    pub fn remake(&mut self, name: TaskName, mix: &Mix, a: (&[Place], u64), b: (&[Place], u64))
+    pub fn remake(
+        &mut self,
+        name: &TaskNameRef<'_>,
+        mix: &Mix,
+        a: (&[Place], u64),
+        b: (&[Place], u64),
+    )
         requires some_first { 1 ≤ length a.0.now }
         requires some_second { 1 ≤ length b.0.now }
         requires most_first { length a.0.now ≤ BLOCK }
         requires most_second { length b.0.now ≤ BLOCK }
-        requires first_index { name.bi < MAX_BLOCKS }
-        requires second_index { name.bj < MAX_BLOCKS }
-        requires diagonal { name.bi ≡ name.bj → (a.0.now ≡ b.0.now) × (a.1 ≡ b.1) }
-        requires in_order { name.bi ≤ name.bj }
+        requires first_index { name.now.bi < MAX_BLOCKS }
+        requires second_index { name.now.bj < MAX_BLOCKS }
+        requires diagonal { name.now.bi ≡ name.now.bj → (a.0.now ≡ b.0.now) × (a.1 ≡ b.1) }
+        requires in_order { name.now.bi ≤ name.now.bj }
         ensures { self.new ≡ record {
-          name = name;
+          name = name.now;
           mix = mix.now;
           a = record { places = a.entry.0.now; species_bits = a.entry.1 };
           b = record { places = b.entry.0.now; species_bits = b.entry.1 };
         } }
     {
-        self.name = name;
+        self.name.remake(name);
         self.mix = *mix;
         self.first.remake(a.0, a.1);
         self.second.remake(b.0, b.1);
@@ -151,7 +157,13 @@ impl Task {
     /// Returns whether this is the task of this name and mixture over two blocks, each of places and the bits of those
     /// of the second species. It copies no places.
     #[inline]
-    pub fn is_of(&self, name: &TaskName, mix: &Mix, a: (&[Place], u64), b: (&[Place], u64)) -> bool
+    pub fn is_of(
+        &self,
+        name: &TaskNameRef<'_>,
+        mix: &Mix,
+        a: (&[Place], u64),
+        b: (&[Place], u64),
+    ) -> bool
         ensures { IsTrue result ↔ (self.now ≡ record {
           name = name.now;
           mix = mix.now;
@@ -159,7 +171,7 @@ impl Task {
           b = record { places = b.entry.0.now; species_bits = b.entry.1 };
         }) }
     {
-        self.name.is(name)
+        self.name.is_of(name)
             && is_same_mix(&self.mix, mix)
             && self.first.has(a.0, a.1)
             && self.second.has(b.0, b.1)
