@@ -82,6 +82,11 @@ pub record QueueEnd : Type 0 where
   pub last : Task
   pub hand : List Task
 
+-- It is the same end, by its number and its user.
+pub record IsSameEnd (old new : QueueEnd) : Type 0 where
+  pub number : new.number ≡ old.number
+  pub user : new.user ≡ old.user
+
 -- the name of no queue
 abbrev pub no_table : TableId
 no_table = record {

@@ -3,7 +3,7 @@ ghost use Rattle.std.specs.Prelude.{◌≡◌, ◌<◌, ◌↔◌, [], ◌∷◌
 ghost use Rattle.lj_pool.specs.declared.pool.NotPosted.TheVariants.{Closed};
 ghost use Rattle.lj_pool.specs.Accounts.{IsKnownByName};
 ghost use Rattle.lj_pool.specs.Seen.{IsHandedOut, IsPosted, SameOwed, StaysClosed, nothing_seen};
-ghost use Rattle.lj_queue.specs.PoolPass.{with_push, open_task_of};
+ghost use Rattle.lj_queue.specs.PoolPass.{IsSameEnd, with_push, open_task_of};
 
 use crate::pass::{PassBoxes, PoolIdentity, PoolPass};
 use crate::poster::Poster;
@@ -114,8 +114,7 @@ impl<'p, L: PoolIdentity, R: Wait> Pool for QueueEnd<'p, L, R> {
         ensures pushed { let ticket = open_task_of self.old.number self.old.user task.now in
             OnOk result (self.new.pass ≡ with_push self.old.pass ticket) }
         ensures nothing { OnErr result (self.new.pass ≡ self.old.pass) }
-        ensures number { self.new.number ≡ self.old.number }
-        ensures user { self.new.user ≡ self.old.user }
+        ensures same_end { IsSameEnd self.old self.new }
         ensures hand { self.new.hand ≡ self.old.hand }
         ensures posted { OnOk result (IsPosted task.now self.old.seen self.new.seen) }
         ensures unchanged { OnErr result (SameOwed self.old.seen self.new.seen) }
@@ -136,8 +135,7 @@ impl<'p, L: PoolIdentity, R: Wait> Pool for QueueEnd<'p, L, R> {
 
     fn fetch_uncounted(&mut self, _user: u8) -> bool
         ensures pass { self.new.pass ≡ self.old.pass }
-        ensures number { self.new.number ≡ self.old.number }
-        ensures user { self.new.user ≡ self.old.user }
+        ensures same_end { IsSameEnd self.old self.new }
         ensures whose { result ≡ true → self.new.last.name.label.user ≡ self.old.user }
         ensures in_hand { result ≡ true → 0 < length self.old.hand
             → self.old.hand ≡ self.new.last ∷ self.new.hand }
@@ -168,8 +166,7 @@ impl<'p, L: PoolIdentity, R: Wait> Pool for QueueEnd<'p, L, R> {
 
     fn poll_uncounted(&mut self, _user: u8) -> bool
         ensures pass { self.new.pass ≡ self.old.pass }
-        ensures number { self.new.number ≡ self.old.number }
-        ensures user { self.new.user ≡ self.old.user }
+        ensures same_end { IsSameEnd self.old self.new }
         ensures seen { self.new.seen ≡ self.old.seen }
         ensures unchanged { SameOwed self.old.seen self.new.seen }
         ensures stays_closed { StaysClosed self.old.seen self.new.seen }

@@ -17,10 +17,11 @@ use Rattle.lj_session.proofs.Others.{names-changed, others-changed}
 
 -- the session of the next tile has no task posted beyond those that it has passed
 pub first-cursor : (owner : Owner) (cursor : TileCursor) (k : ℕ) (next : IsNextTile owner.state cursor.session k)
-    → next.held.passed ≡ cursor.from → IsPostedTo cursor owner owner
-first-cursor owner cursor k next passed = record {
+    → next.held.passed ≡ cursor.from → cursor.label ≡ label_of owner next.name → IsPostedTo cursor owner owner
+first-cursor owner cursor k next passed label = record {
   name = next.name;
   named = next.named;
+  label = label;
   held = next.held;
   at = next.at;
   there = next.there ∙ ap (λ n. Some (record next.held { passed = n })) passed;
@@ -71,6 +72,7 @@ module _ (cursor : TileCursor) (owner later : Owner) (p : IsPostedTo cursor owne
   cursor-behind next passes = subst (IsPostedTo (record cursor { from = next }) owner) (sym posted_is) (record {
     name = p.name;
     named = p.named;
+    label = p.label;
     held = p.held;
     at = p.at;
     there = there_after ∙ ap (λ (h : LiveSession). Some h) passes;

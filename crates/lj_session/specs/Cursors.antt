@@ -2,13 +2,14 @@
 use Rattle.std.specs.Prelude.{◌≡◌, ℕ, List, Some, slice_get}
 use Rattle.lj_session.specs.declared.tile_cursor.TileCursor.{TileCursor}
 use Rattle.lj_session.specs.UserState.{LiveSession, NoTaskBefore, live_session, live_session_at, names}
-use Rattle.lj_session.specs.Owner.{Owner}
+use Rattle.lj_session.specs.Owner.{Owner, label_of}
 
 -- The later owner is this one once the tasks before the cursor are posted: the session of the cursor has passed their tiles, and
--- none of the sessions before it has a task.
+-- none of the sessions before it has a task. The cursor has the label of its session.
 pub record IsPostedTo (cursor : TileCursor) (owner later : Owner) : Type 0 where
   pub name : List ℕ
   pub named : slice_get (names owner.state) cursor.session ≡ Some name
+  pub label : cursor.label ≡ label_of owner name
   pub held : LiveSession
   pub at : live_session_at owner.state cursor.session ≡ Some held
   pub there : live_session later.state name ≡ Some (record held { passed = cursor.from })

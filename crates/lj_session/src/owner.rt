@@ -143,7 +143,12 @@ impl Owner {
             return None;
         };
         let from = self.state.passed_at(session);
-        Some(TileCursor { session, from })
+        let label = self.label(self.state.name_at(session).copy());
+        Some(TileCursor {
+            session,
+            from,
+            label,
+        })
     }
 
     /// Writes the task at a cursor to `out`, and moves the cursor behind it. This task is the next one once all before
@@ -157,12 +162,15 @@ impl Owner {
         ensures unchanged { result ≡ false → out.new ≡ out.old }
         ensures stays { result ≡ false → cursor.new ≡ cursor.old }
     {
-        let TileCursor { session, from } = *cursor;
-        if session >= self.state.len() {
+        if cursor.session >= self.state.len() {
             return false;
         }
-        let label = self.label(self.state.name_at(session).copy());
-        let Some(next) = self.state.task_from_into(session, from, &label, out) else {
+        let TileCursor {
+            session,
+            from,
+            label,
+        } = cursor;
+        let Some(next) = self.state.task_from_into(*session, *from, label, out) else {
             return false;
         };
         cursor.from = next;

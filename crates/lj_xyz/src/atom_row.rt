@@ -44,7 +44,7 @@ impl Rows {
     }
 
     pub fn len(&self) -> usize
-        ensures { result ≡ length self.now }
+        ensures rows { result ≡ length self.now }
     {
         self.rows.len()
     }

@@ -7,7 +7,7 @@ use crate::replaying::event_lines::{parse_arrival, parse_event, parse_loss};
 use lj_access::User;
 use lj_base::{Words, split_word};
 use lj_session::{Body, Command, LoadBody};
-use lj_wire::{Item, LineReading, read_line};
+use lj_wire::{Item, read_line};
 use lj_world::{ConnectionEvent, Event};
 use std::alloc::{AllocError, Global};
 
@@ -96,14 +96,14 @@ impl Draft {
         ensures { IfOk result (λ body. body ≤ length after.now) }
     {
         let (connection, line) = parse_arrival(words).ok_or(LineFault::Form)?;
-        let LineReading { item, body } = read_line(line);
-        if body > after.len() {
+        let arrived = read_line(line);
+        if arrived.body > after.len() {
             return Err(LineFault::Form);
         }
-        let (bytes, _) = after.split_at(body);
-        let event = ConnectionEvent::Arrive(with_bytes(self.alloc, item, bytes)?);
+        let (bytes, _) = after.split_at(arrived.body);
+        let event = ConnectionEvent::Arrive(with_bytes(self.alloc, arrived.item, bytes)?);
         self.events.push(Event::At { connection, event })?;
-        Ok(body)
+        Ok(arrived.body)
     }
 }
 

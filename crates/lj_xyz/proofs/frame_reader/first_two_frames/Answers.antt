@@ -20,11 +20,11 @@ returns-in_err-second c =
     let p = err_from_is_err_and c.from_residual-in_err-second.result c.from_residual-in_err-second.ensures.1 in
     rw (p.1, p.2) (fails_second symbols (lines_of c.args.text.now) c.in_ok-first.first (left_of c.read_frame.new.lines)
     c.in_err-second.field-0.0 (rw c.new-lines.ensures at c.in_ok-first.ensures)
-    (rw c.len.ensures at c.in_err-second.ensures))
+    (rw c.len.ensures.rows at c.in_err-second.ensures))
 
 pub returns : goal.returns
 returns c =
     let symbols = option_copied c.args.symbols in
     reads_two symbols (lines_of c.args.text.now) c.in_ok-first.first c.in_ok-second.second
     (left_of c.read_frame.new.lines) (left_of c.read_frame-2.new.lines)
-    (rw c.new-lines.ensures at c.in_ok-first.ensures) (rw c.len.ensures at c.in_ok-second.ensures)
+    (rw c.new-lines.ensures at c.in_ok-first.ensures) (rw c.len.ensures.rows at c.in_ok-second.ensures)
