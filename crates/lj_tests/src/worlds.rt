@@ -69,38 +69,28 @@ const STEPS: [Step; 24] = [
 const EXPECTED: &str = "A 1 OK LOAD a 0 2\nB 2 OK LOAD b 0 2\nA 1 OK BRANCH a k 0\n\
     A 1 OK LIST 1\na 0 2 1\nB 2 OK ADVANCE b 1\nB 2 OK LIST 1\nb 1 2 0\n";
 
-/// Events at numbers of no connection and no worker.
-const OF_NOBODY: [Step; 29] = [
-    Step::Hello(0, "A"),
-    Step::Hello(65, "A"),
-    Step::Hello(255, "A"),
-    Step::Arrive(0, "BYE"),
-    Step::Arrive(65, "BYE"),
-    Step::End(0),
-    Step::End(65),
-    Step::Enter(0),
-    Step::Enter(65),
-    Step::Next(0),
-    Step::Next(65),
-    Step::Post(0),
-    Step::Post(65),
-    Step::By(0, WorkerEvent::Take { pick: 0 }),
-    Step::By(17, WorkerEvent::Take { pick: 0 }),
-    Step::By(255, WorkerEvent::Take { pick: 0 }),
-    Step::By(0, WorkerEvent::Compute),
-    Step::By(17, WorkerEvent::Compute),
-    Step::By(0, WorkerEvent::Give),
-    Step::By(17, WorkerEvent::Give),
-    Step::By(0, WorkerEvent::HandBack),
-    Step::By(17, WorkerEvent::HandBack),
-    Step::Fetch(0, 0),
-    Step::Fetch(65, 0),
-    Step::Turn(0, ""),
-    Step::Turn(0, "b"),
-    Step::Turn(65, ""),
-    Step::Turn(65, "b"),
-    Step::Leave(0),
-];
+/// Numbers of no connection and of no worker: below the first one, past the last one, and the largest.
+const NOBODY: [(u8, u8); 3] = [(0, 0), (65, 17), (255, 255)];
+
+/// Returns a step for each event at this connection and by this worker, and a turn both of a session and of any.
+fn all_steps(connection: u8, worker: u8) -> [Step; 14] {
+    [
+        Step::Hello(connection, "A"),
+        Step::Arrive(connection, "BYE"),
+        Step::End(connection),
+        Step::Enter(connection),
+        Step::Next(connection),
+        Step::Post(connection),
+        Step::Fetch(connection, 0),
+        Step::Turn(connection, ""),
+        Step::Turn(connection, "b"),
+        Step::Leave(connection),
+        Step::By(worker, WorkerEvent::Take { pick: 0 }),
+        Step::By(worker, WorkerEvent::Compute),
+        Step::By(worker, WorkerEvent::Give),
+        Step::By(worker, WorkerEvent::HandBack),
+    ]
+}
 
 /// Returns the item of a line, with the body of two atoms if it is a load.
 fn item(rt: &impl AllocGlobal, line: &str) -> Result<Item, AllocError> {
@@ -144,13 +134,25 @@ fn at(connection: u8, event: ConnectionEvent) -> Event {
     Event::At { connection, event }
 }
 
+/// Adds the events of these steps.
+fn add_events(
+    rt: &(impl Abort + AllocGlobal),
+    steps: &[Step],
+    events: &mut Vec<Event>,
+) -> Result<(), AllocError> {
+    for step in steps {
+        events.push(event(rt, *step)?)?;
+    }
+    Ok(())
+}
+
 /// Adds the events at numbers of no connection and no worker.
 fn add_events_of_nobody(
     rt: &(impl Abort + AllocGlobal),
     events: &mut Vec<Event>,
 ) -> Result<(), AllocError> {
-    for step in &OF_NOBODY {
-        events.push(event(rt, *step)?)?;
+    for (connection, worker) in NOBODY {
+        add_events(rt, &all_steps(connection, worker), events)?;
     }
     Ok(())
 }
