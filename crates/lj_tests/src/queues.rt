@@ -41,6 +41,9 @@ use std::time::Duration;
 use std::{io, thread};
 use test_pool::{Host, TestPool};
 
+/// The user who comes last.
+const LAST: u8 = 16;
+
 /// The milliseconds that a thread sleeps before it does what another waits for.
 const LATE_MILLIS: u64 = 20;
 
@@ -120,6 +123,14 @@ fn posting_end<S: TestPool<R>, R: Host>(rt: &R, test_pool: &S, user: u8, tasks: 
     let mut end = test_pool.end(rt, user);
     post_some(rt, &mut end, user, tasks);
     end
+}
+
+/// Posts a task after all others, so that its result is given after theirs, and waits for that result, which has to come.
+fn await_last<S: TestPool<R>, R: Host>(rt: &R, test_pool: &S) {
+    let mut last = posting_end(rt, test_pool, LAST, 1);
+    let came = last.owed() > 0 && last.fetch(LAST).is_some();
+    assert!(rt; came);
+    test_pool.leave(rt, last);
 }
 
 /// Lets ends leave.

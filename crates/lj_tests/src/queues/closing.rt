@@ -2,10 +2,10 @@
 
 use super::over_lock::over_lock;
 use super::over_queue::over_queue;
-use super::room::{self, Answer, post_last};
+use super::room::{Answer, post_last};
 use super::scenario::{Scenario, Seen};
 use super::test_pool::{Host, TestPool, beside_worker};
-use super::{all_left, check_both, close_late, posting_end};
+use super::{LAST, all_left, await_last, check_both, close_late, posting_end};
 use crate::sample_task::task;
 use lj_pool::Pool;
 use std::process::Abort;
@@ -16,9 +16,6 @@ const USER: u8 = 7;
 
 /// Another user.
 const OTHER: u8 = 9;
-
-/// The user whose only task is posted after those of the others, so that its result is given after theirs.
-const LAST: u8 = 8;
 
 /// Posts a task that nobody computes, and waits for its result. Returns whether none came, and the end is closed.
 fn wait_in_vain<P: Pool, R: Abort>(rt: &R, end: &mut P) -> bool {
@@ -81,15 +78,13 @@ fn fetch_then_poll<P: Pool>(end: &mut P) -> bool {
 fn drop_in_hand<S: TestPool<R>, R: Host>(rt: &R, test_pool: &S) -> bool {
     let mut end = posting_end(rt, test_pool, USER, 2);
     let mut other = posting_end(rt, test_pool, OTHER, 2);
-    let mut last = posting_end(rt, test_pool, LAST, 1);
-    let all_given = last.owed() > 0 && last.fetch(LAST).is_some();
+    await_last(rt, test_pool);
     let first_came = end.poll(USER).is_some() && other.poll(OTHER).is_some();
     test_pool.close(rt);
     let are_dropped = poll_then_fetch(&mut end) && fetch_then_poll(&mut other);
     test_pool.leave(rt, end);
     test_pool.leave(rt, other);
-    test_pool.leave(rt, last);
-    all_given && first_came && are_dropped
+    first_came && are_dropped
 }
 
 /// Closes the pool while ends have results in hand. Returns whether these do not come any more.
@@ -114,9 +109,9 @@ fn no_result_outlives_a_pool_behind_a_lock(rt: HostRuntime) -> Result<(), Fail> 
 
 /// Posts over a closed pool, by an end from before the close and by a new one, each without waiting and with it.
 pub fn post_after_close<S: TestPool<R>, R: Host>(rt: &R, test_pool: &S) -> [Answer; 4] {
-    let mut present = test_pool.end(rt, room::LAST);
+    let mut present = test_pool.end(rt, LAST);
     test_pool.close(rt);
-    let mut new = test_pool.end(rt, room::LAST);
+    let mut new = test_pool.end(rt, LAST);
     let answers = [
         post_last(rt, &mut present, false),
         post_last(rt, &mut present, true),

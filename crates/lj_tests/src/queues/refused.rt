@@ -1,12 +1,12 @@
 //! Posts that are refused, over both pools: however many they are, the pool has as much room afterwards.
 
 use super::barrier::Barrier;
-use super::leave_all;
 use super::over_lock::over_lock;
 use super::over_queue::over_queue;
-use super::room::{Answer, ENDS, LAST, fill, post_last};
+use super::room::{Answer, ENDS, fill, post_last};
 use super::scenario::{Scenario, Seen};
 use super::test_pool::{Host, TestPool};
+use super::{LAST, leave_all};
 use crate::sample_task::task;
 use lj_pool::Pool;
 use std::alloc::AllocError;

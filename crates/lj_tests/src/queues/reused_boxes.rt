@@ -1,10 +1,9 @@
 //! Boxes over a queue: whatever becomes of results, their boxes are used for other tasks.
 
 use super::over_queue::over_queue;
-use super::post_some;
 use super::scenario::{Scenario, Seen};
 use super::test_pool::{Host, TestPool, beside_worker};
-use super::withdrawn::await_last;
+use super::{await_last, post_some};
 use lj_pool::Pool;
 use std::test::Fail;
 
@@ -58,7 +57,8 @@ impl Fate {
         };
         let mut end = test_pool.end(rt, USER);
         post_some(rt, &mut end, owner, TASKS);
-        let is_right = await_last(rt, test_pool) && count_polled(&mut end, polled) == polled;
+        await_last(rt, test_pool);
+        let is_right = count_polled(&mut end, polled) == polled;
         if matches!(self, Fate::Withdrawn) {
             test_pool.withdraw(rt, USER);
         }

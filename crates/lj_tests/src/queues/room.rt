@@ -5,7 +5,7 @@ use super::over_lock::over_lock;
 use super::over_queue::over_queue;
 use super::scenario::{Scenario, Seen};
 use super::test_pool::{Host, TestPool};
-use super::{all_left, all_popped, leave_all, posting_end, put_back, sleep_a_while};
+use super::{LAST, all_left, all_popped, leave_all, posting_end, put_back, sleep_a_while};
 use crate::sample_task::task;
 use lj_book::Counts;
 use lj_pool::{Pool, Refused};
@@ -16,9 +16,6 @@ use std::thread;
 
 /// The number of ends with 64 tasks each that fill a queue or a book.
 pub const ENDS: u8 = 16;
-
-/// The user who comes last.
-pub const LAST: u8 = 16;
 
 /// The answer to a post.
 #[derive(Clone, Copy, PartialEq, Eq, Debug)]

@@ -1,10 +1,10 @@
 //! Four tasks posted together, over both pools: only the first ones are posted where there is no room for all of them, and none
 //! where there is no room or the pool is closed.
 
-use super::room::{LAST, fill_from};
+use super::room::fill_from;
 use super::scenario::{Scenario, Seen};
 use super::test_pool::{Host, TestPool};
-use super::{check_both, leave_all};
+use super::{LAST, check_both, leave_all};
 use crate::sample_task::task;
 use lj_pool::{MAX_OWED, MAX_POSTS, Pool};
 use std::alloc::AllocError;

@@ -4,7 +4,7 @@ use super::over_lock::over_lock;
 use super::over_queue::over_queue;
 use super::scenario::{Scenario, Seen};
 use super::test_pool::{Host, TestPool, beside_worker};
-use super::{post_one, posting_end};
+use super::{await_last, post_one, posting_end};
 use crate::sample_task::task;
 use lj_book::Counts;
 use lj_pool::Pool;
@@ -27,13 +27,9 @@ const NEIGHBOUR: u8 = 5;
 
 const NEIGHBOUR_TASKS: i64 = 3;
 
-/// The user whose only task is posted after all others, so that its result is given after theirs.
-const LAST: u8 = 7;
-
-/// Whether the last result came, and how many came of the others.
+/// How many results came.
 #[derive(Clone, Copy, PartialEq, Eq, Debug)]
 pub struct Left {
-    last_came: bool,
     /// Of the user that is withdrawn, before that and afterwards.
     before: i64,
     after: i64,
@@ -41,19 +37,10 @@ pub struct Left {
 }
 
 const EXPECTED: Left = Left {
-    last_came: true,
     before: 1,
     after: 0,
     neighbour: NEIGHBOUR_TASKS,
 };
-
-/// Posts the last task, and waits for its result. Returns whether it came.
-pub fn await_last<S: TestPool<R>, R: Host>(rt: &R, test_pool: &S) -> bool {
-    let mut last = posting_end(rt, test_pool, LAST, 1);
-    let came = last.owed() > 0 && last.fetch(LAST).is_some();
-    test_pool.leave(rt, last);
-    came
-}
 
 /// Polls for the results of a user's tasks at these steps, the last one not included. Returns how many came, in order.
 fn count_polled<P: Pool, R: Abort>(rt: &R, end: &mut P, user: u8, steps: (i64, i64)) -> i64 {
@@ -73,19 +60,18 @@ fn leave_with_end<S: TestPool<R>, R: Host>(rt: &R, test_pool: &S) -> Left {
     let mut gone = posting_end(rt, test_pool, GONE, GONE_TASKS);
     let mut neighbour = posting_end(rt, test_pool, NEIGHBOUR, NEIGHBOUR_TASKS);
     post_one(rt, &mut neighbour, task(rt, GONE, GONE_TASKS));
-    let last_came = await_last(rt, test_pool);
+    await_last(rt, test_pool);
     let before = count_polled(rt, &mut gone, GONE, (0, 1));
     for step in GONE_TASKS..GONE_TASKS + MORE_TASKS {
         post_one(rt, &mut gone, task(rt, GONE, step));
     }
-    let all_came = await_last(rt, test_pool);
+    await_last(rt, test_pool);
     test_pool.withdraw(rt, GONE);
     let after = count_polled(rt, &mut gone, GONE, (1, GONE_TASKS + MORE_TASKS));
     let kept = count_polled(rt, &mut neighbour, NEIGHBOUR, (0, NEIGHBOUR_TASKS + 1));
     test_pool.leave(rt, gone);
     test_pool.leave(rt, neighbour);
     Left {
-        last_came: last_came && all_came,
         before,
         after,
         neighbour: kept,
@@ -129,7 +115,7 @@ pub type LeftAndCounts = (Left, Option<Counts>, Option<Counts>);
 fn leave_without_end<S: TestPool<R>, R: Host>(rt: &R, test_pool: &S) -> LeftAndCounts {
     let mut gone = posting_end(rt, test_pool, GONE, GONE_TASKS);
     let mut neighbour = posting_end(rt, test_pool, NEIGHBOUR, NEIGHBOUR_TASKS);
-    let last_came = await_last(rt, test_pool);
+    await_last(rt, test_pool);
     let before = count_polled(rt, &mut gone, GONE, (0, 1));
     test_pool.leave(rt, gone);
     let standing = test_pool.counts(rt);
@@ -137,7 +123,6 @@ fn leave_without_end<S: TestPool<R>, R: Host>(rt: &R, test_pool: &S) -> LeftAndC
     let withdrawn = test_pool.counts(rt);
     let mut next = test_pool.end(rt, GONE);
     let left = Left {
-        last_came,
         before,
         after: count_polled(rt, &mut next, GONE, (1, GONE_TASKS)),
         neighbour: count_polled(rt, &mut neighbour, NEIGHBOUR, (0, NEIGHBOUR_TASKS + 1)),
