@@ -23,6 +23,7 @@ mod together;
 mod withdrawn;
 
 use crate::sample_task::task;
+use lj_book::Counts;
 use lj_pool::{Pool, serve};
 use lj_queue::Settled;
 use lj_quota::Quota;
@@ -71,6 +72,41 @@ fn check_both<R: Host + Sync>(
         (expected.0, u128::from(expected.1))
     );
     Ok(())
+}
+
+/// Asserts what is seen of a scenario over a pool with a queue, how many results are given to it, and what its passes settle.
+///
+/// # Errors
+/// Out of memory.
+fn check_queue<R: Host + Sync>(
+    rt: &R,
+    workers: u8,
+    scenario: Scenario,
+    expected: (Seen, u64, Settled),
+) -> Result<(), Fail> {
+    assert_eq!(rt; over_queue(rt, workers, scenario)?, expected);
+    Ok(())
+}
+
+/// Returns the counts of a book to which this many tasks were posted, none of which was taken.
+fn none_taken(posted: u64) -> Counts {
+    Counts {
+        posted,
+        given: 0,
+        fetched: 0,
+        withdrawn: 0,
+        entries: posted,
+    }
+}
+
+/// Returns the counts of a book to which this many tasks were posted, and whose results were all given and fetched.
+fn all_fetched(posted: u64) -> Counts {
+    Counts {
+        given: posted,
+        fetched: posted,
+        entries: 0,
+        ..none_taken(posted)
+    }
 }
 
 /// Returns what this many tasks settle that were pushed, all of which were popped.

@@ -5,7 +5,7 @@ use super::over_queue::over_queue;
 use super::room::{Answer, post_last};
 use super::scenario::{Scenario, Seen};
 use super::test_pool::{Host, TestPool, beside_worker};
-use super::{LAST, all_left, await_last, check_both, close_late, posting_end};
+use super::{LAST, all_left, await_last, check_both, check_queue, close_late, posting_end};
 use crate::sample_task::task;
 use lj_pool::Pool;
 use std::process::Abort;
@@ -49,11 +49,8 @@ pub fn end_in_vain<S: TestPool<R> + Sync, R: Host + Sync>(rt: &R, test_pool: &S)
 
 #[test]
 fn who_waits_for_a_result_is_told_of_a_closed_pool(rt: HostRuntime) -> Result<(), Fail> {
-    assert_eq!(rt;
-        over_queue(&rt, 0, Scenario::InVain)?,
-        (Seen::Right(true), 0, all_left(1))
-    );
-    Ok(())
+    let expected = (Seen::Right(true), 0, all_left(1));
+    check_queue(&rt, 0, Scenario::InVain, expected)
 }
 
 #[test]

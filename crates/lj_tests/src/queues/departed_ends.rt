@@ -1,9 +1,8 @@
 //! Ends that are gone: results of their tasks are dropped, and their passes go on.
 
-use super::over_queue::over_queue;
 use super::scenario::{Scenario, Seen};
 use super::test_pool::{Host, TestPool};
-use super::{all_popped, posting_end};
+use super::{all_popped, check_queue, posting_end};
 use lj_pool::Gate;
 use lj_tile::TaskName;
 use std::sync::atomic::{AtomicUsize, Ordering};
@@ -55,9 +54,6 @@ pub fn compute_nine<S: TestPool<R>, R: Host>(rt: &R, test_pool: &S) -> CreditAnd
 #[test]
 fn results_for_ends_that_are_gone_are_dropped(rt: HostRuntime) -> Result<(), Fail> {
     let kept = (2, [Some(64), Some(63), Some(62), Some(61)]);
-    assert_eq!(rt;
-        over_queue(&rt, 1, Scenario::Nine)?,
-        (Seen::Nine(kept), 2, all_popped(9))
-    );
-    Ok(())
+    let expected = (Seen::Nine(kept), 2, all_popped(9));
+    check_queue(&rt, 1, Scenario::Nine, expected)
 }

@@ -1,12 +1,10 @@
 //! A gate that sends each task back once: two users get the same replies over either pool.
 
 use super::over_lock::over_lock;
-use super::over_queue::over_queue;
 use super::scenario::{Scenario, Seen};
 use super::test_pool::{Host, TestPool, work_both};
-use super::{Counted, all_popped, serve_user, wait_for};
+use super::{Counted, all_fetched, all_popped, check_queue, serve_user, wait_for};
 use arrayvec::ArrayVec;
-use lj_book::Counts;
 use lj_pool::Gate;
 use lj_tile::{Kind, TaskName};
 use std::rt::Clock;
@@ -153,23 +151,13 @@ fn is_right(outcome: &HandBackOutcome) -> bool {
 #[test]
 fn tasks_are_sent_back_over_a_pool_behind_a_lock(rt: HostRuntime) -> Result<(), Fail> {
     let (seen, _, counts) = over_lock(&rt, 2, Scenario::HandedBack)?;
-    let all_fetched = Counts {
-        posted: 2,
-        given: 2,
-        fetched: 2,
-        withdrawn: 0,
-        entries: 0,
-    };
-    assert_eq!(rt; (seen, counts), (Seen::Right(true), all_fetched));
+    assert_eq!(rt; (seen, counts), (Seen::Right(true), all_fetched(2)));
     Ok(())
 }
 
 /// Both tasks are pushed again.
 #[test]
 fn tasks_are_sent_back_over_a_pool_with_a_queue(rt: HostRuntime) -> Result<(), Fail> {
-    assert_eq!(rt;
-        over_queue(&rt, 2, Scenario::HandedBack)?,
-        (Seen::Right(true), 2, all_popped(4))
-    );
-    Ok(())
+    let expected = (Seen::Right(true), 2, all_popped(4));
+    check_queue(&rt, 2, Scenario::HandedBack, expected)
 }

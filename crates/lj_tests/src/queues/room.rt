@@ -2,10 +2,12 @@
 //! closed.
 
 use super::over_lock::over_lock;
-use super::over_queue::over_queue;
 use super::scenario::{Scenario, Seen};
 use super::test_pool::{Host, TestPool};
-use super::{LAST, all_left, all_popped, leave_all, posting_end, put_back, sleep_a_while};
+use super::{
+    LAST, all_left, all_popped, check_queue, leave_all, none_taken, posting_end, put_back,
+    sleep_a_while,
+};
 use crate::sample_task::task;
 use lj_book::Counts;
 use lj_pool::{Pool, Refused};
@@ -162,20 +164,14 @@ fn expected(waited: Answer, fetched: bool) -> Seen {
 
 #[test]
 fn who_waits_for_room_goes_on(rt: HostRuntime) -> Result<(), Fail> {
-    assert_eq!(rt;
-        over_queue(&rt, 1, filled_until(Relief::Worker))?,
-        (expected(Answer::Posted, true), 1025, all_popped(1025))
-    );
-    Ok(())
+    let posted = (expected(Answer::Posted, true), 1025, all_popped(1025));
+    check_queue(&rt, 1, filled_until(Relief::Worker), posted)
 }
 
 #[test]
 fn who_waits_for_room_is_told_of_a_closed_pool(rt: HostRuntime) -> Result<(), Fail> {
-    assert_eq!(rt;
-        over_queue(&rt, 1, filled_until(Relief::Close))?,
-        (expected(Answer::Closed, false), 0, all_left(1024))
-    );
-    Ok(())
+    let closed = (expected(Answer::Closed, false), 0, all_left(1024));
+    check_queue(&rt, 1, filled_until(Relief::Close), closed)
 }
 
 /// How many results were given before the close depends on the key of the last task.
@@ -198,16 +194,9 @@ fn who_waits_for_room_in_a_book_goes_on(rt: HostRuntime) -> Result<(), Fail> {
 
 #[test]
 fn who_waits_for_room_in_a_book_is_told_of_a_closed_pool(rt: HostRuntime) -> Result<(), Fail> {
-    let none_taken = Counts {
-        posted: 1024,
-        given: 0,
-        fetched: 0,
-        withdrawn: 0,
-        entries: 1024,
-    };
     assert_eq!(rt;
         over_lock(&rt, 1, filled_until(Relief::Close))?,
-        (expected(Answer::Closed, false), 0, none_taken)
+        (expected(Answer::Closed, false), 0, none_taken(1024))
     );
     Ok(())
 }
