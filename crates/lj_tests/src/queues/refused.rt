@@ -8,17 +8,11 @@ use super::scenario::{Scenario, Seen};
 use super::test_pool::{Host, TestPool};
 use super::{LAST, leave_all};
 use crate::sample_task::task;
-use lj_pool::Pool;
+use lj_pool::{MAX_OWED, Pool};
 use std::alloc::AllocError;
 use std::process::Abort;
 use std::test::Fail;
 use std::thread;
-
-/// The number of posts that are refused: more than a pool has places.
-const REFUSED: u64 = 1100;
-
-/// The number of tasks that each end posts.
-const TASKS: u64 = 64;
 
 /// What came of the posts.
 #[derive(Clone, Copy, PartialEq, Eq, Debug)]
@@ -32,6 +26,9 @@ pub struct RefusalCounts {
     /// The number of tasks that found room when there were no others.
     posted: u64,
 }
+
+/// The number of posts that are refused: more than a pool has places.
+const REFUSED: u64 = 1100;
 
 /// Posts again and again where there is no room, and returns how many posts were refused.
 fn post_in_vain<P: Pool, R: Abort>(rt: &R, last: &mut P) -> u64 {
@@ -47,7 +44,7 @@ fn post_in_vain<P: Pool, R: Abort>(rt: &R, last: &mut P) -> u64 {
 /// Fetches all that is owed to the end of a user, and returns how many results came.
 fn fetch_owed<P: Pool>(end: &mut P, user: u8) -> u64 {
     let mut fetched = 0_u64;
-    for _ in 0..TASKS {
+    for _ in 0..MAX_OWED {
         if end.owed() > 0 && end.fetch(user).is_some() {
             fetched = fetched.saturating_add(1);
         }
@@ -66,10 +63,10 @@ fn fetch_all<P: Pool>(ends: &mut Vec<P>) -> u64 {
     fetched
 }
 
-/// Posts tasks of a user without waiting, and returns how many found room.
+/// Posts as many tasks of a user as may be owed, without waiting, and returns how many found room.
 fn post_some<P: Pool, R: Abort>(rt: &R, end: &mut P, user: u8) -> u64 {
     let mut posted = 0_u64;
-    for _ in 0..TASKS {
+    for _ in 0..MAX_OWED {
         if !end.is_full() && end.post(task(rt, user, 0), false).is_ok() {
             posted = posted.saturating_add(1);
         }
