@@ -20,23 +20,6 @@ const POLL_MICROS: u64 = 20;
 
 const USER: u8 = 7;
 
-/// What polls return.
-#[derive(Clone, Copy, PartialEq, Eq, Debug)]
-pub struct Polled {
-    /// Whether nothing came while there was no worker.
-    none_at_first: bool,
-    /// Whether the results came of a task that was posted before, and of one that was posted while the worker slept.
-    both_came: bool,
-    /// Whether nothing came once the pool was closed, and the end had not noted that.
-    none_of_closed: bool,
-}
-
-const EXPECTED: Polled = Polled {
-    none_at_first: true,
-    both_came: true,
-    none_of_closed: true,
-};
-
 /// Polls until a result comes. Returns whether it is that of the user's task at this step.
 fn poll_for<P: Pool, R: Clock + Abort>(rt: &R, end: &mut P, step: i64) -> bool {
     for _ in 0..POLLS {
@@ -54,7 +37,8 @@ fn post_first<P: Pool, R: Abort>(rt: &R, end: &mut P) -> bool {
     end.poll(USER).is_none() && end.owed() == 1
 }
 
-/// Polls for its result, and for that of a second task. Posts a third one. Returns whether both came.
+/// Polls for its result, and for that of a second task that is posted while the worker sleeps. Posts a third one. Returns whether
+/// both came.
 fn poll_for_both<P: Pool, R: Clock + Abort>(rt: &R, end: &mut P) -> bool {
     let first_came = poll_for(rt, end, 0);
     sleep_a_while(rt);
@@ -78,21 +62,18 @@ fn poll_closed<P: Pool>(end: &mut P) -> bool {
     end.poll(USER).is_none() && end.owed() == 1 && !end.closed()
 }
 
-/// Polls by an end while there is no worker, beside one, and once the pool is closed.
-pub fn poll_in_turn<S: TestPool<R> + Sync, R: Host + Sync>(rt: &R, test_pool: &S) -> Polled {
+/// Polls by an end while there is no worker, beside one, and once the pool is closed. Returns whether only the results beside the
+/// worker came.
+pub fn poll_in_turn<S: TestPool<R> + Sync, R: Host + Sync>(rt: &R, test_pool: &S) -> bool {
     let mut end = test_pool.end(rt, USER);
     let none_at_first = post_first(rt, &mut end);
     let both_came = poll_beside(rt, test_pool, &mut end);
     let none_of_closed = poll_closed(&mut end);
     test_pool.leave(rt, end);
-    Polled {
-        none_at_first,
-        both_came,
-        none_of_closed,
-    }
+    none_at_first && both_came && none_of_closed
 }
 
 #[test]
 fn polls_do_not_wait(rt: HostRuntime) -> Result<(), Fail> {
-    check_both(&rt, 1, Scenario::Polling, (Seen::Polled(EXPECTED), 3))
+    check_both(&rt, 1, Scenario::Polling, (Seen::Right(true), 3))
 }
