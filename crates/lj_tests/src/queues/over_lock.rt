@@ -1,7 +1,7 @@
 //! Scenarios over a pool behind a lock.
 ghost use Rattle.std.specs.Prelude.{◌≡◌};
 
-use super::scenario::{Scenario, Seen, run_over};
+use super::scenario::{Scenario, Seen, Setup, run_over};
 use super::test_pool::{Host, TestPool, Worked};
 use super::{next, put_back};
 use lj_book::Counts;
@@ -57,48 +57,37 @@ impl<'p, L: Ledger + Send + Sync, R: Host + Sync> TestPool<R> for LockTestPool<'
     }
 }
 
-/// What was seen, the number of results given to the pool, and the counts of its book at last.
-pub type OverLock = (Seen, u64, Counts);
+/// What was seen, the number of results given to the pool, and the counts of its book at last, unless memory was refused.
+pub type OverLock = Result<(Seen, u64, Counts), AllocError>;
 
-fn run<L: Ledger + Send + Sync, R: Host + Sync>(
-    rt: &R,
-    blank: Blank,
-    workers: u8,
-    scenario: Scenario,
-) -> Result<OverLock, AllocError>
+fn run<L: Ledger + Send + Sync, R: Host + Sync>(rt: &R, blank: Blank, setup: Setup) -> OverLock
     requires name { blank.name ≡ L.name }
     requires parts { blank.parts ≡ L.parts }
-    requires one_each { blank.parts ≡ workers }
+    requires one_each { blank.parts ≡ setup.workers }
 {
-    let (pool, shares) = LockPool::<L>::new(rt.alloc(), blank, usize::from(workers))?;
+    let workers = usize::from(setup.workers);
+    let (pool, shares) = LockPool::<L>::new(rt.alloc(), blank, workers)?;
     let test_pool = LockTestPool {
         rt,
         pool: &pool,
         shares: Mutex::new(shares),
     };
-    let seen = run_over(rt, &test_pool, scenario);
+    let seen = run_over(rt, &test_pool, setup.scenario);
     let shares = test_pool.shares.into_inner();
-    assert!(rt; shares.len() == usize::from(workers));
+    assert!(rt; shares.len() == workers);
     let counts = pool.counts(rt);
     Ok((seen, gather(rt, &pool, shares), counts))
 }
 
-fn run_once<R: Host + Sync>(
-    rt: &R,
-    workers: u8,
-    scenario: Scenario,
-) -> Result<OverLock, AllocError> {
-    run::<Brand, R>(rt, Blank::new(u64::from(workers)), workers, scenario)
+fn run_once<R: Host + Sync>(rt: &R, setup: Setup) -> OverLock {
+    run::<Brand, R>(rt, Blank::new(u64::from(setup.workers)), setup)
 }
 
 /// Runs a scenario over a pool behind a lock for this many workers; once more if memory was refused.
 ///
 /// # Errors
 /// Out of memory.
-pub fn over_lock<R: Host + Sync>(
-    rt: &R,
-    workers: u8,
-    scenario: Scenario,
-) -> Result<OverLock, AllocError> {
-    run_once(rt, workers, scenario).or_else(|_| run_once(rt, workers, scenario))
+pub fn over_lock<R: Host + Sync>(rt: &R, workers: u8, scenario: Scenario) -> OverLock {
+    let setup = Setup { workers, scenario };
+    run_once(rt, setup).or_else(|_| run_once(rt, setup))
 }

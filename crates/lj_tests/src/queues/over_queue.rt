@@ -1,7 +1,7 @@
 //! Scenarios over a pool with a queue.
 ghost use Rattle.std.specs.Prelude.{◌≡◌, ◌+◌};
 
-use super::scenario::{Scenario, Seen, run_over};
+use super::scenario::{Scenario, Seen, Setup, run_over};
 use super::test_pool::{Host, TestPool, Worked};
 use super::{next, put_back};
 use lj_book::Counts;
@@ -66,53 +66,45 @@ impl<'p, L: PoolIdentity + Send + Sync, R: Host + Sync> TestPool<R> for QueueTes
     }
 }
 
-/// What was seen, the number of results given to the pool, and what its passes pushed and popped.
-pub type OverQueue = (Seen, u64, Settled);
+/// What was seen, the number of results given to the pool, and what its passes pushed and popped, unless memory was refused.
+pub type OverQueue = Result<(Seen, u64, Settled), AllocError>;
 
 fn run<L: PoolIdentity + Send + Sync, R: Host + Sync>(
     rt: &R,
     blank: QueueBlank,
-    workers: u8,
-    scenario: Scenario,
-) -> Result<OverQueue, AllocError>
+    setup: Setup,
+) -> OverQueue
     requires name { blank.name ≡ L.name }
     requires parts { blank.parts ≡ L.parts }
-    requires one_each { blank.parts ≡ workers }
+    requires one_each { blank.parts ≡ setup.workers }
     requires table { blank.table ≡ L.table }
-    requires passes { workers + CONNECTIONS ≡ L.passes }
+    requires passes { setup.workers + CONNECTIONS ≡ L.passes }
 {
-    let count = usize::from(workers);
-    let (pool, passes, shares) = QueuePool::<L>::new(rt.alloc(), blank, count)?;
+    let workers = usize::from(setup.workers);
+    let (pool, passes, shares) = QueuePool::<L>::new(rt.alloc(), blank, workers)?;
     let test_pool = QueueTestPool {
         rt,
         pool: &pool,
         passes: Mutex::new(passes),
         shares: Mutex::new(shares),
     };
-    let seen = run_over(rt, &test_pool, scenario);
+    let seen = run_over(rt, &test_pool, setup.scenario);
     let QueueTestPool { passes, shares, .. } = test_pool;
     let (passes, shares) = (passes.into_inner(), shares.into_inner());
-    assert!(rt; passes.len() == count + CONNECTIONS && shares.len() == count);
+    assert!(rt; passes.len() == workers + CONNECTIONS && shares.len() == workers);
     Ok((seen, gather(rt, &pool, shares), pool.settle(rt, passes)))
 }
 
-fn run_once<R: Host + Sync>(
-    rt: &R,
-    workers: u8,
-    scenario: Scenario,
-) -> Result<OverQueue, AllocError> {
-    let blank = QueueBlank::new(rt.alloc(), u64::from(workers))?;
-    run::<Brand, R>(rt, blank, workers, scenario)
+fn run_once<R: Host + Sync>(rt: &R, setup: Setup) -> OverQueue {
+    let blank = QueueBlank::new(rt.alloc(), u64::from(setup.workers))?;
+    run::<Brand, R>(rt, blank, setup)
 }
 
 /// Runs a scenario over a pool with a queue for this many workers; once more if memory was refused.
 ///
 /// # Errors
 /// Out of memory.
-pub fn over_queue<R: Host + Sync>(
-    rt: &R,
-    workers: u8,
-    scenario: Scenario,
-) -> Result<OverQueue, AllocError> {
-    run_once(rt, workers, scenario).or_else(|_| run_once(rt, workers, scenario))
+pub fn over_queue<R: Host + Sync>(rt: &R, workers: u8, scenario: Scenario) -> OverQueue {
+    let setup = Setup { workers, scenario };
+    run_once(rt, setup).or_else(|_| run_once(rt, setup))
 }

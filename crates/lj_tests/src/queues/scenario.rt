@@ -31,6 +31,13 @@ pub enum Scenario {
     WithoutEnd,
 }
 
+/// A scenario, and the number of workers that its pool is made for.
+#[derive(Clone, Copy)]
+pub struct Setup {
+    pub workers: u8,
+    pub scenario: Scenario,
+}
+
 /// What was seen.
 #[derive(Clone, Copy, PartialEq, Eq, Debug)]
 pub enum Seen {
