@@ -1,11 +1,9 @@
-use Rattle.std.proofs.Common.{◌≡◌, ◌∙◌, List, ℕ, Some, ap, sym, slice_get}
-use Rattle.std.proofs.lemmas.Option.{same_Some}
-use Rattle.lj_base.specs.declared.names.Label.{Label}
+use Rattle.std.proofs.Common.{◌≡◌, ◌∙◌, Some, ap, sym}
 use Rattle.lj_tile.specs.Task.{Task}
 use Rattle.lj_session.specs.declared.tile_cursor.TileCursor.{TileCursor}
 use Rattle.lj_session.specs.Cursors.{IsPostedTo}
 use Rattle.lj_session.specs.Owner.{Owner, label_of}
-use Rattle.lj_session.specs.UserState.{LiveSession, UserState, live_session_at, names, next_of}
+use Rattle.lj_session.specs.UserState.{LiveSession, UserState, live_session_at, next_of}
 use Rattle.lj_session.proofs.Cursors.{cursor-behind, task-at}
 use Rattle.lj_session.proofs.owner.Owner.task_from_into.Goals.{In-Some}
 use Rattle.lj_session.proofs.owner.Owner.task_from_into.Goals as goal
@@ -16,22 +14,17 @@ module _ (state : UserState) (owner : Owner) (view : state ≡ owner.state) (cur
   at_cursor : live_session_at state cursor.session ≡ Some p.held
   at_cursor = ap (λ (o : UserState). live_session_at o cursor.session) view ∙ p.at
 
-  of_label : (name : List ℕ) → slice_get (names state) cursor.session ≡ Some name → (label : Label) → label ≡ label_of owner name
-      → (work : Task) → ((held : LiveSession) → live_session_at state cursor.session ≡ Some held
-      → next_of label (Some (record held { passed = cursor.from })) ≡ Some work)
+  of_label : (work : Task) → ((held : LiveSession) → live_session_at state cursor.session ≡ Some held
+      → next_of cursor.label (Some (record held { passed = cursor.from })) ≡ Some work)
       → next_of (label_of owner p.name) (Some (record p.held { passed = cursor.from })) ≡ Some work
-  of_label name named label is work found =
-      let same = same_Some name p.name (sym named ∙ ap (λ (o : UserState). slice_get (names o) cursor.session) view ∙ p.named) in
-      ap (λ l. next_of l (Some (record p.held { passed = cursor.from }))) (sym (is ∙ ap (label_of owner) same))
-      ∙ found p.held at_cursor
+  of_label work found = ap (λ l. next_of l (Some (record p.held { passed = cursor.from }))) (sym p.label) ∙ found p.held at_cursor
 
 -- the task that is written is the next one from the cursor on
 next_is : (c : In-Some) (later : Owner) (p : IsPostedTo c.args.cursor.now c.args.self.now later)
     → next_of (label_of c.args.self.now p.name) (Some (record p.held { passed = c.args.cursor.now.from })) ≡ Some c.task_from_into.new.out
 next_is c later p =
     of_label c.self.inside.state c.args.self.now (ap (λ (o : Owner). o.state) c.self.view_is) c.args.cursor.now later p
-    c.name_at.result.now c.name_at.ensures c.label-label.result
-    (c.label-label.ensures ∙ ap (label_of c.args.self.now) c.copy.ensures) c.task_from_into.new.out c.in-Some.ensures.task
+    c.task_from_into.new.out c.in-Some.ensures.task
 
 pub returns-clause-task : goal.returns-clause-task
 returns-clause-task c = λ _ later p.
