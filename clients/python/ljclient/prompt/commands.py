@@ -1,13 +1,26 @@
 """The commands of the protocol as one table, from which help, completion and explanations are made."""
 from __future__ import annotations
 
-from typing import Dict, List, NamedTuple, Optional, Tuple
+from dataclasses import dataclass
+from typing import Dict, List, Optional, Tuple
 
 XYZ_FAULTS = (30, 31, 32, 33, 34, 35)
 MODES = ("rest", "pair")
 
 
-class Command(NamedTuple):
+@dataclass(frozen=True)
+class Usage:
+    """What a line may be: its words, of which the first one is its name."""
+
+    usage: str
+
+    @property
+    def name(self) -> str:
+        return self.usage.split()[0]
+
+
+@dataclass(frozen=True)
+class Command(Usage):
     """A command in one of its forms.
 
     usage     its words, as docs/PROTOCOL.md has them
@@ -20,17 +33,12 @@ class Command(NamedTuple):
     order     how the order of its refusals differs from that of their numbers, if it does
     """
 
-    usage: str
     reply: str
     refusals: Tuple[int, ...]
     does: str
     example: Tuple[str, ...]
     with_file: str = ""
     order: str = ""
-
-    @property
-    def name(self) -> str:
-        return self.usage.split()[0]
 
 
 COMMANDS = (
@@ -149,16 +157,12 @@ COMMANDS = (
 )
 
 
-class Own(NamedTuple):
+@dataclass(frozen=True)
+class Own(Usage):
     """What is said at the prompt alone: the words, what it does, and an example."""
 
-    usage: str
     does: str
     example: Tuple[str, ...] = ()
-
-    @property
-    def name(self) -> str:
-        return self.usage.split()[0]
 
 
 OWN = (
