@@ -1,122 +1,119 @@
 """The live view without a browser: who may ask, and what a page is told."""
-import http.client
 import json
 import re
 import unittest
-from typing import Any, List, Tuple
+from typing import Any, Iterator, List
+
+import pytest
 
 from web_sockets import Refused  # first, since without aiohttp these tests are skipped
 from ljclient import run, units
 from ljclient.view import server
-from support import DIMER, EXAMPLES, PROGRAM, RING, SECONDS, present
+from support import DIMER, EXAMPLES, PROGRAM, RING
 from viewing import Page, Stream, View, file_of, places_of
 
 ARGON = [EXAMPLES / "argon_256.xyz", "--edge", "21.04"]
 SCALE = ["--edge", "256", "--sigma", "1", "--h", "131072"]
 
 
-class Asked(unittest.TestCase):
-    """Who may ask, and for what."""
+@pytest.fixture(scope="module")
+def view() -> Iterator[Any]:
+    """A view with a page that stays, since it ends with its last page."""
+    with View() as one, one.page():
+        yield one
 
-    view: Any
 
-    @classmethod
-    def setUpClass(cls) -> None:
-        cls.view = View()
-        cls.addClassCleanup(cls.view.end)
-        stays = cls.view.page()  # without a page the view ends
-        cls.addClassCleanup(stays.close)
+def test_the_files_of_the_page(view: Any) -> None:
+    for path, (name, kind) in server.FILES.items():
+        status, headers, body = view.get(f"/{path}")
+        assert (status, headers["Content-Type"]) == (200, f"{kind}; charset=utf-8")
+        assert body == (server.FOLDER / name).read_bytes()
 
-    def get(self, path: Any, **headers: Any) -> Tuple[Any, Any, Any]:
-        connection = http.client.HTTPConnection("127.0.0.1", self.view.port, timeout=SECONDS)
-        self.addCleanup(connection.close)
-        connection.request("GET", path, headers={name.replace("_", "-"): value for name, value in headers.items()})
-        told = connection.getresponse()
-        return told.status, told.getheader("Content-Type"), told.read()
 
-    def test_the_files_of_the_page(self) -> None:
-        for path, (name, kind) in server.FILES.items():
-            status, told, body = self.get(f"/{path}")
-            self.assertEqual((status, told), (200, f"{kind}; charset=utf-8"))
-            self.assertEqual(body, (server.FOLDER / name).read_bytes())
+def test_the_page_names_no_other_file() -> None:
+    named = re.findall(r'(?:src|href)="([^"]+)"', (server.FOLDER / "page.html").read_text())
+    for script in server.FOLDER.glob("*.js"):
+        named += re.findall(r'from "\./([^"]+)"', script.read_text())
+    assert {*named, ""} == set(server.FILES)
 
-    def test_the_page_names_no_other_file(self) -> None:
-        named = re.findall(r'(?:src|href)="([^"]+)"', (server.FOLDER / "page.html").read_text())
-        for script in server.FOLDER.glob("*.js"):
-            named += re.findall(r'from "\./([^"]+)"', script.read_text())
-        self.assertEqual({*named, ""}, set(server.FILES))
 
-    def test_no_other_file(self) -> None:
-        for path in ("/server.py", "/../server.py", "/%2e%2e/server.py", "//etc/passwd", "/page.html/"):
-            self.assertEqual(self.get(path)[0], 404)
+@pytest.mark.parametrize("path", ["/server.py", "/../server.py", "/%2e%2e/server.py", "//etc/passwd", "/page.html/"])
+def test_no_other_file(view: Any, path: Any) -> None:
+    assert view.get(path)[0] == 404
 
-    def test_only_this_address_is_answered(self) -> None:
-        for host in ("example.org", f"example.org:{self.view.port}", "127.0.0.1", "127.0.0.1:1", ""):
-            self.assertEqual(self.get("/", Host=host)[::2], (403, b"Host is not the address of this page"))
-        for host in (self.view.url, f"localhost:{self.view.port}"):
-            self.assertEqual(self.get("/", Host=host)[0], 200)
 
-    def test_no_other_page_is_answered(self) -> None:
-        for origin in ("http://example.org", "null", f"https://{self.view.url}", "http://127.0.0.1:1"):
-            self.assertEqual(self.get("/", Origin=origin)[::2], (403, b"Origin is another page"))
-            with self.assertRaisesRegex(Refused, "403"):
-                self.view.page(Origin=origin)
+def test_only_this_address_is_answered(view: Any) -> None:
+    for host in ("example.org", f"example.org:{view.port}", "127.0.0.1", "127.0.0.1:1", ""):
+        assert view.get("/", Host=host)[::2] == (403, b"Host is not the address of this page")
+    for host in (view.url, f"localhost:{view.port}"):
+        assert view.get("/", Host=host)[0] == 200
 
-    def test_a_session_is_for_a_page(self) -> None:
-        with self.assertRaisesRegex(Refused, "403"):
-            Page(self.view.port, {})
-        with self.assertRaisesRegex(Refused, "403"):
-            self.view.page(Host="example.org")
-        self.assertEqual(self.get("/session", Origin=f"http://{self.view.url}")[0], 400)
 
-    def test_nothing_may_frame_the_page_or_be_asked_by_it(self) -> None:
-        connection = http.client.HTTPConnection("127.0.0.1", self.view.port, timeout=SECONDS)
-        self.addCleanup(connection.close)
-        connection.request("GET", "/")
-        policy = connection.getresponse().getheader("Content-Security-Policy")
-        self.assertIn("default-src 'none'", present(policy))
-        self.assertIn("frame-ancestors 'none'", present(policy))
+def test_no_other_page_is_answered(view: Any) -> None:
+    for origin in ("http://example.org", "null", f"https://{view.url}", "http://127.0.0.1:1"):
+        assert view.get("/", Origin=origin)[::2] == (403, b"Origin is another page")
+        with pytest.raises(Refused, match="403"):
+            view.page(Origin=origin)
 
-    def test_a_page_has_a_session_of_its_own(self) -> None:
-        with self.view.page() as one, self.view.page() as other:
-            self.assertEqual(one.first, other.first)
-            tugged = one.ask("tug", atom=0, by=[1000, 0, 0])
-            self.assertNotEqual(places_of(one.ask("frame", steps=1)), places_of(other.ask("frame", steps=1)))
-            self.assertEqual(places_of(tugged), places_of(other.ask("restart")))
 
-    def test_messages_as_a_browser_may_send_them(self) -> None:
-        """In two frames with a ping between, which is answered first; a pong that nobody asked for; a close, which is answered."""
-        with Stream(self.view) as stream:
-            self.assertIn(stream.ACCEPTED, stream.head)
-            stream.send(0x01, b'{"do": "frame",')
-            stream.send(0x89, b"Hello")
-            stream.send(0x80, b' "steps": 1}')
-            self.assertEqual(stream.receive(), (0x8A, b"Hello"))
-            self.assertEqual(json.loads(stream.receive()[1])["step"], 1)
-            stream.send(0x8A, b"")
-            stream.send(0x81, b'{"do": "frame", "steps": 1}')
-            self.assertEqual(json.loads(stream.receive()[1])["step"], 2)
-            stream.send(0x88, b"\x03\xe8")
-            self.assertEqual(stream.receive()[0], 0x88)
+def test_a_session_is_for_a_page(view: Any) -> None:
+    with pytest.raises(Refused, match="403"):
+        Page(view.port, {})
+    with pytest.raises(Refused, match="403"):
+        view.page(Host="example.org")
+    assert view.get("/session", Origin=f"http://{view.url}")[0] == 400
 
-    def test_what_is_no_message(self) -> None:
-        """Bytes that are no text, a message that goes on and has not begun, text that is no UTF-8, and a kind that is none."""
-        for first, data in ((0x82, b"abcd"), (0x80, b"abcd"), (0x81, b"\xff"), (0x83, b"")):
-            with Stream(self.view) as stream:
-                stream.send(first, data)
-                told = stream.receive()
-                self.assertTrue(told is None or told[0] == 0x88, told)
-                self.assertIsNone(stream.receive())
-        with self.view.page() as page:
-            self.assertEqual(page.ask("frame", steps=1)["step"], 1)
 
-    def test_a_message_is_not_too_long(self) -> None:
-        with self.view.page() as page:
-            page.channel.send("x" * (server.MAX_MESSAGE + 1))
-            self.assertIsNone(page.channel.receive())
-        with self.view.page() as page:
-            page.channel.send("x" * (server.MAX_MESSAGE - 1))
-            self.assertEqual(list(json.loads(page.channel.receive())), ["error"])
+def test_nothing_may_frame_the_page_or_be_asked_by_it(view: Any) -> None:
+    _, headers, _ = view.get("/")
+    policy = headers["Content-Security-Policy"]
+    assert "default-src 'none'" in policy
+    assert "frame-ancestors 'none'" in policy
+
+
+def test_a_page_has_a_session_of_its_own(view: Any) -> None:
+    with view.page() as one, view.page() as other:
+        assert one.first == other.first
+        tugged = one.ask("tug", atom=0, by=[1000, 0, 0])
+        assert places_of(one.ask("frame", steps=1)) != places_of(other.ask("frame", steps=1))
+        assert places_of(tugged) == places_of(other.ask("restart"))
+
+
+def test_messages_as_a_browser_may_send_them(view: Any) -> None:
+    """In two frames with a ping between, which is answered first; a pong that nobody asked for; a close, which is answered."""
+    with Stream(view) as stream:
+        assert stream.ACCEPTED in stream.head
+        stream.send(0x01, b'{"do": "frame",')
+        stream.send(0x89, b"Hello")
+        stream.send(0x80, b' "steps": 1}')
+        assert stream.receive() == (0x8A, b"Hello")
+        assert json.loads(stream.receive()[1])["step"] == 1
+        stream.send(0x8A, b"")
+        stream.send(0x81, b'{"do": "frame", "steps": 1}')
+        assert json.loads(stream.receive()[1])["step"] == 2
+        stream.send(0x88, b"\x03\xe8")
+        assert stream.receive()[0] == 0x88
+
+
+def test_what_is_no_message(view: Any) -> None:
+    """Bytes that are no text, a message that goes on and has not begun, text that is no UTF-8, and a kind that is none."""
+    for first, data in ((0x82, b"abcd"), (0x80, b"abcd"), (0x81, b"\xff"), (0x83, b"")):
+        with Stream(view) as stream:
+            stream.send(first, data)
+            told = stream.receive()
+            assert told is None or told[0] == 0x88
+            assert stream.receive() is None
+    with view.page() as page:
+        assert page.ask("frame", steps=1)["step"] == 1
+
+
+def test_a_message_is_not_too_long(view: Any) -> None:
+    with view.page() as page:
+        page.channel.send("x" * (server.MAX_MESSAGE + 1))
+        assert page.channel.receive() is None
+    with view.page() as page:
+        page.channel.send("x" * (server.MAX_MESSAGE - 1))
+        assert list(json.loads(page.channel.receive())) == ["error"]
 
 
 class Told(unittest.TestCase):

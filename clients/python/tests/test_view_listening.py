@@ -1,9 +1,8 @@
 """The live view behind an address of its own, for those who have its link."""
-import http.client
 import re
 import signal
 import subprocess
-from typing import Any, Iterator, Tuple
+from typing import Any, Iterator
 
 import pytest
 
@@ -19,15 +18,6 @@ def view() -> Iterator[Any]:
         yield one
 
 
-def get(view: Any, path: Any, **headers: Any) -> Tuple[Any, Any, Any]:
-    connection = http.client.HTTPConnection("127.0.0.1", view.port, timeout=SECONDS)
-    connection.request("GET", path, headers=headers)
-    answer = connection.getresponse()
-    body = answer.read()
-    connection.close()
-    return answer.status, dict(answer.getheaders()), body
-
-
 def test_the_link_has_a_secret(view: Any) -> None:
     told = re.fullmatch(r"The page is at http://class\.example:\d+/([\w-]{16})/ and the program ends by Ctrl-C\.\n", view.said)
     assert told
@@ -39,27 +29,27 @@ def test_the_link_has_a_secret(view: Any) -> None:
 def test_whoever_has_the_link_is_answered(view: Any) -> None:
     """By whatever name, since a class reaches the machine by more than one."""
     for host in (f"127.0.0.1:{view.port}", "class.example", "[2001:db8::1]:80"):
-        status, headers, body = get(view, view.path, Host=host)
+        status, headers, body = view.get(view.path, Host=host)
         assert (status, b"Atoms, there and back" in body) == (200, True)
         assert headers["Content-Security-Policy"].endswith(f"connect-src ws://{host} wss://{host}")
         assert headers["Referrer-Policy"] == "no-referrer"
         for scheme in ("http", "https"):
             with Page(view.port, {"Host": host, "Origin": f"{scheme}://{host}"}, view.path) as page:
                 assert page.ask("frame", steps=1)["step"] == 1
-    assert get(view, f"{view.path}page.js")[0] == 200
+    assert view.get(f"{view.path}page.js")[0] == 200
 
 
 def test_without_the_secret_there_is_no_page(view: Any) -> None:
     wrong = f"/{'A' * 16}/"
     for path in ("/", "/page.html", "/page.js", "/session", wrong, f"{wrong}page.js", view.path[:-2], view.path.lower() + "x"):
-        assert get(view, path)[0] == 404
+        assert view.get(path)[0] == 404
     with pytest.raises(Refused, match="404"):
         Page(view.port, {"Origin": f"http://{view.url}", "Host": view.url}, wrong)
 
 
 def test_no_page_of_another_site_is_answered(view: Any) -> None:
     for headers in ({"Origin": "http://example.org"}, {"Host": "a b"}, {"Host": "x;y"}, {"Host": ""}):
-        assert get(view, view.path, **headers)[0] == 403
+        assert view.get(view.path, **headers)[0] == 403
     with pytest.raises(Refused, match="403"):
         Page(view.port, {"Origin": "http://example.org"}, view.path)
 

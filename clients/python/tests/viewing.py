@@ -1,5 +1,6 @@
 """What the tests of the view share with its bench: the program of a page, and a page without a browser."""
 import contextlib
+import http.client
 import json
 import os
 import pathlib
@@ -45,6 +46,13 @@ class View:
     def page(self, **headers: Any) -> Any:
         """A page that is opened in it, as a browser would."""
         return Page(self.port, {"Origin": f"http://{self.url}", **headers}, self.path)
+
+    def get(self, path: Any, **headers: Any) -> Tuple[Any, Any, Any]:
+        """The status, the headers and the body of what a GET of this path is answered."""
+        with contextlib.closing(http.client.HTTPConnection("127.0.0.1", self.port, timeout=SECONDS)) as connection:
+            connection.request("GET", path, headers=headers)
+            answer = connection.getresponse()
+            return answer.status, dict(answer.getheaders()), answer.read()
 
     def end(self) -> Tuple[Any, Any]:
         """Ends the program. Returns its status, and what it wrote to standard error."""
