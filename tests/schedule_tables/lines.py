@@ -94,6 +94,28 @@ BAD_USERS = (
     "user B bbbbbbbbbbbbbbbbbbbbbbbbbbbbbbbb 1 2 257",
 )
 
+# Events after a user of which one is bad, and the number of its line in the schedule.
+BAD_EVENTS = (
+    ("enter 1\n" + USER_B, 3),
+    ("arrive 1 LOAD a 256 1 1 rest 5\na\nb\n", 2),
+    ("arrive 1 LOAD a 256 1 1 rest 1", 2),
+    ("arrive 1 LOAD 1048576\na\nb\n", 2),
+    ("arrive 1 LOAD a 256 1 1 rest 5\na\nb\ncenter\n", 5),
+    ("arrive 1 LOAD a 256 1 1 rest 6\na\nb\nc\nenter\n", 6),
+    ("arrive 1 LOAD a 256 1 1 rest 0\nenter", 3),
+    ("arrive 1 LOAD a b c\nenter\n", 3),
+    ("arrive 1 LOADMIX a 5\na\nb\n", 2),
+    ("arrive 1 LOADMIX a 5\na\nb\ncenter\n", 5),
+    ("arrive 1 LOADMIX\nenter\n", 3),
+    ("arrive 1 LOADMIX a 256\nb 5\n", 2),
+    # No body follows a lost one.
+    ("lost 1 LOAD a 256 1 1 rest 6\nenter\n", 3),
+    ("lost 1 LOADMIX a 256 1 1 rest 6\nenter\n", 3),
+    # A lost line of 257 bytes.
+    ("lost 1 LOAD a" + " " * 237 + "256 1 1 rest 5\n", 2),
+    ("lost 1 LOADMIX a" + " " * 234 + "256 1 1 rest 5\n", 2),
+)
+
 # Schedules with a bad line at another place, and its number.
 BAD_SCHEDULES = (
     ("", 1),
@@ -101,25 +123,8 @@ BAD_SCHEDULES = (
     ("\t", 2),
     ("enter 1\n", 1),
     ("\n\nenter 1\n" + USER, 3),
-    (USER + "enter 1\n" + USER_B, 3),
-    (USER + "arrive 1 LOAD a 256 1 1 rest 5\na\nb\n", 2),
-    (USER + "arrive 1 LOAD a 256 1 1 rest 1", 2),
-    (USER + "arrive 1 LOAD 1048576\na\nb\n", 2),
-    (USER + "arrive 1 LOAD a 256 1 1 rest 5\na\nb\ncenter\n", 5),
-    (USER + "arrive 1 LOAD a 256 1 1 rest 6\na\nb\nc\nenter\n", 6),
-    (USER + "arrive 1 LOAD a 256 1 1 rest 0\nenter", 3),
-    (USER + "arrive 1 LOAD a b c\nenter\n", 3),
-    (USER + "arrive 1 LOADMIX a 5\na\nb\n", 2),
-    (USER + "arrive 1 LOADMIX a 5\na\nb\ncenter\n", 5),
-    (USER + "arrive 1 LOADMIX\nenter\n", 3),
-    (USER + "arrive 1 LOADMIX a 256\nb 5\n", 2),
-    # No body follows a lost one.
-    (USER + "lost 1 LOAD a 256 1 1 rest 6\nenter\n", 3),
-    (USER + "lost 1 LOADMIX a 256 1 1 rest 6\nenter\n", 3),
     ("lost 1 LOAD a 256 1 1 rest 6\n" + USER, 1),
-    # A lost line of 257 bytes.
-    (USER + "lost 1 LOAD a" + " " * 237 + "256 1 1 rest 5\n", 2),
-    (USER + "lost 1 LOADMIX a" + " " * 234 + "256 1 1 rest 5\n", 2),
+    *((USER + events, number) for events, number in BAD_EVENTS),
     *((f"{USER}\nenter 1\n{line}\nenter\n", 4) for line in BAD_LINES),
     *((f"\n{USER}{line}", 3) for line in BAD_USERS),
 )
