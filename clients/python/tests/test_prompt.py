@@ -11,6 +11,8 @@ from itertools import chain
 from unittest import mock
 from typing import Any, List, Tuple
 
+import pytest
+
 from ljclient import Refused, run
 from ljclient.prompt import commands, completion, helping, loading
 from ljclient.prompt.dialogue import PipeTalk
@@ -71,44 +73,50 @@ class Tables(unittest.TestCase):
         self.assertIn("There is no command and no refusal 99", helping.help_on("99")[0])
 
 
-class Loads(unittest.TestCase):
-    """Which lines name a file, and what they become."""
+@pytest.mark.parametrize(
+    "line, load",
+    [
+        ("LOAD a x.xyz 21.04 3.4 131072", ("LOAD a 21.04 3.4 131072 rest 5", "x.xyz")),
+        ("LOAD a x.xyz 21.04 3.4 131072 pair", ("LOAD a 21.04 3.4 131072 pair 5", "x.xyz")),
+        ("LOAD a 21.04 3.4 131072 pair x.xyz", ("LOAD a 21.04 3.4 131072 pair 5", "x.xyz")),
+        ('LOAD\ta "my x.xyz"  21.04 3.4 131072 ', ("LOAD a 21.04 3.4 131072 rest 5", "my x.xyz")),
+        ("LOADMIX m y 9 A B 1 2 3 1 2 3 1 2 3", ("LOADMIX m 9 A B 1 2 3 1 2 3 1 2 3 rest 5", "y")),
+        ("LOADMIX m 9 A B 1 2 3 1 2 3 1 2 3 rest ./y", ("LOADMIX m 9 A B 1 2 3 1 2 3 1 2 3 rest 5", "./y")),
+    ],
+)
+def test_a_line_with_a_file(line: Any, load: Any) -> None:
+    """What it becomes, and the file that it names."""
+    told = present(loading.from_file(line))
+    assert (loading.line_of(told, b"12345"), told.path) == load
 
-    def test_lines_with_a_file(self) -> None:
-        for line, wanted, path in [
-            ("LOAD a x.xyz 21.04 3.4 131072", "LOAD a 21.04 3.4 131072 rest 5", "x.xyz"),
-            ("LOAD a x.xyz 21.04 3.4 131072 pair", "LOAD a 21.04 3.4 131072 pair 5", "x.xyz"),
-            ("LOAD a 21.04 3.4 131072 pair x.xyz", "LOAD a 21.04 3.4 131072 pair 5", "x.xyz"),
-            ('LOAD\ta "my x.xyz"  21.04 3.4 131072 ', "LOAD a 21.04 3.4 131072 rest 5", "my x.xyz"),
-            ("LOADMIX m y 9 A B 1 2 3 1 2 3 1 2 3", "LOADMIX m 9 A B 1 2 3 1 2 3 1 2 3 rest 5", "y"),
-            ("LOADMIX m 9 A B 1 2 3 1 2 3 1 2 3 rest ./y", "LOADMIX m 9 A B 1 2 3 1 2 3 1 2 3 rest 5", "./y"),
-        ]:
-            load = loading.from_file(line)
-            self.assertEqual((loading.line_of(present(load), b"12345"), present(load).path), (wanted, path))
 
-    def test_lines_of_the_protocol(self) -> None:
-        for line, size in [
-            ("LOAD a 256 1 131072 rest 28", 28),
-            ("LOAD a x 1 131072 rest 28", 28),
-            ("LOAD a .5 1 131072 28", 28),
-            ("LOADMIX m x A B 1 2 3 1 2 3 1 2 3 pair 007\r", 7),
-            ("LOAD a x 1 28", 28),
-            ("LOAD a 1 1 1 rest rest", 0),
-            ("LOAD a x.xyz 1 1 1 1 1", 1),
-            ("LIST 9\r\r", 0),
-            ("LOAD a 256 1 1 rest 28\r\r", 0),
-            ("LOAD 9", 9),
-            ("LOAD", 0),
-            ("LOAD a 256 1 1 rest", 0),
-            ("LOAD a 1 1 1 rest 1048576", 1048576),
-            ("LOAD a 1 1 1 rest 1048577", 0),
-            ("LOAD a 1 1 1 rest 00000028", 0),
-            ("LOAD " + "a" * 252 + " 28", 0),
-            ("load a 256 1 131072 rest 28", 0),
-            ("LIST 28", 0),
-            ("", 0),
-        ]:
-            self.assertEqual((loading.from_file(line), loading.size_of_body(line)), (None, size), line)
+@pytest.mark.parametrize(
+    "line, size",
+    [
+        ("LOAD a 256 1 131072 rest 28", 28),
+        ("LOAD a x 1 131072 rest 28", 28),
+        ("LOAD a .5 1 131072 28", 28),
+        ("LOADMIX m x A B 1 2 3 1 2 3 1 2 3 pair 007\r", 7),
+        ("LOAD a x 1 28", 28),
+        ("LOAD a 1 1 1 rest rest", 0),
+        ("LOAD a x.xyz 1 1 1 1 1", 1),
+        ("LIST 9\r\r", 0),
+        ("LOAD a 256 1 1 rest 28\r\r", 0),
+        ("LOAD 9", 9),
+        ("LOAD", 0),
+        ("LOAD a 256 1 1 rest", 0),
+        ("LOAD a 1 1 1 rest 1048576", 1048576),
+        ("LOAD a 1 1 1 rest 1048577", 0),
+        ("LOAD a 1 1 1 rest 00000028", 0),
+        ("LOAD " + "a" * 252 + " 28", 0),
+        ("load a 256 1 131072 rest 28", 0),
+        ("LIST 28", 0),
+        ("", 0),
+    ],
+)
+def test_a_line_of_the_protocol(line: Any, size: Any) -> None:
+    """It names no file, and announces a body of so many bytes."""
+    assert (loading.from_file(line), loading.size_of_body(line)) == (None, size)
 
 
 class Dialogues(unittest.TestCase):
