@@ -112,12 +112,8 @@ def test_a_mixture(user: Any, path: Any) -> None:
     m.advance(1)
     assert m.place(1) == (25164646, 0, 0)
     user.close()
-    assert commands(path) == [
-        "LOADMIX m 256 Na Cl 1 131072 256 1 262144 512 1 131072 256 rest 26",
-        "MEASURE m",
-        "ADVANCE m 1",
-        "SHOW m 1",
-    ]
+    assert commands(path)[0] == "LOADMIX m 256 Na Cl 1 131072 256 1 262144 512 1 131072 256 rest 26"
+    assert commands(path)[1:] == ["MEASURE m", "ADVANCE m 1", "SHOW m 1"]
     assert is_the_same(path) == []
 
 
@@ -480,12 +476,8 @@ def test_replies_that_are_on_their_way_when_a_new_connection_begins(server: Any,
             argon.advance(10**6, piece=10000)
         assert argon.step == 10000
         argon.drop()
-    assert [line for line in without_checks(path) if line[0] in ">c"][-4:] == [
-        "> ADVANCE argon 10000",
-        "connection",
-        "> ADVANCE argon 0",
-        "> DROP argon",
-    ]
+    told = [line for line in without_checks(path) if line[0] in ">c"]
+    assert told[-4:] == ["> ADVANCE argon 10000", "connection", "> ADVANCE argon 0", "> DROP argon"]
     assert is_the_same(path) == []
 
 
