@@ -1,52 +1,57 @@
 """Texts of frames: the first fault of each with its line, the atoms that are read, and frames of each size."""
 from typing import Iterator, List, Sequence, Tuple
 
-from dialogue_tables.in_boxes import FINE, ROW, WIDE, Atom, Item, at_rest, dialogue, in_a_pair, load
+from dialogue_tables.in_boxes import FINE, ROW, UNEVEN, WIDE, Atom, Item, at_rest, dialogue, in_a_pair, load
 
 # On the edges of blocks of 64 atoms, some sizes within, and the most.
 SIZES = (1, 63, 64, 65, 129, 256, 4096)
 
-UNEVEN = "2\na\nX 0 0 0\nX 1 0 0\n3\nb\nX 0 0 0\nX 1 0 0\nX 2 0 0\n"
-
-# Bodies with the refusal of each.
-FAULTS = (
-    # The first frame: its count line, its comment line and its atoms.
-    ("rest", "\n \n\t", "30 XYZ_COUNT line 4"),
-    ("rest", "\n\n00000000000000000001\nc\nX 0 0 0\n", "30 XYZ_COUNT line 3"),
-    ("rest", "\r\r\n1\nc\nX 0 0 0\n", "30 XYZ_COUNT line 1"),
-    ("rest", "4097\nc\n", "30 XYZ_COUNT line 1"),
-    ("rest", "\n4096\r\n", "31 XYZ_SHORT line 3"),
-    ("rest", "2\nc\nNa 0 0 0\n", "31 XYZ_SHORT line 4"),
-    ("rest", "1\nc\nX\v0\v0\v0\n", "31 XYZ_SHORT line 3"),
-    ("rest", "1\nc\nABCDEFGHIJKLMNOPQ 0 0 0\n", "32 XYZ_SYMBOL line 3"),
-    ("rest", "2\nc\nX 0 0 0\nX\x01 . 1e7 0\n", "32 XYZ_SYMBOL line 4"),
-    ("rest", "1\nn\nH x 1e7 0\n", "33 XYZ_NUMBER line 3"),
-    ("rest", "1\nn\nH 0 1*^3 0\n", "33 XYZ_NUMBER line 3"),
-    ("rest", "1\nn\nH 0 0 0\r\r\n", "33 XYZ_NUMBER line 3"),
-    ("rest", "1\nn\nH 1000000.0000000005 0 0\n", "34 XYZ_RANGE line 3"),
-    ("rest", "1\nn\nH 0 1e7 x\n", "34 XYZ_RANGE line 3"),
-    ("rest", "2\nn\nH 0 0 0\nH 0 0 1d99", "34 XYZ_RANGE line 4"),
-    ("pair", "", "30 XYZ_COUNT line 1"),
-    ("pair", "1", "31 XYZ_SHORT line 2"),
-    ("pair", "2\na\nX 0 0 0\n", "31 XYZ_SHORT line 4"),
-    ("pair", "1\na\n\x7f 0 0 0\n", "32 XYZ_SYMBOL line 3"),
-    ("pair", "1\na\nX . 0 0\n", "33 XYZ_NUMBER line 3"),
-    ("pair", "1\na\nX 1e7 0 0\n", "34 XYZ_RANGE line 3"),
-    # The second frame: none, and one of another number of atoms.
-    ("pair", "1\na\nX 0 0 0", "35 XYZ_PAIR line 4"),
-    ("pair", "1\na\nX 0 0 0\n\n \n", "35 XYZ_PAIR line 6"),
-    ("pair", UNEVEN, "35 XYZ_PAIR line 5"),
-    ("pair", "1\na\nX 0 0 0\n\n4096", "35 XYZ_PAIR line 5"),
-    # Its own faults.
-    ("pair", "1\na\nX 0 0 0\n0\n", "30 XYZ_COUNT line 4"),
-    ("pair", "1\na\nX 0 0 0\r\n\r\n4097\r\n", "30 XYZ_COUNT line 5"),
-    ("pair", "1\na\nX 0 0 0\n1", "31 XYZ_SHORT line 5"),
-    ("pair", "2\na\nX 0 0 0\nX 0 0 0\n2\nb\nX 0 0 0\n", "31 XYZ_SHORT line 8"),
-    ("pair", "1\na\nX 0 0 0\n1\nb\nX 0 0\n", "31 XYZ_SHORT line 6"),
-    ("pair", "1\na\nX 0 0 0\n1\nb\n\x01 0 0 0\n", "32 XYZ_SYMBOL line 6"),
-    ("pair", "1\na\nX 0 0 0\n1\nb\nX 0 . 0\n", "33 XYZ_NUMBER line 6"),
-    ("pair", "1\na\nX 0 0 0\n\n1\nb\nX 0 0 1e7\n", "34 XYZ_RANGE line 7"),
+# Bodies of one frame with the refusal of each: of its count line, its comment line and its atoms.
+FAULTS_AT_REST = (
+    ("\n \n\t", "30 XYZ_COUNT line 4"),
+    ("\n\n00000000000000000001\nc\nX 0 0 0\n", "30 XYZ_COUNT line 3"),
+    ("\r\r\n1\nc\nX 0 0 0\n", "30 XYZ_COUNT line 1"),
+    ("4097\nc\n", "30 XYZ_COUNT line 1"),
+    ("\n4096\r\n", "31 XYZ_SHORT line 3"),
+    ("2\nc\nNa 0 0 0\n", "31 XYZ_SHORT line 4"),
+    ("1\nc\nX\v0\v0\v0\n", "31 XYZ_SHORT line 3"),
+    ("1\nc\nABCDEFGHIJKLMNOPQ 0 0 0\n", "32 XYZ_SYMBOL line 3"),
+    ("2\nc\nX 0 0 0\nX\x01 . 1e7 0\n", "32 XYZ_SYMBOL line 4"),
+    ("1\nn\nH x 1e7 0\n", "33 XYZ_NUMBER line 3"),
+    ("1\nn\nH 0 1*^3 0\n", "33 XYZ_NUMBER line 3"),
+    ("1\nn\nH 0 0 0\r\r\n", "33 XYZ_NUMBER line 3"),
+    ("1\nn\nH 1000000.0000000005 0 0\n", "34 XYZ_RANGE line 3"),
+    ("1\nn\nH 0 1e7 x\n", "34 XYZ_RANGE line 3"),
+    ("2\nn\nH 0 0 0\nH 0 0 1d99", "34 XYZ_RANGE line 4"),
 )
+
+# Bodies of two frames with the refusal of each.
+FAULTS_OF_PAIRS = (
+    # The first frame.
+    ("", "30 XYZ_COUNT line 1"),
+    ("1", "31 XYZ_SHORT line 2"),
+    ("2\na\nX 0 0 0\n", "31 XYZ_SHORT line 4"),
+    ("1\na\n\x7f 0 0 0\n", "32 XYZ_SYMBOL line 3"),
+    ("1\na\nX . 0 0\n", "33 XYZ_NUMBER line 3"),
+    ("1\na\nX 1e7 0 0\n", "34 XYZ_RANGE line 3"),
+    # The second frame: none, and one of another number of atoms.
+    ("1\na\nX 0 0 0", "35 XYZ_PAIR line 4"),
+    ("1\na\nX 0 0 0\n\n \n", "35 XYZ_PAIR line 6"),
+    (UNEVEN, "35 XYZ_PAIR line 5"),
+    ("1\na\nX 0 0 0\n\n4096", "35 XYZ_PAIR line 5"),
+    # Its own faults.
+    ("1\na\nX 0 0 0\n0\n", "30 XYZ_COUNT line 4"),
+    ("1\na\nX 0 0 0\r\n\r\n4097\r\n", "30 XYZ_COUNT line 5"),
+    ("1\na\nX 0 0 0\n1", "31 XYZ_SHORT line 5"),
+    ("2\na\nX 0 0 0\nX 0 0 0\n2\nb\nX 0 0 0\n", "31 XYZ_SHORT line 8"),
+    ("1\na\nX 0 0 0\n1\nb\nX 0 0\n", "31 XYZ_SHORT line 6"),
+    ("1\na\nX 0 0 0\n1\nb\n\x01 0 0 0\n", "32 XYZ_SYMBOL line 6"),
+    ("1\na\nX 0 0 0\n1\nb\nX 0 . 0\n", "33 XYZ_NUMBER line 6"),
+    ("1\na\nX 0 0 0\n\n1\nb\nX 0 0 1e7\n", "34 XYZ_RANGE line 7"),
+)
+
+# All of these, with their modes.
+FAULTS = (*(("rest", *fault) for fault in FAULTS_AT_REST), *(("pair", *fault) for fault in FAULTS_OF_PAIRS))
 
 HALF = 1_500_000_000
 MILLION = 10**15

@@ -20,6 +20,9 @@ FINE: Box = ("4.294967296", RING, "0.5")
 WIDE: Box = ("1000000", 10**15, "100")
 ROW: Box = ("4096", 4096 * 10**9, "1")
 
+# Two frames of different numbers of atoms.
+UNEVEN = "2\na\nX 0 0 0\nX 1 0 0\n3\nb\nX 0 0 0\nX 1 0 0\nX 2 0 0\n"
+
 DROP: Item = ("DROP a\n", "OK DROP a\n")
 
 

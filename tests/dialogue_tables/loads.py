@@ -1,5 +1,6 @@
 """LOADs: bodies of any form, the first fault of one, and the order of refusals."""
 from dialogue_tables.dialogues import LOAD, Dialogue
+from dialogue_tables.in_boxes import UNEVEN
 
 # Words of a second LOAD, and its refusal.
 REFUSED_WORDS = (
@@ -27,47 +28,35 @@ REFUSED_WORDS = (
 BODY = " rest 28\n2\ndimer\nAr 0 0 0\nAr 1.5 0 0\nSHOW a 1\n"
 SHOWN = "OK SHOW a 0 1 25165824 0 0\n"
 
-# Lines of LOADs with their bodies, and their refusals.
-BAD_BODIES = (
-    ("LOAD a 256 1 1 rest 4\n", "0\nc\n", "ERR 30 XYZ_COUNT line 1\n"),
-    ("LOAD a 256 1 1 rest 7\n", "4097\nc\n", "ERR 30 XYZ_COUNT line 1\n"),
-    ("LOAD a 256 1 1 rest 13\n", "\nx\nc\nX 0 0 0\n", "ERR 30 XYZ_COUNT line 2\n"),
-    ("LOAD a 256 1 1 rest 1\n", "1", "ERR 31 XYZ_SHORT line 2\n"),
-    ("LOAD a 256 1 1 rest 4\n", "1\nc\n", "ERR 31 XYZ_SHORT line 3\n"),
-    ("LOAD a 256 1 1 rest 13\n", "2\nc\nNa 0 0 0\n", "ERR 31 XYZ_SHORT line 4\n"),
-    ("LOAD a 256 1 1 rest 10\n", "1\nc\nX 0 0\n", "ERR 31 XYZ_SHORT line 3\n"),
-    ("LOAD a 256 1 1 rest 28\n", "1\nc\nabcdefghijklmnopq 0 0 0\n", "ERR 32 XYZ_SYMBOL line 3\n"),
-    ("LOAD a 256 1 1 rest 12\n", "1\nc\n\x7f 0 0 0\n", "ERR 32 XYZ_SYMBOL line 3\n"),
-    ("LOAD a 256 1 1 rest 12\n", "1\nn\nH . 0 0\n", "ERR 33 XYZ_NUMBER line 3\n"),
-    ("LOAD a 256 1 1 rest 14\n", "1\nn\nH NaN 0 0\n", "ERR 33 XYZ_NUMBER line 3\n"),
-    ("LOAD a 256 1 1 rest 16\n", "1\nn\nH 1. .5 1e7\n", "ERR 34 XYZ_RANGE line 3\n"),
-    ("LOAD a 256 1 1 rest 14\n", "1\nn\nH 1e7 x 0\n", "ERR 34 XYZ_RANGE line 3\n"),
-    (
-        "LOAD a 256 1 1 pair 48\n",
-        "2\na\nX 0 0 0\nX 1 0 0\n3\nb\nX 0 0 0\nX 1 0 0\nX 2 0 0\n",
-        "ERR 35 XYZ_PAIR line 5\n",
-    ),
-    ("LOAD a 256 1 1 pair 12\n", "1\nc\nX 0 0 0\n", "ERR 35 XYZ_PAIR line 4\n"),
+# Bodies of one frame, and their refusals.
+BAD_FRAMES = (
+    ("0\nc\n", "30 XYZ_COUNT line 1"),
+    ("4097\nc\n", "30 XYZ_COUNT line 1"),
+    ("\nx\nc\nX 0 0 0\n", "30 XYZ_COUNT line 2"),
+    ("1", "31 XYZ_SHORT line 2"),
+    ("1\nc\n", "31 XYZ_SHORT line 3"),
+    ("2\nc\nNa 0 0 0\n", "31 XYZ_SHORT line 4"),
+    ("1\nc\nX 0 0\n", "31 XYZ_SHORT line 3"),
+    ("1\nc\nabcdefghijklmnopq 0 0 0\n", "32 XYZ_SYMBOL line 3"),
+    ("1\nc\n\x7f 0 0 0\n", "32 XYZ_SYMBOL line 3"),
+    ("1\nn\nH . 0 0\n", "33 XYZ_NUMBER line 3"),
+    ("1\nn\nH NaN 0 0\n", "33 XYZ_NUMBER line 3"),
+    ("1\nn\nH 1. .5 1e7\n", "34 XYZ_RANGE line 3"),
+    ("1\nn\nH 1e7 x 0\n", "34 XYZ_RANGE line 3"),
 )
 
-# Lines of LOADs with their bodies, and the replies to them and to SHOW of the first atom.
+# Bodies of two frames, and their refusals.
+BAD_PAIRS = (
+    (UNEVEN, "35 XYZ_PAIR line 5"),
+    ("1\nc\nX 0 0 0\n", "35 XYZ_PAIR line 4"),
+)
+
+# Bodies that are taken, how many atoms they have, and the place of the first one.
 BODIES = (
-    ("LOAD a 256 1 1 rest 24\n", "1\nq\nH -0.0000000005 0 0\n", "OK LOAD a 0 1\nOK SHOW a 0 0 4294967295 0 0\n"),
-    (
-        "LOAD a 256 1 1 rest 23\n",
-        "1\nn\nH 15D-1 1.5e0 +1.5\n",
-        "OK LOAD a 0 1\nOK SHOW a 0 0 25165824 25165824 25165824\n",
-    ),
-)
-
-# The same of two atoms.
-BODIES_OF_TWO = (
-    ("LOAD a 256 1 1 rest 35\n", "2\r\nc\r\nNa 0 0 0 1.0\r\nCl 1.5 0 0 -1.0", "OK LOAD a 0 2\nOK SHOW a 0 0 0 0 0\n"),
-    (
-        "LOAD a 256 1 1 rest 48\n",
-        "2\na\nX 0 0 0\nX 1 0 0\n3\nb\nX 0 0 0\nX 1 0 0\nX 2 0 0\n",
-        "OK LOAD a 0 2\nOK SHOW a 0 0 0 0 0\n",
-    ),
+    ("1\nq\nH -0.0000000005 0 0\n", 1, "4294967295 0 0"),
+    ("1\nn\nH 15D-1 1.5e0 +1.5\n", 1, "25165824 25165824 25165824"),
+    ("2\r\nc\r\nNa 0 0 0 1.0\r\nCl 1.5 0 0 -1.0", 2, "0 0 0"),
+    (UNEVEN, 2, "0 0 0"),
 )
 
 
@@ -76,9 +65,18 @@ def refused_words(words: str, refusal: str) -> Dialogue:
     return Dialogue(f"LOAD {words}", stream, "OK LOAD a 0 2\n" + refusal + SHOWN, "OK LIST 1\na 0 2 0\n")
 
 
-def of_body(line: str, body: str, replies: str, state: str) -> Dialogue:
+def of_body(body: str, replies: str, state: str, mode: str = "rest") -> Dialogue:
     """A LOAD with this body, and a look at its first atom."""
-    return Dialogue(f"{line.strip()} of {body!r}", ((line, 1), (body, 1), ("SHOW a 0\n", 1)), replies, state)
+    line = f"LOAD a 256 1 1 {mode} {len(body)}"
+    return Dialogue(f"{line} of {body!r}", ((f"{line}\n", 1), (body, 1), ("SHOW a 0\n", 1)), replies, state)
+
+
+def refused_body(body: str, refusal: str, mode: str = "rest") -> Dialogue:
+    return of_body(body, f"ERR {refusal}\nERR 10 NO_SESSION\n", "OK LIST 0\n", mode)
+
+
+def taken_body(body: str, atoms: int, place: str) -> Dialogue:
+    return of_body(body, f"OK LOAD a 0 {atoms}\nOK SHOW a 0 0 {place}\n", f"OK LIST 1\na 0 {atoms} 0\n")
 
 
 DIALOGUES = (
@@ -95,9 +93,9 @@ DIALOGUES = (
         "ERR 30 XYZ_COUNT line 1\nERR 10 NO_SESSION\n",
         "OK LIST 0\n",
     ),
-    *(of_body(line, body, refusal + "ERR 10 NO_SESSION\n", "OK LIST 0\n") for line, body, refusal in BAD_BODIES),
-    *(of_body(line, body, replies, "OK LIST 1\na 0 1 0\n") for line, body, replies in BODIES),
-    *(of_body(line, body, replies, "OK LIST 1\na 0 2 0\n") for line, body, replies in BODIES_OF_TWO),
+    *(refused_body(body, refusal) for body, refusal in BAD_FRAMES),
+    *(refused_body(body, refusal, "pair") for body, refusal in BAD_PAIRS),
+    *(taken_body(body, atoms, place) for body, atoms, place in BODIES),
     # Words are cut at blanks, and one carriage return is dropped.
     Dialogue(
         "blanks and returns",
