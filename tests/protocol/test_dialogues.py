@@ -2,13 +2,13 @@
 import socket
 import subprocess
 from dataclasses import dataclass
-from typing import List, Optional, Union
+from typing import List, Optional
 
 import pytest
 from dialogue_tables import NOT_READ_ON, TABLES
 from dialogue_tables.dialogues import Dialogue, Ending
 from shared.exchange import CHUNK, Exchange
-from shared.program import SECONDS, Program, run_words
+from shared.program import SECONDS, Ended, Program, run_words
 from shared.texts import must_be
 
 
@@ -16,9 +16,7 @@ from shared.texts import must_be
 class Played:
     """How a program ended: whether by itself, while its input was open; and how many bytes of its input it has read."""
 
-    status: Union[int, str]
-    told: bytes
-    fault: bytes
+    ended: Ended
     ended_itself: bool
     taken: int
 
@@ -36,7 +34,7 @@ def play(program: Program, dialogue: Dialogue, size: Optional[int]) -> Played:
             child.kill()
         fault, status = child.stderr.read(), child.wait(SECONDS)
         taken = exchange.sent - left_in(theirs)
-    return Played(status if is_over else "no end", bytes(exchange.told), fault, exchange.is_open, taken)
+    return Played((status if is_over else "no end", bytes(exchange.told), fault), exchange.is_open, taken)
 
 
 def left_in(stream: socket.socket) -> int:
@@ -66,6 +64,7 @@ def cases() -> List[object]:
 def test_a_dialogue_in_pieces(program: Program, dialogue: Dialogue, size: Optional[int]) -> None:
     """It is to be answered and to end as it says."""
     seen = play(program, dialogue, size)
-    must_be(seen.told, dialogue.replies.encode())
-    assert (seen.status, seen.fault, seen.ended_itself) == (0, b"", dialogue.ending is not Ending.INPUT)
+    status, told, fault = seen.ended
+    must_be(told, dialogue.replies.encode())
+    assert (status, fault, seen.ended_itself) == (0, b"", dialogue.ending is not Ending.INPUT)
     assert dialogue.taken in (None, seen.taken)
