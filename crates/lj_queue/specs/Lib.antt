@@ -5,3 +5,4 @@ pub mod ResultList
 pub mod Mailboxes
 pub mod Settling
 pub mod Limits
+pub mod NoRoom

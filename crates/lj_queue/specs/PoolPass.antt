@@ -1,5 +1,5 @@
 -- The passes of a pool with a queue, and its ends.
-use Rattle.std.specs.Prelude.{◌≡◌, ℕ, ◌-◌, ◌<◌, ◌≤◌, ◌^◌, List, [], ◌∷◌, ◌++◌, Option, length}
+use Rattle.std.specs.Prelude.{◌≡◌, ℕ, ◌+◌, ◌-◌, ◌<◌, ◌≤◌, ◌^◌, List, [], ◌∷◌, ◌++◌, Option, length}
 use Rattle.std.specs.List.{All}
 use Rattle.atomic_table.specs.Seated.{TableId}
 use Rattle.crossbeam_queue.specs.Passes.{Pass, view}
@@ -7,6 +7,7 @@ use Rattle.lj_tile.specs.Task.{Task}
 use Rattle.lj_tile.specs.declared.task_name.TaskName.{TaskName}
 use Rattle.lj_pool.specs.Seen.{Seen}
 use Rattle.lj_queue.specs.declared.open_task.OpenTask.{OpenTask}
+use Rattle.lj_queue.specs.declared.kept_boxes.TheConstants.{MAX_SPARE_BOXES}
 use Rattle.lj_queue.specs.declared.rule.PassHistory.{PassHistory}
 use Rattle.lj_queue.specs.Balance.{all_parts, history_of, Leaves}
 
@@ -72,8 +73,8 @@ pub record QueueBlank : Type 0 where
   pub parts : ℕ
   pub table : TableId
 
--- an end of a pool: what it has seen, its pass, its number, its user, the task of the result that it shows, and those of the
--- results in hand
+-- an end of a pool: what it has seen, its pass, its number, its user, the task of the result that it shows, those of the
+-- results in hand, and the number of boxes that it has for tasks
 pub record QueueEnd : Type 0 where
   pub seen : Seen
   pub pass : PoolPass
@@ -81,11 +82,26 @@ pub record QueueEnd : Type 0 where
   pub user : ℕ
   pub last : Task
   pub hand : List Task
+  pub boxes : ℕ
 
 -- It is the same end, by its number and its user.
 pub record IsSameEnd (old new : QueueEnd) : Type 0 where
   pub number : new.number ≡ old.number
   pub user : new.user ≡ old.user
+
+-- An end pushed this task and nothing else, and lost one box at most: that of the task.
+pub record HasPushed (task : Task) (old new : QueueEnd) : Type 0 where
+  pub pass : new.pass ≡ with_push old.pass (open_task_of old.number old.user task)
+  pub same_end : IsSameEnd old new
+  pub hand : new.hand ≡ old.hand
+  pub one_box : old.boxes ≤ MAX_SPARE_BOXES → old.boxes ≤ new.boxes + 1
+
+-- An end pushed nothing, and lost no box.
+pub record HasPushedNothing (old new : QueueEnd) : Type 0 where
+  pub pass : new.pass ≡ old.pass
+  pub same_end : IsSameEnd old new
+  pub hand : new.hand ≡ old.hand
+  pub box_kept : old.boxes ≤ MAX_SPARE_BOXES → old.boxes ≤ new.boxes
 
 -- the name of no queue
 abbrev pub no_table : TableId

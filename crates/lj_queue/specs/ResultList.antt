@@ -1,5 +1,5 @@
 -- The list of a user's results.
-use Rattle.std.specs.Prelude.{◌≡◌, ℕ, ◌≤◌, List, [], ◌∷◌, ◌++◌}
+use Rattle.std.specs.Prelude.{◌≡◌, ℕ, ◌≤◌, ◌<◌, Bool, true, false, length, List, [], ◌∷◌, ◌++◌}
 use Rattle.std.specs.List.{All}
 use Rattle.std.specs.Global.{Global}
 use Rattle.std.specs.VecDeque.{deque_len, deque_capacity}
@@ -29,3 +29,9 @@ pub record HasPlaces (user : ℕ) (results : VecDeque Task Global) : Type 0 wher
   pub most : deque_len results ≤ MAX_RESULTS
   pub places : MAX_RESULTS ≤ deque_capacity results
   pub whose : All (λ done. done.name.label.user ≡ user) results.items
+
+-- Where results of this user were fetched, there are some in the list; else it is as it was.
+pub record Fetches (user : ℕ) (fetched : Bool) (old new : ResultList) : Type 0 where
+  pub whose : new.user ≡ user
+  pub some : fetched ≡ true → 0 < length new.results
+  pub stays_empty : fetched ≡ false → new ≡ old

@@ -1,7 +1,9 @@
 //! A pool of workers whose open tasks lie in a queue that no lock guards.
 #![tactic(auto)]
 
+mod kept_boxes;
 mod mailboxes;
+mod no_room;
 mod open_task;
 mod pass;
 mod poster;

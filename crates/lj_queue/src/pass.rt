@@ -1,13 +1,15 @@
 //! Passes of the queue of open tasks, with counts of pushes and pops.
 ghost use Rattle.std.specs.Prelude.{◌≡◌, ◌-◌, ◌^◌, ℕ, length, OnErr, OnOk, IfErr, IfNone, IfSome};
 ghost use Rattle.atomic_table.specs.Seated.{TableId};
+ghost use Rattle.lj_queue.specs.NoRoom.{IsCause};
 ghost use Rattle.lj_queue.specs.PoolPass.{IsCounted, with_push, with_pop, pass_of};
 
+use crate::kept_boxes::KeptBoxes;
+use crate::no_room::NoRoom;
 use crate::open_task::OpenTask;
 use crate::result_list::ResultList;
 use crate::rule::{OpenTasks, Popped, Pushed, TaskPass};
-use arrayvec::ArrayVec;
-use lj_book::{DoneBox, TaskBox};
+use lj_book::DoneBox;
 use std::alloc::{AllocError, Global};
 use std::marker::{Brand, Model, PhantomData};
 use std::sync::Wait;
@@ -27,6 +29,28 @@ impl PoolIdentity for Brand {
     ghost table = { no_table };
 
     ghost passes = { 0 };
+}
+
+/// That the queue handed a task back. Only `CountedPass::push` makes one, at a push that the queue refused.
+#[derive(Clone, Copy, PartialEq, Eq, Debug)]
+pub(crate) struct RefusedPush {
+    /// The number of tasks that the pass had pushed before.
+    pushed: u64,
+}
+
+/// A task that was not pushed, and why.
+#[derive(Drop)]
+pub(crate) struct NotPushed {
+    pub(crate) ticket: OpenTask,
+    pub(crate) cause: NoRoom,
+}
+
+impl From<NotPushed> for OpenTask {
+    ghost from_gives = { λ refused ticket. ticket ≡ refused.ticket };
+
+    fn from(refused: NotPushed) -> OpenTask {
+        refused.ticket
+    }
 }
 
 /// A pass of the queue that counts what it pushes and pops, up to 2^64 - 1 tasks each.
@@ -64,24 +88,39 @@ impl<L: PoolIdentity> CountedPass<L> {
         }
     }
 
-    /// Pushes a task. Hands it back where there is no room, or 2^64 - 1 were pushed.
+    /// Pushes a task.
+    ///
+    /// # Errors
+    /// The task, where there is no room, or 2^64 - 1 were pushed.
     pub(crate) fn push<R: Wait>(
         &mut self,
         rt: &R,
         queue: &OpenTasks,
         ticket: OpenTask,
-    ) -> Result<(), OpenTask>
+    ) -> Result<(), NotPushed>
         requires { queue.now.table.shared.table_id ≡ L.table }
         ensures pushed { OnOk result (self.new ≡ with_push self.old ticket) }
         ensures unchanged { OnErr result (self.new ≡ self.old) }
-        ensures handed_back { IfErr result (λ refused. refused ≡ ticket) }
+        ensures handed_back { IfErr result (λ refused. refused.ticket ≡ ticket) }
+        ensures cause { IfErr result (λ refused. IsCause refused.cause 1 (length self.old.pushed)) }
     {
         if self.pushed == u64::MAX {
-            return Err(ticket);
+            return Err(NotPushed {
+                ticket,
+                cause: NoRoom::PassSpent,
+            });
         }
-        queue.push_as::<Pushed, R>(rt, &mut self.pass, ticket)?;
-        self.pushed += 1;
-        Ok(())
+        let Err(ticket) = queue.push_as::<Pushed, R>(rt, &mut self.pass, ticket) else {
+            self.pushed += 1;
+            return Ok(());
+        };
+        let refused = RefusedPush {
+            pushed: self.pushed,
+        };
+        Err(NotPushed {
+            ticket,
+            cause: NoRoom::QueueFull(refused),
+        })
     }
 
     /// Pops a task. None where there is none, or 2^64 - 1 were popped.
@@ -99,16 +138,13 @@ impl<L: PoolIdentity> CountedPass<L> {
     }
 }
 
-/// The most boxes that a pass keeps for tasks that it posts.
-pub const MAX_SPARE_BOXES: usize = 16;
-
 /// The boxes of one thread: that of the result it shows, those of the results in hand, and spare ones for the tasks that it posts
 /// next, last in, first out.
 #[derive(Drop)]
 pub(crate) struct PassBoxes {
     pub(crate) last: DoneBox,
     pub(crate) hand: ResultList,
-    pub(crate) spare: ArrayVec<Option<TaskBox>, MAX_SPARE_BOXES>,
+    pub(crate) spare: KeptBoxes,
 }
 
 impl PassBoxes {
@@ -120,7 +156,7 @@ impl PassBoxes {
         Ok(PassBoxes {
             last: DoneBox::new(alloc)?,
             hand: ResultList::new(alloc, 0)?,
-            spare: ArrayVec::new(),
+            spare: KeptBoxes::new(),
         })
     }
 }

@@ -1,10 +1,14 @@
 //! One connection's end of a pool with a queue.
-ghost use Rattle.std.specs.Prelude.{◌≡◌, ◌<◌, ◌↔◌, [], ◌∷◌, true, false, length, IfErr, IsTrue, OnErr, OnOk, ⊤};
+ghost use Rattle.std.specs.Prelude.{◌≡◌, ◌+◌, ◌<◌, ◌≤◌, ◌↔◌, [], ◌∷◌, true, false, length, IfErr, IsTrue, OnErr, OnOk, ⊤};
 ghost use Rattle.lj_pool.specs.declared.pool.NotPosted.TheVariants.{Closed};
 ghost use Rattle.lj_pool.specs.Accounts.{IsKnownByName};
 ghost use Rattle.lj_pool.specs.Seen.{IsHandedOut, IsPosted, SameOwed, StaysClosed, nothing_seen};
-ghost use Rattle.lj_queue.specs.PoolPass.{IsSameEnd, with_push, open_task_of};
+ghost use Rattle.lj_queue.specs.declared.no_room.PostFault.TheVariants.{Closed as PoolClosed};
+ghost use Rattle.lj_queue.specs.NoRoom.{IsCauseOf};
+ghost use Rattle.lj_queue.specs.PoolPass.{HasPushed, HasPushedNothing, IsSameEnd};
 
+use crate::kept_boxes::MAX_SPARE_BOXES;
+use crate::no_room::PostFault;
 use crate::pass::{PassBoxes, PoolIdentity, PoolPass};
 use crate::poster::Poster;
 use crate::queue_pool::QueuePool;
@@ -35,6 +39,8 @@ pub struct QueueEnd<'p, L: PoolIdentity, R: Wait> {
 }
 
 impl<'p, L: PoolIdentity, R: Wait> Model for QueueEnd<'p, L, R> {
+    ghost use Rattle.std.specs.Prelude.{◌+◌};
+    ghost use Rattle.lj_queue.specs.NoRoom.{boxes_in};
     ghost use Rattle.lj_queue.specs.PoolPass.{QueueEnd};
 
     ghost Value = { QueueEnd };
@@ -46,6 +52,7 @@ impl<'p, L: PoolIdentity, R: Wait> Model for QueueEnd<'p, L, R> {
       user = end.poster.user;
       last = end.boxes.last;
       hand = end.boxes.hand.results;
+      boxes = end.boxes.spare + boxes_in end.poster.next;
     } };
 }
 
@@ -111,20 +118,18 @@ impl<'p, L: PoolIdentity, R: Wait> Pool for QueueEnd<'p, L, R> {
 
     fn post_from(&mut self, task: &Task, wait: bool) -> Result<(), NotPosted>
         requires room { length self.old.seen.owed < MAX_OWED }
-        ensures pushed { let ticket = open_task_of self.old.number self.old.user task.now in
-            OnOk result (self.new.pass ≡ with_push self.old.pass ticket) }
-        ensures nothing { OnErr result (self.new.pass ≡ self.old.pass) }
-        ensures same_end { IsSameEnd self.old self.new }
-        ensures hand { self.new.hand ≡ self.old.hand }
+        ensures pushed { OnOk result (HasPushed task.now self.old self.new) }
+        ensures nothing { OnErr result (HasPushedNothing self.old self.new) }
         ensures posted { OnOk result (IsPosted task.now self.old.seen self.new.seen) }
         ensures unchanged { OnErr result (SameOwed self.old.seen self.new.seen) }
         ensures full { wait ≡ true → IfErr result (λ why. why ≡ Closed) }
         ensures closed { IfErr result (λ why. why ≡ Closed → self.new.seen.closed ≡ true) }
         ensures stays_closed { StaysClosed self.old.seen self.new.seen }
     {
-        self.take_next();
-        let posted = self.pool.post(self.rt, &mut self.poster, task, wait);
-        self.keep_next();
+        let posted = match self.push(task, wait) {
+            Ok(()) => Ok(()),
+            Err(fault) => Err(NotPosted::from(fault)),
+        };
         self.account.note_post(task, posted);
         if posted.is_ok() {
             self.unsignalled.note_posted();
@@ -137,6 +142,7 @@ impl<'p, L: PoolIdentity, R: Wait> Pool for QueueEnd<'p, L, R> {
         ensures pass { self.new.pass ≡ self.old.pass }
         ensures same_end { IsSameEnd self.old self.new }
         ensures whose { result ≡ true → self.new.last.name.label.user ≡ self.old.user }
+        ensures boxes { self.old.boxes ≤ self.new.boxes }
         ensures in_hand { result ≡ true → 0 < length self.old.hand
             → self.old.hand ≡ self.new.last ∷ self.new.hand }
         ensures unchanged { SameOwed self.old.seen self.new.seen }
@@ -171,6 +177,7 @@ impl<'p, L: PoolIdentity, R: Wait> Pool for QueueEnd<'p, L, R> {
         ensures unchanged { SameOwed self.old.seen self.new.seen }
         ensures stays_closed { StaysClosed self.old.seen self.new.seen }
         ensures whose { result ≡ true → self.new.last.name.label.user ≡ self.old.user }
+        ensures boxes { self.old.boxes ≤ self.new.boxes }
         ensures in_hand { result ≡ true → 0 < length self.old.hand
             → self.old.hand ≡ self.new.last ∷ self.new.hand }
     {
@@ -210,6 +217,14 @@ impl<'p, L: PoolIdentity, R: Wait> Pool for QueueEnd<'p, L, R> {
 
     fn is_full(&self) -> bool {
         self.account.is_full()
+    }
+
+    fn room(&self) -> usize
+        ensures all { length self.now.seen.owed + result ≡ MAX_OWED }
+        ensures none { result ≡ 0 ↔ (length self.now.seen.owed ≡ MAX_OWED) }
+        ensures within { 0 < result → length self.now.seen.owed + result ≤ MAX_OWED }
+    {
+        MAX_OWED - self.account.owed()
     }
 
     fn closed(&self) -> bool {
@@ -258,7 +273,9 @@ impl<'p, L: PoolIdentity, R: Wait> QueueEnd<'p, L, R> {
         ensures some { IsTrue result ↔ (0 < length self.old.hand) }
         ensures next { result ≡ true → self.old.hand ≡ self.new.last ∷ self.new.hand }
         ensures whose { result ≡ true → self.new.last.name.label.user ≡ self.old.user }
-        ensures unchanged { self.new ≡ record self.old { last = self.new.last; hand = self.new.hand } }
+        ensures boxes { self.old.boxes < MAX_SPARE_BOXES → result ≡ true → self.new.boxes ≡ self.old.boxes + 1 }
+        ensures never_fewer { self.old.boxes ≤ self.new.boxes }
+        ensures unchanged { self.new ≡ record self.old { last = self.new.last; hand = self.new.hand; boxes = self.new.boxes } }
         ensures none { result ≡ false → self.new ≡ self.old }
     {
         let Some(first) = self.boxes.hand.pop(self.poster.user) else {
@@ -269,16 +286,26 @@ impl<'p, L: PoolIdentity, R: Wait> QueueEnd<'p, L, R> {
         true
     }
 
-    /// Takes one of the boxes that it keeps for the next task.
-    fn take_next(&mut self)
-        ensures { self.new ≡ self.old }
+    /// Posts a task in one of the boxes that it keeps, or in a spare one of the pool.
+    fn push(&mut self, task: &Task, wait: bool) -> Result<(), PostFault>
+        ensures pushed { OnOk result (HasPushed task.now self.old self.new) }
+        ensures nothing { OnErr result (HasPushedNothing self.old self.new) }
+        ensures unchanged { self.new ≡ record self.old { pass = self.new.pass; boxes = self.new.boxes } }
+        ensures cause { IfErr result (λ fault. IsCauseOf fault self.old.boxes (length self.old.pass.pushed)) }
+        ensures full { wait ≡ true → IfErr result (λ fault. fault ≡ PoolClosed) }
     {
-        self.poster.next = self.boxes.spare.pop().flatten();
+        if self.poster.next.is_none() {
+            self.poster.next = self.boxes.spare.pop();
+        }
+        let posted = self.pool.post(self.rt, &mut self.poster, task, wait);
+        self.keep_next();
+        posted
     }
 
     /// Keeps the box for the next task if the post has left it.
     fn keep_next(&mut self)
-        ensures { self.new ≡ self.old }
+        ensures kept { self.old.boxes ≤ MAX_SPARE_BOXES → self.new.boxes ≡ self.old.boxes }
+        ensures unchanged { self.new ≡ record self.old { boxes = self.new.boxes } }
     {
         if let Some(unused) = self.poster.next.take() {
             self.reuse(unused);
@@ -287,12 +314,12 @@ impl<'p, L: PoolIdentity, R: Wait> QueueEnd<'p, L, R> {
 
     /// Keeps a box for a later task, or returns it to the pool if the end has enough.
     fn reuse(&mut self, spare: TaskBox)
-        ensures { self.new ≡ self.old }
+        ensures kept { self.old.boxes < MAX_SPARE_BOXES → self.new.boxes ≡ self.old.boxes + 1 }
+        ensures never_fewer { self.old.boxes ≤ self.new.boxes }
+        ensures unchanged { self.new ≡ record self.old { boxes = self.new.boxes } }
     {
-        if self.boxes.spare.is_full() {
+        if let Err(spare) = self.boxes.spare.push(spare) {
             self.pool.spares.put_by(self.rt, spare);
-        } else {
-            self.boxes.spare.push(Some(spare));
         }
     }
 

@@ -2,13 +2,15 @@
 ghost use Rattle.std.specs.Prelude.{◌≡◌, ◌+◌, ◌≤◌, ◌<◌, None, Some, true, false, ℕ, length, vec_len, slice_index_or, IfErr, IfNone, IfOk, IfSome, IsSomeAnd, OnErr, OnOk};
 ghost use Rattle.std.specs.List.{All};
 ghost use Rattle.lj_pool.specs.Seen.{nothing_seen};
-ghost use Rattle.lj_pool.specs.declared.pool.NotPosted.TheVariants.{Closed};
-ghost use Rattle.lj_queue.specs.ResultList.{empty_list};
+ghost use Rattle.lj_queue.specs.declared.no_room.PostFault.TheVariants.{Closed};
+ghost use Rattle.lj_queue.specs.NoRoom.{IsCause, IsCauseOf, boxes_in};
+ghost use Rattle.lj_queue.specs.ResultList.{Fetches, empty_list};
 ghost use Rattle.lj_queue.specs.PoolPass.{IsRootPass, with_post, with_push, with_pop, untouched_pass};
 
 use crate::mailboxes::Mailboxes;
+use crate::no_room::{NoRoom, PostFault};
 use crate::open_task::OpenTask;
-use crate::pass::{CountedPass, PoolIdentity, PoolPass};
+use crate::pass::{CountedPass, NotPushed, PoolIdentity, PoolPass};
 use crate::poster::Poster;
 use crate::queue_end::QueueEnd;
 use crate::result_list::ResultList;
@@ -16,7 +18,7 @@ use crate::root_pass::{RootPass, passes_of};
 use crate::rule::{OpenTasks, TaskPass};
 use crate::spares::Spares;
 use lj_book::{DoneBox, MAX_ENTRIES, TaskBox};
-use lj_pool::{MAX_ENDS, NotPosted, Share, WAIT_QUEUES, shares_of, wait_queue_of};
+use lj_pool::{MAX_ENDS, Share, WAIT_QUEUES, shares_of, wait_queue_of};
 use lj_tile::Task;
 use std::alloc::{AllocError, Global};
 use std::array;
@@ -182,35 +184,41 @@ impl<L: PoolIdentity> QueuePool<L> {
         poster: &mut Poster<L>,
         task: &Task,
         wait: bool,
-    ) -> Result<(), NotPosted>
+    ) -> Result<(), PostFault>
         ensures pushed { OnOk result (poster.new ≡ record (with_post poster.old task.now) { next = poster.new.next }) }
         ensures nothing { OnErr result (poster.new ≡ record poster.old { next = poster.new.next }) }
-        ensures full { wait ≡ true → IfErr result (λ why. why ≡ Closed) }
+        ensures box_kept { OnErr result (boxes_in poster.old.next ≤ boxes_in poster.new.next) }
+        ensures cause { IfErr result (λ fault. IsCauseOf fault (boxes_in poster.old.next) (length poster.old.pass.pushed)) }
+        ensures full { wait ≡ true → IfErr result (λ fault. fault ≡ Closed) }
     {
         if self.is_closed() {
-            return Err(NotPosted::Closed);
+            return Err(PostFault::Closed);
         }
-        if self.try_post(rt, poster, task) {
-            Ok(())
-        } else if wait {
-            self.post_later(rt, poster, task)
-        } else {
-            Err(NotPosted::Full)
+        match self.try_post(rt, poster, task) {
+            Ok(()) => Ok(()),
+            Err(_) if wait => self.post_later(rt, poster, task),
+            Err(cause) => Err(PostFault::NoRoom(cause)),
         }
     }
 
-    /// Posts a task in the next box of the poster or a spare one. Returns whether there was room.
-    fn try_post<R: Wait>(&self, rt: &R, poster: &mut Poster<L>, task: &Task) -> bool
-        ensures pushed { result ≡ true → poster.new ≡ record (with_post poster.old task.now) { next = poster.new.next } }
-        ensures nothing { result ≡ false → poster.new ≡ record poster.old { next = poster.new.next } }
+    /// Posts a task in the next box of the poster or a spare one. Fails where there is no room.
+    fn try_post<R: Wait>(&self, rt: &R, poster: &mut Poster<L>, task: &Task) -> Result<(), NoRoom>
+        ensures pushed { OnOk result (poster.new ≡ record (with_post poster.old task.now) { next = poster.new.next }) }
+        ensures nothing { OnErr result (poster.new ≡ record poster.old { next = poster.new.next }) }
+        ensures box_kept { OnErr result (boxes_in poster.old.next ≤ boxes_in poster.new.next) }
+        ensures cause { IfErr result (λ cause. IsCause cause (boxes_in poster.old.next) (length poster.old.pass.pushed)) }
     {
-        self.fill(rt, task, &mut poster.next) && self.push_next(rt, poster)
+        if !self.fill(rt, task, &mut poster.next) {
+            return Err(NoRoom::NoBox);
+        }
+        self.push_next(rt, poster)
     }
 
     /// Copies a task into the next box; where there is none, takes a spare one for it. Returns false if none is spare either.
     fn fill<R: Wait>(&self, rt: &R, task: &Task, next: &mut Option<TaskBox>) -> bool
         ensures filled { result ≡ true → next.new ≡ Some task.now }
         ensures none { result ≡ false → next.old ≡ None }
+        ensures unchanged { result ≡ false → next.new ≡ None }
     {
         if next.is_none() {
             *next = self.spares.take(rt);
@@ -224,25 +232,26 @@ impl<L: PoolIdentity> QueuePool<L> {
         }
     }
 
-    /// Pushes the task in the next box of the poster. Returns whether there was room; if not, the box stays.
-    fn push_next<R: Wait>(&self, rt: &R, poster: &mut Poster<L>) -> bool
-        ensures pushed { result ≡ true → IsSomeAnd poster.old.next
-            (λ task. poster.new ≡ record (with_post poster.old task) { next = poster.new.next }) }
-        ensures stays { result ≡ false → poster.new ≡ poster.old }
+    /// Pushes the task in the next box of the poster. If there is no room, the box stays.
+    fn push_next<R: Wait>(&self, rt: &R, poster: &mut Poster<L>) -> Result<(), NoRoom>
+        ensures pushed { OnOk result (IsSomeAnd poster.old.next
+            (λ task. poster.new ≡ record (with_post poster.old task) { next = poster.new.next })) }
+        ensures stays { OnErr result (poster.new ≡ poster.old) }
+        ensures cause { IfErr result (λ cause. IsCause cause (boxes_in poster.old.next) (length poster.old.pass.pushed)) }
     {
         let Some(task) = poster.next.take() else {
-            return false;
+            return Err(NoRoom::NoBox);
         };
         let ticket = OpenTask {
             end: poster.end,
             user: poster.user,
             task,
         };
-        let Err(refused) = poster.counted.push(rt, &self.queue, ticket) else {
-            return true;
+        let Err(NotPushed { ticket, cause }) = poster.counted.push(rt, &self.queue, ticket) else {
+            return Ok(());
         };
-        poster.next = Some(refused.task);
-        false
+        poster.next = Some(ticket.task);
+        Err(cause)
     }
 
     /// Waits for room, and then posts a task. Fails only where the pool is closed.
@@ -251,19 +260,20 @@ impl<L: PoolIdentity> QueuePool<L> {
         rt: &R,
         poster: &mut Poster<L>,
         task: &Task,
-    ) -> Result<(), NotPosted>
+    ) -> Result<(), PostFault>
         ensures pushed { OnOk result (poster.new ≡ record (with_post poster.old task.now) { next = poster.new.next }) }
         ensures nothing { OnErr result (poster.new ≡ record poster.old { next = poster.new.next }) }
-        ensures closed { IfErr result (λ why. why ≡ Closed) }
+        ensures box_kept { OnErr result (boxes_in poster.old.next ≤ boxes_in poster.new.next) }
+        ensures closed { IfErr result (λ fault. fault ≡ Closed) }
     {
         let mut mailboxes = self.mailboxes.lock(rt);
         self.waiting_posters.fetch_add(1, Ordering::SeqCst);
         for _ in rt.forever() {
             if mailboxes.is_closed() {
                 self.waiting_posters.fetch_sub(1, Ordering::SeqCst);
-                return Err(NotPosted::Closed);
+                return Err(PostFault::Closed);
             }
-            if self.try_post(rt, poster, task) {
+            if self.try_post(rt, poster, task).is_ok() {
                 self.waiting_posters.fetch_sub(1, Ordering::SeqCst);
                 return Ok(());
             }
@@ -405,9 +415,7 @@ impl<L: PoolIdentity> QueuePool<L> {
         hand: &mut ResultList,
     ) -> bool
         requires { hand.old ≡ empty_list user }
-        ensures whose { hand.new.user ≡ user }
-        ensures some { result ≡ true → 0 < length hand.new.results }
-        ensures stays_empty { result ≡ false → hand.new ≡ hand.old }
+        ensures { Fetches user result hand.old hand.new }
     {
         let mut mailboxes = self.mailboxes.lock(rt);
         for _ in rt.forever() {
@@ -425,9 +433,7 @@ impl<L: PoolIdentity> QueuePool<L> {
     /// the pool is closed.
     pub(crate) fn poll<R: Wait>(&self, rt: &R, user: u8, hand: &mut ResultList) -> bool
         requires { hand.old ≡ empty_list user }
-        ensures whose { hand.new.user ≡ user }
-        ensures some { result ≡ true → 0 < length hand.new.results }
-        ensures stays_empty { result ≡ false → hand.new ≡ hand.old }
+        ensures { Fetches user result hand.old hand.new }
     {
         self.mailboxes.lock(rt).hand_out(user, hand)
     }

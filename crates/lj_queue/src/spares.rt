@@ -2,7 +2,7 @@
 ghost use Rattle.std.specs.Prelude.{◌≡◌};
 ghost use Rattle.lj_queue.specs.ResultList.{empty_list};
 
-use crate::pass::MAX_SPARE_BOXES;
+use crate::kept_boxes::MAX_SPARE_BOXES;
 use crate::queue_pool::{CONNECTIONS, MAX_OPEN_TASKS};
 use crate::result_list::{MAX_RESULTS, ResultList};
 use crossbeam_queue::ArrayQueue;

@@ -1,0 +1,30 @@
+-- Why a task was not posted to a pool with a queue.
+use Rattle.std.specs.Prelude.{◌≡◌, ◌-◌, ◌^◌, ⊤, ℕ, Option, cond, is_some}
+use Rattle.lj_tile.specs.Task.{Task}
+use Rattle.lj_pool.specs.declared.pool.NotPosted.{NotPosted}
+use Rattle.lj_pool.specs.declared.pool.NotPosted.TheVariants.{Closed, Full}
+use Rattle.lj_queue.specs.declared.no_room.NoRoom.{NoRoom as Cause}
+use Rattle.lj_queue.specs.declared.no_room.NoRoom.TheVariants.{NoBox, PassSpent, QueueFull}
+use Rattle.lj_queue.specs.declared.no_room.PostFault.{PostFault}
+use Rattle.lj_queue.specs.declared.no_room.PostFault.TheVariants.{NoRoom, Closed as PoolClosed}
+
+-- the number of boxes in a place for one
+abbrev pub boxes_in : Option Task → ℕ
+boxes_in place = cond (is_some place) 1 0
+
+-- There was this cause for one who had so many boxes, and whose pass had pushed so many tasks: no box, a pass that has pushed all that
+-- it may, or a queue that handed a task back at the next push.
+abbrev pub IsCause : Cause → ℕ → ℕ → Type 0
+IsCause NoBox boxes pushed = boxes ≡ 0
+IsCause PassSpent boxes pushed = pushed ≡ 2 ^ 64 - 1
+IsCause (QueueFull refused) boxes pushed = refused.pushed ≡ pushed
+
+-- the pool is closed, or there was this cause
+abbrev pub IsCauseOf : PostFault → ℕ → ℕ → Type 0
+IsCauseOf (NoRoom cause) boxes pushed = IsCause cause boxes pushed
+IsCauseOf PoolClosed boxes pushed = ⊤
+
+-- what the caller is told: the pool is closed, or full
+abbrev pub reason_of : PostFault → NotPosted
+reason_of (NoRoom cause) = Full
+reason_of PoolClosed = Closed
