@@ -1,5 +1,5 @@
 -- The passes of a pool with a queue, and its ends.
-use Rattle.std.specs.Prelude.{◌≡◌, ℕ, ◌+◌, ◌-◌, ◌<◌, ◌≤◌, ◌^◌, List, [], ◌∷◌, ◌++◌, Option, length}
+use Rattle.std.specs.Prelude.{◌≡◌, ℕ, ◌+◌, ◌-◌, ◌<◌, ◌≤◌, ◌^◌, List, [], ◌∷◌, ◌++◌, Option, length, slice_index_or}
 use Rattle.std.specs.List.{All}
 use Rattle.atomic_table.specs.Seated.{TableId}
 use Rattle.crossbeam_queue.specs.Passes.{Pass, view}
@@ -24,6 +24,10 @@ pub record PoolPass : Type 0 where
 -- a pass that has pushed and popped nothing
 abbrev pub untouched_pass : ℕ → PoolPass
 untouched_pass number = record { number = number; pushed = []; popped = [] }
+
+-- each of the first `count` passes has its index as its number, and has pushed and popped nothing
+abbrev pub AreUntouched : ℕ → List PoolPass → Type 0
+AreUntouched count passes = (i : ℕ) → i < count → slice_index_or passes i (untouched_pass 0) ≡ untouched_pass i
 
 -- one more open task was pushed
 abbrev pub with_push : PoolPass → OpenTask → PoolPass

@@ -1,8 +1,8 @@
 //! The state under the lock of a pool: results for its users, and the ledger's book of all results.
-ghost use Rattle.std.specs.Prelude.{◌≡◌, ◌+◌, ◌-◌, ◌<◌, ◌^◌, ◌↔◌, [], None, Some, length, replicate, true, false, vec_len, IfErr, IfNone, IfOk, IfSome, IsOk, IsTrue, OnErr, OnOk};
+ghost use Rattle.std.specs.Prelude.{◌≡◌, ◌+◌, ◌-◌, ◌<◌, ◌^◌, ◌↔◌, [], None, Some, length, true, false, unwrap_or, vec_len, IfErr, IfNone, IfOk, IfSome, IsOk, IsTrue, OnErr, OnOk};
 ghost use Rattle.std.specs.List.{All};
-ghost use Rattle.lj_queue.specs.ResultList.{empty_list, with_last};
-ghost use Rattle.lj_queue.specs.Mailboxes.{mailbox_of, list_of, present_of, with_list};
+ghost use Rattle.lj_queue.specs.ResultList.{empty_list};
+ghost use Rattle.lj_queue.specs.Mailboxes.{mailbox_of, list_of, new_mailboxes, present_of, with_end, with_result, without_results};
 ghost use Rattle.lj_queue.specs.declared.mailboxes.TheConstants.{USERS};
 
 use crate::result_list::{MAX_RESULTS, ResultList};
@@ -10,6 +10,7 @@ use crate::spares::Spares;
 use lj_book::DoneBox;
 use lj_pool::{Share, WAIT_QUEUES, WaitQueues};
 use std::alloc::{AllocError, Global};
+use std::marker::Model;
 use std::mem;
 use std::sync::Wait;
 use std::sync::ledger::{self, Ledger};
@@ -39,19 +40,34 @@ pub(crate) struct Mailboxes<L: Ledger> {
     /// The queues in which ends wait for results.
     pub(crate) wait_queues: WaitQueues,
     closed: bool,
-    ghost counted: { given ≡ results.total },
-    ghost lists_are: { vec_len lists ≡ USERS },
+}
+
+impl<L: Ledger> Model for Mailboxes<L> {
+    ghost use Rattle.std.specs.Prelude.{◌≡◌, vec_len};
+    ghost use Rattle.lj_queue.specs.Mailboxes.{Mailboxes};
+    ghost use Rattle.lj_queue.specs.declared.mailboxes.TheConstants.{USERS};
+
+    ghost Value = { Mailboxes };
+
+    ghost view = { λ m. record {
+      lists = m.lists.items;
+      present = m.present;
+      last = m.last;
+      given = m.given;
+      wait_queues = m.wait_queues;
+      closed = m.closed;
+    } };
+
+    ghost invariant = { λ m. (m.given ≡ m.results.total) × (vec_len m.lists ≡ USERS) };
 }
 
 impl<L: Ledger> Mailboxes<L> {
     /// Makes open mailboxes without results, where no user has an end.
     pub(crate) fn new(alloc: Global, results: ledger::Book<L>) -> Result<Mailboxes<L>, AllocError>
         requires { results.total ≡ 0 }
-        ensures lists { IfOk result (λ mailboxes. All (λ list. list.results ≡ []) mailboxes.lists.items) }
-        ensures present { IfOk result (λ mailboxes. mailboxes.present ≡ replicate USERS None) }
-        ensures last { IfOk result (λ mailboxes. mailboxes.last ≡ 0) }
-        ensures wait_queues { IfOk result (λ mailboxes. mailboxes.wait_queues ≡ replicate WAIT_QUEUES 0) }
-        ensures open { IfOk result (λ mailboxes. mailboxes.closed ≡ false) }
+        ensures value { IfOk result (λ mailboxes. mailboxes ≡ new_mailboxes mailboxes.lists) }
+        ensures count { IfOk result (λ mailboxes. length mailboxes.lists ≡ USERS) }
+        ensures empty { IfOk result (λ mailboxes. All (λ list. list.results ≡ []) mailboxes.lists) }
     {
         Ok(Mailboxes {
             lists: empty_lists(alloc)?,
@@ -68,14 +84,9 @@ impl<L: Ledger> Mailboxes<L> {
     /// Returns the new number, which no end had before. None after 2^64 - 1 ends: then the user has no present end.
     pub(crate) fn enter<R: Wait>(&mut self, rt: &R, user: u8, spares: &Spares) -> Option<u64>
         ensures number { IfSome result (λ number. number ≡ self.old.last + 1) }
-        ensures last { IfSome result (λ number. self.new.last ≡ number) }
         ensures none { IfNone result (self.old.last ≡ 2 ^ 64 - 1) }
-        ensures stays_last { IfNone result (self.new.last ≡ self.old.last) }
-        ensures present { self.new.present ≡ with_list self.old.present user result }
-        ensures lists { self.new.lists.items ≡ with_list self.old.lists.items user (empty_list user) }
-        ensures wait_queues { self.new.wait_queues ≡ self.old.wait_queues }
-        ensures given { self.new.given ≡ self.old.given }
-        ensures stays { self.new.closed ≡ self.old.closed }
+        ensures entered { self.new
+            ≡ record (with_end self.old user result) { last = unwrap_or result self.old.last } }
     {
         let number = self.last.checked_add(1);
         self.last = self.last.saturating_add(1);
@@ -86,12 +97,7 @@ impl<L: Ledger> Mailboxes<L> {
 
     /// Drops the user's results, adds their boxes to the spare ones, and removes the present end.
     pub(crate) fn withdraw<R: Wait>(&mut self, rt: &R, user: u8, spares: &Spares)
-        ensures present { self.new.present ≡ with_list self.old.present user None }
-        ensures lists { self.new.lists.items ≡ with_list self.old.lists.items user (empty_list user) }
-        ensures last { self.new.last ≡ self.old.last }
-        ensures wait_queues { self.new.wait_queues ≡ self.old.wait_queues }
-        ensures given { self.new.given ≡ self.old.given }
-        ensures stays { self.new.closed ≡ self.old.closed }
+        ensures { self.new ≡ with_end self.old user None }
     {
         spares.clear(rt, &mut self.lists[mailbox_of(user)], user);
         self.present[mailbox_of(user)] = None;
@@ -116,22 +122,15 @@ impl<L: Ledger> Mailboxes<L> {
         done: DoneBox,
         share: &mut Share<L>,
     ) -> Result<(), DoneBox>
-        ensures kept { let list = list_of self.old.lists.items user in
+        ensures kept { let list = list_of self.old.lists user in
             IsOk result
             ↔ ((present_of self.old.present user ≡ Some end) × ((length list.results < MAX_RESULTS)
             × (done.name.label.user ≡ list.user)) × (self.old.given < 2 ^ 64 - 1)) }
-        ensures lists { OnOk result (self.new.lists.items
-            ≡ with_list self.old.lists.items user (with_last (list_of self.old.lists.items user) done)) }
-        ensures given { OnOk result (self.new.given ≡ self.old.given + 1) }
+        ensures given { OnOk result (self.new ≡ with_result self.old user done) }
         ensures credited { OnOk result (share.new ≡ share.old + 1) }
         ensures refused { IfErr result (λ refused. refused ≡ done) }
-        ensures dropped { OnErr result (self.new.lists.items ≡ self.old.lists.items) }
-        ensures not_given { OnErr result (self.new.given ≡ self.old.given) }
+        ensures unchanged { OnErr result (self.new ≡ self.old) }
         ensures not_credited { OnErr result (share.new ≡ share.old) }
-        ensures present { self.new.present ≡ self.old.present }
-        ensures last { self.new.last ≡ self.old.last }
-        ensures wait_queues { self.new.wait_queues ≡ self.old.wait_queues }
-        ensures stays { self.new.closed ≡ self.old.closed }
     {
         let is_present = self.is_present(end, user);
         let Mailboxes {
@@ -154,21 +153,13 @@ impl<L: Ledger> Mailboxes<L> {
     /// closed.
     pub(crate) fn hand_out(&mut self, user: u8, hand: &mut ResultList) -> bool
         requires { hand.old ≡ empty_list user }
-        ensures handed_out { result ≡ true → hand.new ≡ list_of self.old.lists.items user }
+        ensures some { let list = list_of self.old.lists user in
+            IsTrue result ↔ ((self.old.closed ≡ false) × (list.user ≡ user) × (0 < length list.results)) }
+        ensures handed_out { result ≡ true → hand.new ≡ list_of self.old.lists user }
+        ensures left { result ≡ true → self.new ≡ without_results self.old user }
         ensures whose { hand.new.user ≡ user }
-        ensures some { result ≡ true → 0 < length hand.new.results }
-        ensures lists { result ≡ true
-            → self.new.lists.items ≡ with_list self.old.lists.items user (empty_list user) }
-        ensures none { let list = list_of self.old.lists.items user in
-            result ≡ false → self.old.closed ≡ false → list.user ≡ user → list.results ≡ [] }
-        ensures unchanged { result ≡ false → self.new.lists.items ≡ self.old.lists.items }
+        ensures unchanged { result ≡ false → self.new ≡ self.old }
         ensures stays_empty { result ≡ false → hand.new ≡ hand.old }
-        ensures closed { self.old.closed ≡ true → result ≡ false }
-        ensures present { self.new.present ≡ self.old.present }
-        ensures last { self.new.last ≡ self.old.last }
-        ensures wait_queues { self.new.wait_queues ≡ self.old.wait_queues }
-        ensures given { self.new.given ≡ self.old.given }
-        ensures stays { self.new.closed ≡ self.old.closed }
     {
         if self.closed {
             return false;
@@ -183,12 +174,7 @@ impl<L: Ledger> Mailboxes<L> {
 
     /// Closes the pool.
     pub(crate) fn close(&mut self)
-        ensures closed { self.new.closed ≡ true }
-        ensures lists { self.new.lists.items ≡ self.old.lists.items }
-        ensures present { self.new.present ≡ self.old.present }
-        ensures last { self.new.last ≡ self.old.last }
-        ensures wait_queues { self.new.wait_queues ≡ self.old.wait_queues }
-        ensures given { self.new.given ≡ self.old.given }
+        ensures { self.new ≡ record self.old { closed = true } }
     {
         self.closed = true;
     }
@@ -205,12 +191,7 @@ impl<L: Ledger> Mailboxes<L> {
         requires { all.old.parts ≡ L.parts }
         ensures result { result ≡ self.old.given }
         ensures amount { result ≡ all.old.amount }
-        ensures lists { self.new.lists.items ≡ self.old.lists.items }
-        ensures present { self.new.present ≡ self.old.present }
-        ensures last { self.new.last ≡ self.old.last }
-        ensures wait_queues { self.new.wait_queues ≡ self.old.wait_queues }
-        ensures given { self.new.given ≡ self.old.given }
-        ensures stays { self.new.closed ≡ self.old.closed }
+        ensures unchanged { self.new ≡ self.old }
     {
         self.results.audit(all);
         self.given

@@ -1,11 +1,11 @@
 //! A pool whose open tasks lie in a queue that no lock guards, and whose results lie under a lock.
-ghost use Rattle.std.specs.Prelude.{◌≡◌, ◌+◌, ◌≤◌, ◌<◌, None, Some, true, false, ℕ, length, vec_len, slice_index_or, IfErr, IfNone, IfOk, IfSome, IsSomeAnd, OnErr, OnOk};
+ghost use Rattle.std.specs.Prelude.{◌≡◌, ◌+◌, ◌≤◌, ◌<◌, None, Some, true, false, length, vec_len, IfErr, IfNone, IfOk, IfSome, IsSomeAnd, OnErr, OnOk};
 ghost use Rattle.std.specs.List.{All};
 ghost use Rattle.lj_pool.specs.Seen.{nothing_seen};
 ghost use Rattle.lj_queue.specs.declared.no_room.PostFault.TheVariants.{Closed};
 ghost use Rattle.lj_queue.specs.NoRoom.{IsCause, IsCauseOf, boxes_in};
 ghost use Rattle.lj_queue.specs.ResultList.{Fetches, empty_list};
-ghost use Rattle.lj_queue.specs.PoolPass.{IsRootPass, with_post, with_push, with_pop, untouched_pass};
+ghost use Rattle.lj_queue.specs.PoolPass.{AreUntouched, IsRootPass, with_post, with_push, with_pop};
 
 use crate::mailboxes::Mailboxes;
 use crate::no_room::{NoRoom, PostFault};
@@ -113,9 +113,7 @@ impl<L: PoolIdentity> QueuePool<L> {
         requires table { blank.table ≡ L.table }
         requires passes { workers + CONNECTIONS ≡ L.passes }
         ensures passes { IfOk result (λ made. vec_len made.1 ≡ L.passes) }
-        ensures numbered { IfOk result
-            (λ made. (i : ℕ) → i < L.passes
-            → slice_index_or made.1.items i (untouched_pass 0) ≡ untouched_pass i) }
+        ensures numbered { IfOk result (λ made. AreUntouched L.passes made.1.items) }
         ensures one_each { IfOk result (λ made. vec_len made.2 ≡ workers) }
         ensures nothing { IfOk result (λ made. All (λ count. count ≡ 0) made.2.items) }
     {

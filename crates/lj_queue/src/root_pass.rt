@@ -1,6 +1,6 @@
 //! The pass that the passes of a pool are cut from.
-ghost use Rattle.std.specs.Prelude.{◌≡◌, ◌+◌, ◌-◌, ◌<◌, ◌^◌, ℕ, [], vec_len, slice_index_or, IfOk};
-ghost use Rattle.lj_queue.specs.PoolPass.{IsOf, IsRootPass, IsCounted, untouched_pass};
+ghost use Rattle.std.specs.Prelude.{◌≡◌, ◌+◌, ◌-◌, ◌^◌, [], vec_len, IfOk};
+ghost use Rattle.lj_queue.specs.PoolPass.{AreUntouched, IsOf, IsRootPass, IsCounted};
 
 use crate::pass::{CountedPass, PassBoxes, PoolIdentity, PoolPass};
 use crate::rule::{Cut, OpenTasks, TaskPass};
@@ -35,9 +35,7 @@ pub(crate) fn passes_of<L: PoolIdentity>(
     requires first { IsRootPass L.table 0 first }
     requires count { count ≡ L.passes }
     ensures count { IfOk result (λ made. vec_len made.0 ≡ L.passes) }
-    ensures numbered { IfOk result
-        (λ made. (i : ℕ) → i < L.passes
-        → slice_index_or made.0.items i (untouched_pass 0) ≡ untouched_pass i) }
+    ensures numbered { IfOk result (λ made. AreUntouched L.passes made.0.items) }
 {
     let mut first = first;
     let mut passes = Vec::with_capacity(alloc, count)?;
