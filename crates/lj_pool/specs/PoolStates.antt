@@ -1,9 +1,28 @@
 -- The state under the lock of a pool.
-use Rattle.std.specs.Prelude.{◌≡◌, ℕ, ◌+◌, ◌-◌, ◌<◌, ◌≤◌, List, [], ◌∷◌, Option, Some, None}
+use Rattle.std.specs.Prelude.{◌≡◌, ℕ, ◌+◌, ◌-◌, ◌<◌, ◌≤◌, Bool, false, List, [], ◌∷◌, Option, Some, None, replicate}
 use Rattle.lj_tile.specs.Task.{Task}
-use Rattle.lj_book.specs.Book.{BookOf, Fetches}
+use Rattle.lj_book.specs.Book.{BookOf, Fetches, IsDoneAt}
 use Rattle.lj_book.specs.Boxes.{BoxBook, Numbered, PostsBox, Slip, boxes}
+use Rattle.lj_pool.specs.declared.waking.TheConstants.{WAIT_QUEUES}
 use Rattle.lj_pool.specs.EndBoxes.{EndBoxes, TakesInHand, box_count}
+
+-- the book, the key from which the next take looks on, how many posts no worker was woken for, the wait queues, and whether it is closed
+pub record PoolState : Type 0 where
+  pub book : BoxBook
+  pub next : ℕ
+  pub unsignalled : ℕ
+  pub wait_queues : List ℕ
+  pub closed : Bool
+
+-- the state of an open pool with this book, in which no end waits
+abbrev pub open_pool : BoxBook → PoolState
+open_pool book = record {
+  book = book;
+  next = 0;
+  unsignalled = 0;
+  wait_queues = replicate WAIT_QUEUES 0;
+  closed = false;
+}
 
 -- there is a box to post in: the one at hand if one is lent, else a spare one
 abbrev pub HasBox : BoxBook → Option Task → Type 0
@@ -22,15 +41,23 @@ pub record PutsBy (old new : BoxBook) : Type 0 where
   pub lent : boxes old < old.made → new.spare ≡ old.spare + 1
   pub none : old.made ≤ boxes old → new.spare ≡ old.spare
 
+-- the user has no result in the book
+abbrev pub HasNoResult : ℕ → BookOf Numbered Slip → Type 0
+HasNoResult user held = (k : ℕ) → ¬ IsDoneAt user held k
+
 -- These results have left the book, one after the other.
 abbrev pub FetchesEach : List Task → BookOf Numbered Slip → BookOf Numbered Slip → Type 0
 FetchesEach [] old new = new ≡ old
 FetchesEach (done ∷ others) old new =
     (next : BookOf Numbered Slip) × ((key : ℕ) × Fetches old next done key) × FetchesEach others next new
 
+-- The task was posted into the book, in the box at hand if there is one, else in a spare one.
+abbrev pub PostsIn : Option Task → Task → BoxBook → BoxBook → Type 0
+PostsIn boxed work old new = (key : ℕ) × PostsBox (lending boxed old) new work key
+
 -- The task was posted into the book, in the box at hand or in a spare one.
 abbrev pub HasPosted : Task → BoxBook → BoxBook → Type 0
-HasPosted work old new = (boxed : Option Task) × (key : ℕ) × PostsBox (lending boxed old) new work key
+HasPosted work old new = (boxed : Option Task) × PostsIn boxed work old new
 
 -- These tasks were posted into the book, one after the other.
 abbrev pub PostsEach : List Task → BoxBook → BoxBook → Type 0

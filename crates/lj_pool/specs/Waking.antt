@@ -1,6 +1,6 @@
 -- When ends that wait for results are woken.
-use Rattle.std.specs.Prelude.{◌%◌, ℕ, List, slice_index_or, slice_set}
-use Rattle.lj_pool.specs.declared.waking.TheConstants.{WAIT_QUEUES}
+use Rattle.std.specs.Prelude.{◌%◌, ◌-◌, ℕ, List, cond, max, min, nat_eq, slice_index_or, slice_set}
+use Rattle.lj_pool.specs.declared.waking.TheConstants.{RESULTS_AT_ONCE, WAIT_QUEUES}
 
 -- the wait queue of a user
 abbrev pub wait_queue_of : ℕ → ℕ
@@ -13,3 +13,11 @@ due_at due user = slice_index_or due (wait_queue_of user) 0
 -- with this number for the wait queue of the user, and every other one unchanged
 abbrev pub with_due : List ℕ → ℕ → ℕ → List ℕ
 with_due due user results = slice_set due (wait_queue_of user) results
+
+-- after an end, to which `owed` results are owed, began to wait in the wait queue of the user
+abbrev pub with_waiting : List ℕ → ℕ → ℕ → List ℕ
+with_waiting due user owed = with_due due user (cond (nat_eq (due_at due user) 0) (max (min owed RESULTS_AT_ONCE) 1) 1)
+
+-- after a result was given to the user
+abbrev pub with_given : List ℕ → ℕ → List ℕ
+with_given due user = with_due due user (due_at due user - 1)

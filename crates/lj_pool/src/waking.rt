@@ -1,6 +1,6 @@
 //! Whom a pool wakes: ends that wait for results, and workers that wait for tasks.
-ghost use Rattle.std.specs.Prelude.{◌≡◌, ◌+◌, ◌-◌, ◌<◌, ◌^◌, ◌↔◌, cond, max, min, nat_eq, nat_lt, replicate, IsTrue};
-ghost use Rattle.lj_pool.specs.Waking.{wait_queue_of, due_at, with_due};
+ghost use Rattle.std.specs.Prelude.{◌≡◌, ◌+◌, ◌-◌, ◌<◌, ◌^◌, ◌↔◌, cond, min, nat_lt, replicate, IsTrue};
+ghost use Rattle.lj_pool.specs.Waking.{wait_queue_of, due_at, with_given, with_waiting};
 
 use std::marker::Model;
 use std::mem;
@@ -49,8 +49,7 @@ impl WaitQueues {
     /// Notes that an end, to which `owed` results are owed, waits in the user's queue. It is woken once all of them or 16 were
     /// given; where another end waits there too, at the next result.
     pub fn note_waiting(&mut self, user: u8, owed: usize)
-        ensures { let old = due_at self.old user in
-            self.new ≡ with_due self.old user (cond (nat_eq old 0) (max (min owed RESULTS_AT_ONCE) 1) 1) }
+        ensures { self.new ≡ with_waiting self.old user owed }
     {
         let due = &mut self.due[wait_queue_of(user)];
         *due = if *due == 0 {
@@ -63,7 +62,7 @@ impl WaitQueues {
     /// Counts a result given to the user. Returns whether the ends that wait for it are to be woken now.
     pub fn note_given(&mut self, user: u8) -> bool
         ensures wakes { IsTrue result ↔ (due_at self.old user ≡ 1) }
-        ensures due { self.new ≡ with_due self.old user (due_at self.old user - 1) }
+        ensures due { self.new ≡ with_given self.old user }
     {
         let due = &mut self.due[wait_queue_of(user)];
         let wakes = *due == 1;

@@ -143,7 +143,7 @@ impl<L: Ledger> LockPool<L> {
             match state.post(boxed, task) {
                 Err(NotPosted::Full) if wait => {}
                 posted => {
-                    let tasks = state.unsignalled.take_due(TASKS_AT_ONCE);
+                    let tasks = state.take_due(TASKS_AT_ONCE);
                     drop(state);
                     self.wake_workers(tasks);
                     return posted;
@@ -168,7 +168,7 @@ impl<L: Ledger> LockPool<L> {
     {
         let mut state = self.state.lock(rt);
         let posted = state.post_some(copies, tasks);
-        let due = state.unsignalled.take_due(TASKS_AT_ONCE);
+        let due = state.take_due(TASKS_AT_ONCE);
         drop(state);
         self.wake_workers(due);
         posted
@@ -204,7 +204,7 @@ impl<L: Ledger> LockPool<L> {
                 Ok(fetched) => return fetched,
                 Err(kept) => state = kept,
             }
-            state.wait_queues.note_waiting(user, owed);
+            state.note_waiting(user, owed);
             state = self.results_ready[wait_queue_of(user)].wait(rt, state);
         }
         unreachable!()
@@ -256,11 +256,11 @@ impl<L: Ledger> LockPool<L> {
             self.not_full.notify_all();
         }
         if !fetched && !state.is_closed() {
-            self.wake_workers(state.unsignalled.take_due(1));
+            self.wake_workers(state.take_due(1));
             return Err(state);
         }
         let tasks = if own.note_fetch() {
-            state.unsignalled.take_due(1)
+            state.take_due(1)
         } else {
             0
         };
@@ -284,7 +284,7 @@ impl<L: Ledger> LockPool<L> {
         let mut state = self.state.lock(rt);
         let was_full = state.is_full();
         let given = state.give(done, share);
-        let wakes = given && state.wait_queues.note_given(user);
+        let wakes = given && state.note_given(user);
         let taken = state.take();
         drop(state);
         if wakes {
@@ -305,7 +305,7 @@ impl<L: Ledger> LockPool<L> {
         let mut state = self.state.lock(rt);
         let was_full = state.is_full();
         let was_out = state.hand_back(lent);
-        let tasks = state.unsignalled.take_due(1);
+        let tasks = state.take_due(1);
         drop(state);
         self.wake_workers(tasks);
         if was_full && !was_out {

@@ -1,13 +1,15 @@
 //! The state under the lock of a pool.
-ghost use Rattle.std.specs.Prelude.{◌≡◌, ◌≢◌, ◌+◌, ◌≤◌, ◌<◌, ◌↔◌, ◌⊎◌, ◌++◌, ℕ, List, Some, None, true, false, length, slice_index_or, take, IsOk, IsTrue, IfErr, IfNone, IfSome, OnErr, OnOk};
+ghost use Rattle.std.specs.Prelude.{◌≡◌, ◌≢◌, ◌+◌, ◌%◌, ◌^◌, ◌≤◌, ◌<◌, ◌↔◌, ◌⊎◌, ◌++◌, ℕ, List, None, true, false, cond, length, nat_lt, slice_index_or, take, IsOk, IsTrue, IfErr, IfNone, IfSome, OnErr, OnOk};
 ghost use Rattle.std.specs.List.{All};
 ghost use Rattle.std.specs.Option.{ForSome};
-ghost use Rattle.lj_book.specs.Book.{entry_count, user_of, HasRoom, IsDoneAt, IsOpenAt};
-ghost use Rattle.lj_book.specs.Boxes.{boxes as boxes_of, GivesBox, HandsBackBox, IsOut, PostsBox, TakesBox, WithdrawsBox};
+ghost use Rattle.lj_book.specs.Book.{entry_count, user_of, HasRoom, IsOpenAt};
+ghost use Rattle.lj_book.specs.Boxes.{boxes as boxes_of, GivesBox, HandsBackBox, IsOut, TakesBox, WithdrawsBox};
+ghost use Rattle.lj_book.specs.Picks.{IsPick};
 ghost use Rattle.lj_pool.specs.declared.pool.NotPosted.TheVariants.{Closed};
 ghost use Rattle.lj_pool.specs.EndBoxes.{SameResults, box_count};
-ghost use Rattle.lj_pool.specs.PoolStates.{FetchesEach, FetchesInHand, HasBox, HasPosted, NoneIsLost, PostsEach, PutsBy, lending};
+ghost use Rattle.lj_pool.specs.PoolStates.{FetchesEach, FetchesInHand, HasBox, HasNoResult, HasPosted, NoneIsLost, PostsEach, PostsIn, PutsBy, open_pool};
 ghost use Rattle.lj_pool.specs.Posting.{AreCopies, HandsOver};
+ghost use Rattle.lj_pool.specs.Waking.{due_at, with_given, with_waiting};
 
 use crate::lock::end_boxes::{EndBoxes, MAX_IN_HAND, TaskCopies};
 use crate::pool::NotPosted;
@@ -15,6 +17,7 @@ use crate::share::Share;
 use crate::waking::{UnsignalledPosts, WaitQueues};
 use lj_book::{BoxBook, Counts, Key, LentDone, LentTask, MAX_ENTRIES, TaskBox};
 use lj_tile::Task;
+use std::marker::Model;
 use std::sync::ledger::{self, Ledger};
 
 /// The book of a pool, and the ledger's book of the results given to it.
@@ -23,19 +26,34 @@ pub(crate) struct PoolState<L: Ledger> {
     book: BoxBook,
     results: ledger::Book<L>,
     next: Key,
-    pub(crate) unsignalled: UnsignalledPosts,
+    unsignalled: UnsignalledPosts,
     /// The queues in which ends wait for results.
-    pub(crate) wait_queues: WaitQueues,
+    wait_queues: WaitQueues,
     closed: bool,
-    ghost counted: { book.held.given ≡ results.total },
+}
+
+impl<L: Ledger> Model for PoolState<L> {
+    ghost use Rattle.std.specs.Prelude.{◌≡◌};
+    ghost use Rattle.lj_pool.specs.PoolStates.{PoolState};
+
+    ghost Value = { PoolState };
+
+    ghost view = { λ state. record {
+      book = state.book;
+      next = state.next;
+      unsignalled = state.unsignalled;
+      wait_queues = state.wait_queues;
+      closed = state.closed;
+    } };
+
+    ghost invariant = { λ state. state.book.held.given ≡ state.results.total };
 }
 
 impl<L: Ledger> PoolState<L> {
     /// Makes the state of an open pool.
     pub(crate) fn new(book: BoxBook, results: ledger::Book<L>) -> PoolState<L>
         requires { book.held.given ≡ results.total }
-        ensures book { result.book ≡ book }
-        ensures open { result.closed ≡ false }
+        ensures { result ≡ open_pool book }
     {
         PoolState {
             book,
@@ -53,16 +71,13 @@ impl<L: Ledger> PoolState<L> {
         requires { ForSome boxed.old (λ work. work ≡ task.now) }
         ensures room { IsOk result
             ↔ ((self.old.closed ≡ false) × HasRoom self.old.book.held × HasBox self.old.book boxed.old) }
-        ensures posts { OnOk result
-            ((key : ℕ) × PostsBox (lending boxed.old self.old.book) self.new.book task.now key) }
+        ensures posts { OnOk result (PostsIn boxed.old task.now self.old.book self.new.book) }
+        ensures unsignalled { OnOk result (1 ≤ self.new.unsignalled) }
         ensures out_of_hand { OnOk result (boxed.new ≡ None) }
         ensures closed { IfErr result (λ why. (why ≡ Closed) ↔ (self.old.closed ≡ true)) }
-        ensures unchanged { OnErr result (self.new.book ≡ self.old.book) }
+        ensures unchanged { OnErr result (self.new ≡ self.old) }
         ensures handed_back { OnErr result (boxed.new ≡ boxed.old) }
-        ensures stays { self.new.closed ≡ self.old.closed }
-        ensures wait_queues { self.new.wait_queues ≡ self.old.wait_queues }
-        ensures unsignalled { OnOk result (1 ≤ self.new.unsignalled) }
-        ensures none_noted { OnErr result (self.new.unsignalled ≡ self.old.unsignalled) }
+        ensures stays { self.new ≡ record self.old { book = self.new.book; unsignalled = self.new.unsignalled } }
     {
         if self.closed {
             return Err(NotPosted::Closed);
@@ -85,10 +100,9 @@ impl<L: Ledger> PoolState<L> {
         requires { AreCopies copies.old.items tasks.now }
         ensures most { result ≤ length tasks.now }
         ensures posts { PostsEach (take result tasks.now) self.old.book self.new.book }
-        ensures hands_over { HandsOver result copies.old.items copies.new.items }
-        ensures stays { self.new.closed ≡ self.old.closed }
-        ensures wait_queues { self.new.wait_queues ≡ self.old.wait_queues }
         ensures unsignalled { 0 < result → 1 ≤ self.new.unsignalled }
+        ensures hands_over { HandsOver result copies.old.items copies.new.items }
+        ensures stays { self.new ≡ record self.old { book = self.new.book; unsignalled = self.new.unsignalled } }
     {
         for here in 0..tasks.len() {
             if self.post_at(here, copies, &tasks[here]).is_err() {
@@ -108,16 +122,14 @@ impl<L: Ledger> PoolState<L> {
     ) -> Result<(), NotPosted>
         requires { ForSome (slice_index_or copies.old.items here None) (λ work. work ≡ task.now) }
         ensures posts { OnOk result (HasPosted task.now self.old.book self.new.book) }
-        ensures unchanged { OnErr result (self.new.book ≡ self.old.book) }
+        ensures unsignalled { OnOk result (1 ≤ self.new.unsignalled) }
+        ensures unchanged { OnErr result (self.new ≡ self.old) }
         ensures out_of_hand { OnOk result (slice_index_or copies.new.items here None ≡ None) }
         ensures handed_back { OnErr result (copies.new.items ≡ copies.old.items) }
         ensures places { length copies.new.items ≡ length copies.old.items }
         ensures others { (k : ℕ) → k ≢ here
             → slice_index_or copies.new.items k None ≡ slice_index_or copies.old.items k None }
-        ensures stays { self.new.closed ≡ self.old.closed }
-        ensures wait_queues { self.new.wait_queues ≡ self.old.wait_queues }
-        ensures unsignalled { OnOk result (1 ≤ self.new.unsignalled) }
-        ensures none_noted { OnErr result (self.new.unsignalled ≡ self.old.unsignalled) }
+        ensures stays { self.new ≡ record self.old { book = self.new.book; unsignalled = self.new.unsignalled } }
     {
         if here < copies.len() {
             self.post(&mut copies[here], task)
@@ -129,14 +141,11 @@ impl<L: Ledger> PoolState<L> {
     /// Posts a copy of a task in a spare box.
     fn post_copy(&mut self, task: &Task) -> Result<(), NotPosted>
         ensures room { IsOk result ↔ (HasRoom self.old.book.held × (0 < self.old.book.spare)) }
-        ensures posts { OnOk result
-            ((key : ℕ) × PostsBox (lending None self.old.book) self.new.book task.now key) }
-        ensures open { IfErr result (λ why. why ≢ Closed) }
-        ensures unchanged { OnErr result (self.new.book ≡ self.old.book) }
-        ensures stays { self.new.closed ≡ self.old.closed }
-        ensures wait_queues { self.new.wait_queues ≡ self.old.wait_queues }
+        ensures posts { OnOk result (PostsIn None task.now self.old.book self.new.book) }
         ensures unsignalled { OnOk result (1 ≤ self.new.unsignalled) }
-        ensures none_noted { OnErr result (self.new.unsignalled ≡ self.old.unsignalled) }
+        ensures open { IfErr result (λ why. why ≢ Closed) }
+        ensures unchanged { OnErr result (self.new ≡ self.old) }
+        ensures stays { self.new ≡ record self.old { book = self.new.book; unsignalled = self.new.unsignalled } }
     {
         self.book.boxes_are_few();
         let Some(mut spare) = self.book.lend() else {
@@ -154,11 +163,12 @@ impl<L: Ledger> PoolState<L> {
     /// Takes an open task in its box, round robin. None where there is none, or the pool is closed.
     pub(crate) fn take(&mut self) -> Option<LentTask>
         ensures some { IfSome result (λ lent. TakesBox self.old.book self.new.book lent) }
+        ensures picked { IfSome result (λ lent. IsPick (IsOpenAt self.old.book.held) self.old.next lent.key) }
+        ensures next { IfSome result (λ lent. self.new.next ≡ (lent.key + 1) % 2 ^ 64) }
         ensures none { IfNone result (self.old.closed ≡ false → (k : ℕ) → ¬ IsOpenAt self.old.book.held k) }
-        ensures unchanged { IfNone result (self.new.book ≡ self.old.book) }
+        ensures unchanged { IfNone result (self.new ≡ self.old) }
         ensures closed { self.old.closed ≡ true → result ≡ None }
-        ensures stays { self.new.closed ≡ self.old.closed }
-        ensures wait_queues { self.new.wait_queues ≡ self.old.wait_queues }
+        ensures stays { self.new ≡ record self.old { book = self.new.book; next = self.new.next } }
     {
         if self.closed {
             return None;
@@ -176,8 +186,7 @@ impl<L: Ledger> PoolState<L> {
         ensures credited { result ≡ true → share.new ≡ share.old + 1 }
         ensures put_by { result ≡ false → PutsBy self.old.book self.new.book }
         ensures not_credited { result ≡ false → share.new ≡ share.old }
-        ensures stays { self.new.closed ≡ self.old.closed }
-        ensures wait_queues { self.new.wait_queues ≡ self.old.wait_queues }
+        ensures stays { self.new ≡ record self.old { book = self.new.book } }
     {
         let PoolState { book, results, .. } = self;
         if let Err(refused) = book.give_box(done) {
@@ -197,8 +206,7 @@ impl<L: Ledger> PoolState<L> {
         ensures unsignalled { result ≡ true → 1 ≤ self.new.unsignalled }
         ensures put_by { result ≡ false → PutsBy self.old.book self.new.book }
         ensures not_told { result ≡ false → self.new.unsignalled ≡ self.old.unsignalled }
-        ensures wait_queues { self.new.wait_queues ≡ self.old.wait_queues }
-        ensures stays { self.new.closed ≡ self.old.closed }
+        ensures stays { self.new ≡ record self.old { book = self.new.book; unsignalled = self.new.unsignalled } }
     {
         if let Err(refused) = self.book.hand_back_box(lent) {
             self.put_by(refused);
@@ -213,18 +221,15 @@ impl<L: Ledger> PoolState<L> {
     /// there is none, or the pool is closed.
     pub(crate) fn fetch(&mut self, user: u8, own: &mut EndBoxes) -> bool
         ensures some { result ≡ true → FetchesInHand user self.old.book own.old self.new.book own.new }
-        ensures all { result ≡ true
-            → (length own.new.hand ≡ MAX_IN_HAND) ⊎ ((k : ℕ) → ¬ IsDoneAt user self.new.book.held k) }
-        ensures none { result ≡ false → self.old.closed ≡ false
-            → (k : ℕ) → ¬ IsDoneAt user self.old.book.held k }
+        ensures all { result ≡ true → (length own.new.hand ≡ MAX_IN_HAND) ⊎ HasNoResult user self.new.book.held }
+        ensures none { result ≡ false → self.old.closed ≡ false → HasNoResult user self.old.book.held }
         ensures unchanged { result ≡ false → self.new.book.held ≡ self.old.book.held }
         ensures same_results { result ≡ false → SameResults own.old own.new }
         ensures kept { NoneIsLost self.old.book own.old self.new.book own.new }
         ensures put_by { own.new.spare ≤ 1 }
         ensures closed { self.old.closed ≡ true → result ≡ false }
         ensures made { self.new.book.made ≡ self.old.book.made }
-        ensures stays { self.new.closed ≡ self.old.closed }
-        ensures wait_queues { self.new.wait_queues ≡ self.old.wait_queues }
+        ensures stays { self.new ≡ record self.old { book = self.new.book } }
     {
         self.put_spare_by(own);
         if self.closed {
@@ -241,22 +246,17 @@ impl<L: Ledger> PoolState<L> {
     /// Adds a box that was lent to the spare ones.
     fn put_by(&mut self, lent: TaskBox)
         ensures put_by { PutsBy self.old.book self.new.book }
-        ensures unsignalled { self.new.unsignalled ≡ self.old.unsignalled }
-        ensures stays { self.new.closed ≡ self.old.closed }
-        ensures wait_queues { self.new.wait_queues ≡ self.old.wait_queues }
+        ensures stays { self.new ≡ record self.old { book = self.new.book } }
     {
         self.book.put_by(lent);
     }
 
     /// Adds the spare boxes of an end to those of the pool.
     fn put_spare_by(&mut self, own: &mut EndBoxes)
-        ensures held { self.new.book.held ≡ self.old.book.held }
-        ensures made { self.new.book.made ≡ self.old.book.made }
         ensures own { own.new ≡ record own.old { spare = 0 } }
         ensures few { length own.new.hand ≤ MAX_IN_HAND }
         ensures kept { NoneIsLost self.old.book own.old self.new.book own.new }
-        ensures stays { self.new.closed ≡ self.old.closed }
-        ensures wait_queues { self.new.wait_queues ≡ self.old.wait_queues }
+        ensures stays { self.new ≡ record self.old { book = record self.old.book { spare = self.new.book.spare } } }
     {
         while let Some(spare) = own.pop_spare() {
             self.put_by(spare);
@@ -268,12 +268,11 @@ impl<L: Ledger> PoolState<L> {
         requires { own.old.spare ≤ 1 }
         ensures fetches { (others : List Task) × (own.new ≡ record own.old { hand = own.old.hand ++ others })
             × FetchesEach others self.old.book.held self.new.book.held × All (λ done. user_of done ≡ user) others }
-        ensures all { (length own.new.hand ≡ MAX_IN_HAND) ⊎ ((k : ℕ) → ¬ IsDoneAt user self.new.book.held k) }
+        ensures all { (length own.new.hand ≡ MAX_IN_HAND) ⊎ HasNoResult user self.new.book.held }
         ensures kept { boxes_of self.new.book + length own.new.hand
             ≡ boxes_of self.old.book + length own.old.hand }
         ensures made { self.new.book.made ≡ self.old.book.made }
-        ensures stays { self.new.closed ≡ self.old.closed }
-        ensures wait_queues { self.new.wait_queues ≡ self.old.wait_queues }
+        ensures stays { self.new ≡ record self.old { book = self.new.book } }
     {
         for _held in own.in_hand()..MAX_IN_HAND {
             let Some(next) = self.book.fetch_box(user, 0) else {
@@ -285,12 +284,9 @@ impl<L: Ledger> PoolState<L> {
 
     /// Adds all boxes of an end to the spare ones of the pool.
     pub(crate) fn put_all_by(&mut self, own: EndBoxes)
-        ensures held { self.new.book.held ≡ self.old.book.held }
-        ensures made { self.new.book.made ≡ self.old.book.made }
         ensures kept { boxes_of self.old.book + box_count own ≤ self.old.book.made
             → boxes_of self.new.book ≡ boxes_of self.old.book + box_count own }
-        ensures stays { self.new.closed ≡ self.old.closed }
-        ensures wait_queues { self.new.wait_queues ≡ self.old.wait_queues }
+        ensures stays { self.new ≡ record self.old { book = record self.old.book { spare = self.new.book.spare } } }
     {
         let mut left = own;
         while let Some(lent) = left.give_up() {
@@ -298,20 +294,40 @@ impl<L: Ledger> PoolState<L> {
         }
     }
 
+    /// Takes the number of tasks posted since workers were last woken for some, if it has reached `least`; else 0.
+    pub(crate) fn take_due(&mut self, least: usize) -> usize
+        ensures value { result ≡ cond (nat_lt self.old.unsignalled least) 0 self.old.unsignalled }
+        ensures left { self.old ≡ record self.new { unsignalled = self.new.unsignalled + result } }
+    {
+        self.unsignalled.take_due(least)
+    }
+
+    /// Notes that an end, to which `owed` results are owed, waits for results of the user.
+    pub(crate) fn note_waiting(&mut self, user: u8, owed: usize)
+        ensures { self.new ≡ record self.old { wait_queues = with_waiting self.old.wait_queues user owed } }
+    {
+        self.wait_queues.note_waiting(user, owed);
+    }
+
+    /// Counts a result given to the user. Returns whether the ends that wait for it are to be woken now.
+    pub(crate) fn note_given(&mut self, user: u8) -> bool
+        ensures wakes { IsTrue result ↔ (due_at self.old.wait_queues user ≡ 1) }
+        ensures due { self.new ≡ record self.old { wait_queues = with_given self.old.wait_queues user } }
+    {
+        self.wait_queues.note_given(user)
+    }
+
     /// Withdraws every entry of the user.
     pub(crate) fn withdraw(&mut self, user: u8)
         ensures withdraws { WithdrawsBox user self.old.book self.new.book }
-        ensures stays { self.new.closed ≡ self.old.closed }
-        ensures wait_queues { self.new.wait_queues ≡ self.old.wait_queues }
+        ensures stays { self.new ≡ record self.old { book = self.new.book } }
     {
         self.book.withdraw(user);
     }
 
     /// Closes the pool.
     pub(crate) fn close(&mut self)
-        ensures closed { self.new.closed ≡ true }
-        ensures unchanged { self.new.book ≡ self.old.book }
-        ensures wait_queues { self.new.wait_queues ≡ self.old.wait_queues }
+        ensures { self.new ≡ record self.old { closed = true } }
     {
         self.closed = true;
     }
@@ -349,8 +365,7 @@ impl<L: Ledger> PoolState<L> {
         requires { all.old.parts ≡ L.parts }
         ensures given { result ≡ self.old.book.held.given }
         ensures amount { result ≡ all.old.amount }
-        ensures unchanged { self.new.book ≡ self.old.book }
-        ensures wait_queues { self.new.wait_queues ≡ self.old.wait_queues }
+        ensures unchanged { self.new ≡ self.old }
     {
         let PoolState { book, results, .. } = self;
         results.audit(all);

@@ -1,6 +1,7 @@
 use Rattle.std.proofs.Common.{ap, subst, ◌++◌, ◌∙◌}
 use Rattle.lj_book.specs.Book.{Fetches}
 use Rattle.lj_pool.specs.EndBoxes.{EndBoxes}
+use Rattle.lj_pool.specs.PoolStates.{PoolState}
 use Rattle.lj_pool.proofs.EndBoxLemmas.{users_result}
 use Rattle.lj_pool.proofs.lock.pool_state.PoolState.fetch.Goals as goal
 
@@ -23,7 +24,8 @@ returns-clause-some g c =
         c.fetch_box.new.self.held,
         (
           first.0,
-          subst (λ held. Fetches held c.fetch_box.new.self.held c.in-Some.first first.0) c.put_spare_by.ensures.held
+          subst (λ held. Fetches held c.fetch_box.new.self.held c.in-Some.first first.0)
+              (ap (λ (state : PoolState). state.book.held) (c.self.view_is ∙ c.put_spare_by.ensures.stays))
               first.1.fetches,
         ),
         more.2,

@@ -29,6 +29,9 @@ loop-held-preserved g c =
       );
       kept = omega (arith, before.kept, one_more, next.1.boxes);
       made = next.1.made ∙ before.made;
-      closed = before.closed;
+      next = before.next;
+      unsignalled = before.unsignalled;
       wait_queues = before.wait_queues;
+      closed = before.closed;
+      counted = next.1.fetches.given ∙ before.counted;
     }

@@ -12,10 +12,13 @@ invariant-loop-held g l = record {
   last : l.own.last ≡ l.fn.own.last;
   spare : l.own.spare ≡ l.fn.own.spare;
   took_all : l.own.took_all ≡ l.fn.own.took_all;
-  others : (xs : List Task) × (l.own.hand ≡ l.fn.own.hand ++ xs) × FetchesEach xs l.fn.self.book.held l.self.book.held
+  others : (xs : List Task) × (l.own.hand ≡ l.fn.own.hand ++ xs) × FetchesEach xs l.fn.self.book.held l.self-inside.book.held
       × All (λ done. user_of done ≡ l.user) xs;
-  kept : boxes l.self.book + length l.own.hand ≡ boxes l.fn.self.book + length l.fn.own.hand;
-  made : l.self.book.made ≡ l.fn.self.book.made;
-  closed : l.self.closed ≡ l.fn.self.closed;
-  wait_queues : l.self.wait_queues ≡ l.fn.self.wait_queues;
+  kept : boxes l.self-inside.book + length l.own.hand ≡ boxes l.fn.self.book + length l.fn.own.hand;
+  made : l.self-inside.book.made ≡ l.fn.self.book.made;
+  next : l.self-inside.next ≡ l.fn.self.next;
+  unsignalled : l.self-inside.unsignalled ≡ l.fn.self.unsignalled;
+  wait_queues : l.self-inside.wait_queues ≡ l.fn.self.wait_queues;
+  closed : l.self-inside.closed ≡ l.fn.self.closed;
+  counted : l.self-inside.book.held.given ≡ l.self-inside.results.total;
 }

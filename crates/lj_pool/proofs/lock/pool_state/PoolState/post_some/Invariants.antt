@@ -11,7 +11,6 @@ invariant-loop-here g l = record {
   copies : (k : ℕ) → l.here ≤ k → k < length l.tasks
       → ForSome (get_or l.copies.items k None) (λ copy. copy ≡ get_or l.tasks k blank_task);
   hands_over : HandsOver l.here l.fn.copies.items l.copies.items;
-  closed : l.self.closed ≡ l.fn.self.closed;
-  wait_queues : l.self.wait_queues ≡ l.fn.self.wait_queues;
+  stays : l.self ≡ record l.fn.self { book = l.self.book; unsignalled = l.self.unsignalled };
   unsignalled : 0 < l.here → 1 ≤ l.self.unsignalled;
 }

@@ -5,11 +5,8 @@ use Rattle.lj_pool.proofs.lock.pool_state.PoolState.put_all_by.Given as goal
 
 abbrev pub invariant-loop-lent : goal.invariant-loop-lent
 invariant-loop-lent g l = record {
-  held : l.self.book.held ≡ l.fn.self.book.held;
-  made : l.self.book.made ≡ l.fn.self.book.made;
   kept : NoneIsLost l.fn.self.book l.fn.own l.self.book l.left;
-  closed : l.self.closed ≡ l.fn.self.closed;
-  wait_queues : l.self.wait_queues ≡ l.fn.self.wait_queues;
+  stays : l.self ≡ record l.fn.self { book = record l.fn.self.book { spare = l.self.book.spare } };
 }
 
 abbrev pub decreases-loop-lent : goal.decreases-loop-lent
