@@ -40,11 +40,10 @@ pub(crate) struct Connection {
 }
 
 impl Model for Connection {
+    ghost use Rattle.lj_world.specs.ConnectionStates.{state_of, HoldsTicket};
     ghost use Rattle.lj_world.specs.Machine.{Connection};
 
     ghost Value = { Connection };
-
-    ghost use Rattle.lj_world.specs.ConnectionStates.{state_of, HoldsTicket};
 
     ghost view = { λ c. record {
       user = c.user;

@@ -21,11 +21,10 @@ pub(crate) struct Worker {
 }
 
 impl Model for Worker {
+    ghost use Rattle.lj_world.specs.Holdings.{task_of, is_computed};
     ghost use Rattle.lj_world.specs.Machine.{Worker};
 
     ghost Value = { Worker };
-
-    ghost use Rattle.lj_world.specs.Holdings.{task_of, is_computed};
 
     ghost view = { λ w. record { key = w.key; work = task_of w.holding; computed = is_computed w.holding } };
 }
