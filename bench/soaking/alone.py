@@ -44,7 +44,7 @@ class Alone:
 
 class Tiles:
     """How many tiles a server computes for items: those that were answered, and at most those that may have been. Steps that
-    were started may be owed at the end, and the tiles of a step be computed once more for the next connection."""
+    were started may be pending at the end, and the tiles of a step be computed once more for the next connection."""
 
     def __init__(self) -> None:
         self.sure, self.unsure, self.is_started = 0, 0, False

@@ -30,7 +30,7 @@ DIALOGUE = (
 ITEMS = [item for item, _, _ in DIALOGUE]
 REPLIES = [reply for _, reply, _ in DIALOGUE]
 
-# The item after which a step is owed, until the last item shows the session.
+# The item after which a step is pending, until the last item shows the session.
 STARTED = b"START a 1\n"
 
 # Items that are told apart what others have left behind, of which four have a tile where there is a session.
@@ -62,5 +62,5 @@ def tiles_after(count: int) -> int:
 
 
 def begun_anew_after(count: int) -> int:
-    """How many tiles may be computed once more after the first items: one where a step is owed then."""
+    """How many tiles may be computed once more after the first items: one where a step is pending then."""
     return int(ITEMS.index(STARTED) < count < len(ITEMS))

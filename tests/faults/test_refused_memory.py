@@ -26,7 +26,7 @@ GROWTHS = [
 ]
 
 # A command that takes no memory comes ahead of one of these, with its reply and those to LIST and to LIST a after it. The BRANCH
-# after START waits for the step that is owed.
+# after START waits for the pending step.
 AHEAD = {
     2: (b"ADVANCE a 1\n", b"OK ADVANCE a 1\n", [b"OK LIST 2\na 1 2 0\nb 0 1 0\n", b"OK LIST a 0\n"]),
     3: (b"START a 1\n", b"OK START a 2\n", [b"OK LIST 2\na 2 2 1\nb 0 1 0\n", b"OK LIST a 1\nk 1\n"]),

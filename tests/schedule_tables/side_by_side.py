@@ -83,9 +83,9 @@ WAITS = (
         ),
         TOLD_OF_TWO + "A 1 OK START b 2\nA 1 OK MEASURE a 0 2 0 0 0 0 -5349132\nA 1 OK MEASURE b 2 2 0 0 0 2808450 -5399727\n",
     ),
-    # The steps of ADVANCE come after those that were owed, each once.
+    # The steps of ADVANCE come after the pending ones, each once.
     Run(
-        "an ADVANCE waits for what is owed, and then for its own steps",
+        "an ADVANCE waits for the pending steps, and then for its own",
         ONE_USER,
         (
             (f"{TWO_LOADED}; arrive 1 START a 1; arrive 1 ADVANCE a 1; arrive 1 SHOW a 0; next 1; next 1; next 1", 1),
@@ -116,7 +116,7 @@ WAITS = (
 )
 
 # A connection starts two steps and ends, with the task of the first one fetched. The next connection of the user enters.
-LEFT_OWING = """hello 1 A; hello 2 A; enter 1; arrive 1 LOAD a 256 1 131072 rest 28 (DIMER); arrive 1 START a 2; arrive 1 BYE;
+LEFT_PENDING = """hello 1 A; hello 2 A; enter 1; arrive 1 LOAD a 256 1 131072 rest 28 (DIMER); arrive 1 START a 2; arrive 1 BYE;
     next 1; next 1; post 1; take 1 0; compute 1; give 1; fetch 1 0; next 1; enter 2; leave 1; enter 2"""
 TOLD_OF_LEFT = "A 1 OK LOAD a 0 2\nA 1 OK START a 2\nA 1 OK BYE\n"
 TASK_OF_NEXT = TASK.replace("post 1", "post 2").replace("fetch 1", "fetch 2")
@@ -124,18 +124,18 @@ TASK_OF_NEXT = TASK.replace("post 1", "post 2").replace("fetch 1", "fetch 2")
 LEAVES = (
     # What the first one fetched is not kept: the step begins anew, and no turn is possible before its task is done once more.
     Run(
-        "what is owed is done for the next connection",
+        "pending steps are done for the next connection",
         ONE_USER,
         (
-            (f"{LEFT_OWING}; arrive 2 LIST; next 2; arrive 2 SHOW a 0; next 2; turn 2; turn 2 a; next 2", 1),
+            (f"{LEFT_PENDING}; arrive 2 LIST; next 2; arrive 2 SHOW a 0; next 2; turn 2; turn 2 a; next 2", 1),
             (f"{TASK_OF_NEXT}; turn 2", 2),
         ),
         TOLD_OF_LEFT + "A 2 OK LIST 1\nA 2 a 2 2 0\nA 2 OK SHOW a 2 0 1774 0 0\n",
     ),
     Run(
-        "one task of what is owed is not enough",
+        "one task of the pending steps is not enough",
         ONE_USER,
-        ((f"{LEFT_OWING}; arrive 2 SHOW a 0; next 2; {TASK_OF_NEXT}; turn 2; turn 2", 1),),
+        ((f"{LEFT_PENDING}; arrive 2 SHOW a 0; next 2; {TASK_OF_NEXT}; turn 2; turn 2", 1),),
         TOLD_OF_LEFT,
     ),
     # A worker has the task of a connection that has left. It is that of the next one's first step, and its result is taken

@@ -10,7 +10,7 @@ from shared.tiles import tiles_of
 from shared.words import hello, token, user, welcome
 
 
-# The sessions of random dialogues, and items that wait until no steps are owed to any of them, so that each tile is counted.
+# The sessions of random dialogues, and items that wait until none of them has pending steps, so that each tile is counted.
 RANDOM_SESSIONS = ["a", "b", "c_-9"]
 WAIT_FOR_ALL = "".join(f"ADVANCE {session} 0\n" for session in RANDOM_SESSIONS).encode()
 

@@ -1,4 +1,4 @@
-"""Several sessions of a user at work side by side, and what is owed when a connection ends."""
+"""Several sessions of a user at work side by side, and the steps pending when a connection ends."""
 import re
 from concurrent.futures import ThreadPoolExecutor
 
@@ -57,8 +57,8 @@ def test_one_session_is_shown_while_another_goes_on(serve: Servers) -> None:
     server.finish(TILES * (paced + steps) + 2)
 
 
-def test_what_is_owed_is_done_for_the_next_connection(serve: Servers) -> None:
-    """Two steps are owed when a connection ends, whatever way. A step that was begun for it is begun anew for the next one."""
+def test_pending_steps_are_done_for_the_next_connection(serve: Servers) -> None:
+    """Two steps are pending when a connection ends, whatever way. A step that was begun for it is begun anew for the next one."""
     ways = [
         ("by BYE", b"BYE\n", b"OK BYE\n", Client.close),
         ("at the end of its input", b"", b"", Client.half_close),

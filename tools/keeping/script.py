@@ -21,7 +21,7 @@ from keeping.items import LOADS, Words
 MAX_STEPS = 1_000_000
 RING, HALF = 2**32, 2**31
 KEPT = frozenset((*LOADS, *b"ADVANCE START REVERSE BRANCH RESTORE FORGET TUG DROP".split()))
-# What is answered when nothing is owed to the session any more.
+# What is answered when the session has no pending steps any more.
 WAITS = frozenset(b"ADVANCE REVERSE BRANCH RESTORE TUG MEASURE SHOW DUMP".split())
 LOADED = re.compile(rb"OK (?:LOAD|LOADMIX) (\S{1,16}) 0 [0-9]{1,4}\n")
 Displacement = Tuple[int, int, int]
@@ -215,18 +215,18 @@ DEEDS: Dict[bytes, Callable[..., List[bytes]]] = {
 
 @dataclass
 class Session:
-    """A session: its load, what is left of the commands since, and whether steps may be owed to it."""
+    """A session: its load, what is left of the commands since, and whether it may have pending steps."""
 
     load: Load
     entries: List[Entry] = field(default_factory=list)
     position: Position = field(default_factory=Position)
-    is_owed: bool = False
+    has_pending: bool = False
 
     def is_checked(self) -> bool:
         return bool(self.entries) and isinstance(self.entries[-1], Check)
 
-    def owes_when_told(self) -> bool:
-        """Whether steps may be owed to it when its commands have been told again."""
+    def has_pending_when_told(self) -> bool:
+        """Whether it may have pending steps when its commands have been told again."""
         last = next((each for each in reversed(self.entries) if not isinstance(each, Forget)), None)
         return isinstance(last, Move)
 
@@ -270,14 +270,14 @@ class Script:
             raise Otherwise(f"{shown(reply)} of a session that is not there")
         if words[0] == b"MEASURE":
             push(session.entries, Check(self._at, reply))
-            session.is_owed = False
+            session.has_pending = False
             return
         unless_alike(session.position, words, reply)
         if words[0] == b"DROP":
             del self.sessions[words[1]]
         else:
             push(session.entries, entry_of(self._at, words))
-            session.is_owed = session.is_owed if words[0] == b"FORGET" else words[0] == b"START"
+            session.has_pending = session.has_pending if words[0] == b"FORGET" else words[0] == b"START"
 
     def _take_load(self, load: Load, name: bytes) -> None:
         found = LOADED.fullmatch(load.reply)
@@ -286,18 +286,18 @@ class Script:
         self.sessions[name] = Session(load)
 
     def is_answered(self, words: Words) -> None:
-        """Notes that a command was replied OK which waits until nothing is owed to its session."""
+        """Notes that a command was replied OK which waits until its session has no pending steps."""
         if len(words) > 1 and words[0] in WAITS and words[1] in self.sessions:
-            self.sessions[words[1]].is_owed = False
+            self.sessions[words[1]].has_pending = False
 
     def is_told(self) -> None:
         """Notes that its items were told to a new server."""
         for session in self.sessions.values():
-            session.is_owed = session.owes_when_told()
+            session.has_pending = session.has_pending_when_told()
 
     def unchecked(self) -> List[bytes]:
-        """The sessions that have changed since their last check, and to which no steps are owed."""
-        return [name for name, each in self.sessions.items() if not each.is_owed and not each.is_checked()]
+        """The sessions that have changed since their last check, and have no pending steps."""
+        return [name for name, each in self.sessions.items() if not each.has_pending and not each.is_checked()]
 
     def told(self) -> Iterator[Told]:
         """The items that lead to the same state, with their replies. Checks of what did not change since are the last ones."""

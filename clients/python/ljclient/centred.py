@@ -48,7 +48,7 @@ class ThreeFrames(NamedTuple):
 
 
 def three_frames(user: "User", name: str) -> ThreeFrames:
-    """The three frames of a session, which is then as it was. What is owed to it is done first.
+    """The three frames of a session, which is then as it was. Its pending steps are done first.
 
     Raises `refusals.StepRange`, and changes nothing, if the session cannot make a step more.
     """

@@ -294,7 +294,7 @@ class Loader:
 
     @whole
     def state_of(self, name: str) -> State:
-        """The whole state of a session, which is as it was then. What is owed to it is done first."""
+        """The whole state of a session, which is as it was then. Its pending steps are done first."""
         return state_of(self, name)
 
     def _put(self, state: State, order: Order, before: Sequence[Command], watch: EnergyWatch) -> None:

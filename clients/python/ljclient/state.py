@@ -126,7 +126,7 @@ def commands_of_state(atoms: int) -> int:
 
 
 def state_of(user: "Loader", name: str) -> State:
-    """The state of a session. What is owed to it is done first. The session is then as it was."""
+    """The state of a session. Its pending steps are done first. The session is then as it was."""
     user.ask(f"ADVANCE {name} 0")
     known = user.known(name)
     scale = checked(name, known)

@@ -305,7 +305,7 @@ class User(Loader):
     def _move(self, restart: Callable[[], Wire], commands: int) -> None:
         """Goes on in a new program with all sessions as they are, if this takes no more than so many commands.
 
-        While steps may be owed to a session, which have to be waited for, it does so only if few commands are left.
+        While a session may have pending steps, which have to be waited for, it does so only if few commands are left.
         """
         rows = self.sessions()
         needed = sum(migrate.most_commands(row.atoms, row.branches) for row in rows)

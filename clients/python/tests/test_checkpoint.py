@@ -193,7 +193,7 @@ class Runs(Saves):
         self.assertEqual((a.reverse(), a.advance(0)), (100, 100))
         self.assertEqual(listed(back.places()), listed(a.places()))
 
-    def test_steps_that_are_owed_are_made_first(self) -> None:
+    def test_pending_steps_are_made_first(self) -> None:
         a, direct = self.argon(), self.argon("direct")
         a.start(500)
         a.save(self.path)

@@ -169,7 +169,7 @@ def test_one_client_after_the_other_with_a_measure_between(user: Any) -> None:
     assert second.told == HELLO and link.sent.endswith(b"MEASURE a\nLIST\n")
 
 
-def test_what_owes_steps_is_not_measured(user: Any) -> None:
+def test_what_has_pending_steps_is_not_measured(user: Any) -> None:
     first = Client(LOAD + b"START a 9\n", has_sent_all=True)
     link = let_in(user, first)
     user.hear([LOADED, b"OK START a 9\n"])

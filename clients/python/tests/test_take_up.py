@@ -249,7 +249,7 @@ def test_without_an_edge_a_frame_is_that_of_the_server(join: Any, tmp_path: path
         assert millionths(session.dump().splitlines()[2:]) == shown(user) == listed(session.places())
 
 
-def test_steps_that_are_owed(join: Any, tmp_path: pathlib.Path) -> None:
+def test_steps_that_are_pending(join: Any, tmp_path: pathlib.Path) -> None:
     with join() as user:
         session = argon(user, order="space")
         session.start(2000)

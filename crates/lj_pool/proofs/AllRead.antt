@@ -100,7 +100,7 @@ module _ (state : UserState) (read written : List ℕ) (old new : Seen) (held : 
     left = s.left ++ held;
     between = s.between;
     progress = progress-on s.progress;
-    owes = s.owes;
+    pending = s.pending;
     many = s.many;
   })
 

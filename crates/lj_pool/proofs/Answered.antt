@@ -22,8 +22,8 @@ use Rattle.lj_session.specs.Answers.{session_named, can_advance, command_result}
 use Rattle.lj_session.specs.Turns.{turns, waits_for, advance_turns}
 use Rattle.lj_session.specs.Begins.{OnRefusal}
 use Rattle.lj_session.specs.UserState.{LiveSession, UserState, IsAtWork, IsIdle, IsIdleIn, StepsAfter, StepsFollow, OthersKept}
-use Rattle.lj_session.specs.UserState.{OtherSessionsKept, settled_session, live_session, owed_in, names, with_session_changed, with_more_owed, with_start, steps_before, turns_before}
-use Rattle.lj_session.specs.UserState.{is_whole_in, is_measured, kind_owed}
+use Rattle.lj_session.specs.UserState.{OtherSessionsKept, settled_session, live_session, pending_in, names, with_session_changed, with_more_pending, with_start, steps_before, turns_before}
+use Rattle.lj_session.specs.UserState.{is_whole_in, is_measured, kind_pending}
 use Rattle.lj_session.specs.Owner.{Owner, IsAnswered, user_in, label_of, is_waited_for, IsLastTurn}
 use Rattle.lj_session.proofs.AtWork.{at_work-follows, kind-none}
 use Rattle.lj_session.proofs.Entries.{by_test}
@@ -32,8 +32,8 @@ use Rattle.lj_session.proofs.Passing.{unmeasured}
 use Rattle.lj_wire.specs.declared.item.Item.TheVariants.{Command as Ordered}
 use Rattle.lj_pool.specs.Gathering.{tasks_posted_of, IsGathered, IsOpenFor, Gathers}
 use Rattle.lj_pool.specs.Counting.{steps_tiles, advance_tiles, command_tiles}
-use Rattle.lj_pool.specs.Coming.{tiles_of_session, tiles_after, waiting_tiles_of, tiles_to_come, tiles_coming, OwesNoMore, OwesNoneWhereWaited}
-use Rattle.lj_pool.specs.Owing.{OwesAfter, most_after, steps_started}
+use Rattle.lj_pool.specs.Coming.{tiles_of_session, tiles_after, waiting_tiles_of, tiles_to_come, tiles_coming, HasNoMorePending, HasNonePendingWhereWaited}
+use Rattle.lj_pool.specs.PendingBounds.{HasPendingAfter, most_after, steps_started}
 use Rattle.lj_pool.proofs.Outcomes.{no-own-tiles, Stays, still-there, start_stays, Outcome, StartedThere, staying, same_name_of, none_named, outcome}
 use Rattle.lj_session.proofs.Others.{names-changed}
 use Rattle.lj_pool.proofs.Sessions.{same_name as same_bytes, there-changed, other-changed, sum-changed, sum-below, distinct-answered}
@@ -81,13 +81,13 @@ idle_is {A} f x none some state name idle = by (live_session state name) refl
 idle_posted : (label : Label) (state : UserState) (name : List ℕ) → IsIdleIn state name → tasks_posted_of label (live_session state name) ≡ []
 idle_posted label = idle_is (tasks_posted_of label) [] refl (λ held idle. closed-posted held label (closed-part held.live.part idle.closed))
 
--- how many steps are owed to a session, if it is there
-abbrev owed_of : Option LiveSession → ℕ
-owed_of o = option_map_or (λ (h : LiveSession). h.owed) o 0
+-- how many steps are pending in a session, if it is there
+abbrev pending_of : Option LiveSession → ℕ
+pending_of o = option_map_or (λ (h : LiveSession). h.pending) o 0
 
--- none is owed to an idle session
-idle_owed : (state : UserState) (name : List ℕ) → IsIdleIn state name → owed_in state name ≡ 0
-idle_owed = idle_is owed_of 0 refl (λ held idle. idle.owed)
+-- none is pending in an idle session
+idle_pending : (state : UserState) (name : List ℕ) → IsIdleIn state name → pending_in state name ≡ 0
+idle_pending = idle_is pending_of 0 refl (λ held idle. idle.pending)
 
 -- the number of tiles of a session to come, if it is there
 abbrev tiles_there : Option LiveSession → ℕ
@@ -107,12 +107,12 @@ alike_sums a b distinct distinct_b alike =
     let is = ap tiles_there found in let same = alike name in omega (arith, is, same)) in
     omega (arith, below, within)
 
--- a START owes its steps to its session
-more_owed : (n : ℕ) (held : LiveSession) → (with_more_owed n held).owed ≡ held.owed + n
-more_owed n held = by_test (nat_lt 0 n && nat_le held.owed 0) (λ t. rw t refl) (λ t. rw t refl)
+-- a START adds its steps to its session
+more_pending : (n : ℕ) (held : LiveSession) → (with_more_pending n held).pending ≡ held.pending + n
+more_pending n held = by_test (nat_lt 0 n && nat_le held.pending 0) (λ t. rw t refl) (λ t. rw t refl)
 
-start_owed : (n : ℕ) (held : LiveSession) → (with_start n held).owed ≡ held.owed + advance_turns (Some (settled_session held)) n
-start_owed n held = by_test (can_advance (settled_session held) n) (λ t. rw t (more_owed n held)) (λ t. rw t (omega arith))
+start_pending : (n : ℕ) (held : LiveSession) → (with_start n held).pending ≡ held.pending + advance_turns (Some (settled_session held)) n
+start_pending n held = by_test (can_advance (settled_session held) n) (λ t. rw t (more_pending n held)) (λ t. rw t (omega arith))
 
 started_there_is : (user : User) (name : List ℕ) (n : ℕ)
     → steps_started user (Start name n) name ≡ advance_turns (value_named name user.sessions) n
@@ -122,7 +122,7 @@ started_there_is user name n = ap (λ b. if b then advance_turns (value_named na
 -- a command was answered at once
 pub record AtOnce (owner : Owner) (owed : List Task) (command : Command) (next : Owner) : Type 0 where
   pub gathers : Gathers next owed
-  pub owes : OwesAfter owner.state (Ordered command) next.state
+  pub pending : HasPendingAfter owner.state (Ordered command) next.state
   pub tiles : tiles_to_come next.state ≡ tiles_to_come owner.state + command_tiles (user_in owner) command
 
 -- a command that is answered at once
@@ -157,7 +157,7 @@ module _ (owner : Owner) (owed : List Task) (t : Gathers owner owed) (idle : own
           (λ b. other name (others name (λ same. true≢false (sym ((bytes_eq-Decides session name).1
           (same_name_of session name (sym e ∙ same))) ∙ b))))
 
-  work_of : (name : List ℕ) (held : LiveSession) → live_session owner.state name ≡ Some held → kind_of held.live.part ≡ kind_owed None [] held
+  work_of : (name : List ℕ) (held : LiveSession) → live_session owner.state name ≡ Some held → kind_of held.live.part ≡ kind_pending None [] held
   work_of name held found = work name held found
 
   settles : (name : List ℕ) → Settles owner.state next.state (tasks_posted_of (label_of owner name)) name
@@ -173,10 +173,10 @@ module _ (owner : Owner) (owed : List Task) (t : Gathers owner owed) (idle : own
       }
       by name (inr (inl s)) = record {
         posted_is = ap (tasks_posted_of (label_of owner name)) s.is
-            ∙ same-posted s.before s.after s.same.live s.same.passed s.same.owed (label_of owner name)
+            ∙ same-posted s.before s.after s.same.live s.same.passed s.same.pending (label_of owner name)
             ∙ sym (ap (tasks_posted_of (label_of owner name)) s.was);
         gathered = λ held found. subst IsGathered (same_Some s.after held (sym s.is ∙ found))
-            (same-gathered s.before s.after s.same.live s.same.passed s.same.owed (t.gathered name s.before s.was));
+            (same-gathered s.before s.after s.same.live s.same.passed s.same.pending (t.gathered name s.before s.was));
       }
       by name (inr (inr s)) = record {
         posted_is = ap (tasks_posted_of (label_of owner name)) s.is
@@ -192,16 +192,16 @@ module _ (owner : Owner) (owed : List Task) (t : Gathers owner owed) (idle : own
       (distinct-answered owner.state next.state command answered.mark reply answered.answers t.distinct)
       settles
 
-  -- the most steps that may be owed where the command waits for the session, and elsewhere
+  -- the most steps that may be pending where the command waits for the session, and elsewhere
   most_is : (name : List ℕ) (waited : Bool) → is_waited_for (Some command) name ≡ waited
-      → most_after (user_in owner) (Ordered command) name (owed_in owner.state name)
-      ≡ (if waited then 0 else owed_in owner.state name + steps_started (user_in owner) command name)
+      → most_after (user_in owner) (Ordered command) name (pending_in owner.state name)
+      ≡ (if waited then 0 else pending_in owner.state name + steps_started (user_in owner) command name)
   most_is name waited is =
-      ap (λ b. if b then 0 else owed_in owner.state name + steps_started (user_in owner) command name) is
+      ap (λ b. if b then 0 else pending_in owner.state name + steps_started (user_in owner) command name) is
 
-  -- no more steps are owed than may be
-  kept_within : (name : List ℕ) → owed_in next.state name ≤ owed_in owner.state name
-      → owed_in next.state name ≤ most_after (user_in owner) (Ordered command) name (owed_in owner.state name)
+  -- no more steps are pending than may be
+  kept_within : (name : List ℕ) → pending_in next.state name ≤ pending_in owner.state name
+      → pending_in next.state name ≤ most_after (user_in owner) (Ordered command) name (pending_in owner.state name)
   kept_within name fewer = by_test (is_waited_for (Some command) name)
       (λ t.
       let none = none-before owner.state command name (same_name command name t) at_once in
@@ -210,29 +210,29 @@ module _ (owner : Owner) (owed : List Task) (t : Gathers owner owed) (idle : own
 
   started_within : (name : List ℕ) (n : ℕ) (before : LiveSession) → command ≡ Start name n
       → live_session owner.state name ≡ Some before → live_session next.state name ≡ Some (with_start n before)
-      → owed_in next.state name ≤ most_after (user_in owner) (Ordered command) name (owed_in owner.state name)
+      → pending_in next.state name ≤ most_after (user_in owner) (Ordered command) name (pending_in owner.state name)
   started_within name n before start was is =
       let most = most_is name false (ap (λ o. option_map_or (λ session. bytes_eq session name) o false) (start-waits command name n start)) in
-      let old = ap owed_of was in
-      let new = ap owed_of is in
-      let more = start_owed n before in
+      let old = ap pending_of was in
+      let new = ap pending_of is in
+      let more = start_pending n before in
       let started = ap (λ (k : Command). steps_started (user_in owner) k name) start ∙ started_there_is (user_in owner) name n
       ∙ ap (λ o. advance_turns o n) (named-held owner.state name before was) in
       omega (arith, most, old, new, more, started)
 
-  answered_owes : OwesAfter owner.state (Ordered command) next.state
-  answered_owes = of_each {P = λ name. owed_in next.state name
-      ≤ most_after (user_in owner) (Ordered command) name (owed_in owner.state name)}
-      (λ name same. kept_within name (let is = ap owed_of same in omega (arith, is)))
+  answered_pending : HasPendingAfter owner.state (Ordered command) next.state
+  answered_pending = of_each {P = λ name. pending_in next.state name
+      ≤ most_after (user_in owner) (Ordered command) name (pending_in owner.state name)}
+      (λ name same. kept_within name (let is = ap pending_of same in omega (arith, is)))
       (λ name is. by name (outcome_of name is))
     where
       by : (name : List ℕ) → Outcome owner.state next.state command name
-          → owed_in next.state name ≤ most_after (user_in owner) (Ordered command) name (owed_in owner.state name)
-      by name (inl rests) = kept_within name (let none = idle_owed next.state name rests.after in omega (arith, none))
+          → pending_in next.state name ≤ most_after (user_in owner) (Ordered command) name (pending_in owner.state name)
+      by name (inl rests) = kept_within name (let none = idle_pending next.state name rests.after in omega (arith, none))
       by name (inr (inl s)) =
-          let before = ap owed_of s.was in
-          let after = ap owed_of s.is in
-          let same = s.same.owed in
+          let before = ap pending_of s.was in
+          let after = ap pending_of s.is in
+          let same = s.same.pending in
           kept_within name (omega (arith, before, after, same))
       by name (inr (inr s)) = started_within name s.n s.before s.start s.was s.is
 
@@ -249,7 +249,7 @@ module _ (owner : Owner) (owed : List Task) (t : Gathers owner owed) (idle : own
           → tiles_there (live_session next.state name) ≡ tiles_there (live_session owner.state name)
       by name never (inl rests) = idle_there next.state name rests.after ∙ sym (idle_there owner.state name rests.before)
       by name never (inr (inl s)) =
-          let same = same-tiles s.before s.after s.same.live s.same.passed s.same.owed in
+          let same = same-tiles s.before s.after s.same.live s.same.passed s.same.pending in
           let is = ap tiles_there s.is in
           let was = ap tiles_there s.was in
           omega (arith, same, is, was)
@@ -340,13 +340,13 @@ module _ (owner : Owner) (owed : List Task) (t : Gathers owner owed) (idle : own
       by k e = answered_quiet (λ name n is. let differ = sym e ∙ is in cc)
 
   pub answered_at_once : AtOnce owner owed command next
-  answered_at_once = record { gathers = answered_gathers; owes = answered_owes; tiles = answered_tiles }
+  answered_at_once = record { gathers = answered_gathers; pending = answered_pending; tiles = answered_tiles }
 
 -- what waited was answered at a turn
 pub record Ended (owner : Owner) (owed : List Task) (next : Owner) : Type 0 where
   pub gathers : Gathers next owed
-  pub owes : OwesNoMore owner next.state
-  pub rests : OwesNoneWhereWaited owner next.state
+  pub pending : HasNoMorePending owner next.state
+  pub rests : HasNonePendingWhereWaited owner next.state
   pub tiles : tiles_to_come next.state ≡ tiles_coming owner
 
 -- the turn at which what waited is answered
@@ -379,8 +379,8 @@ module _ (owner : Owner) (owed : List Task) (t : Gathers owner owed) (name : Lis
   work_next : IsAtWork None next.state
   work_next other held found =
       of_each_session {P = λ other. (held : LiveSession) → live_session next.state other ≡ Some held
-      → kind_of held.live.part ≡ kind_owed None other held}
-      (λ held found. let i = rests held found in i.closed ∙ sym (kind-none None name held i.owed refl))
+      → kind_of held.live.part ≡ kind_pending None other held}
+      (λ held found. let i = rests held found in i.closed ∙ sym (kind-none None name held i.pending refl))
       (λ other apart held found.
       let quiet : is_measured owner.waiting other ≡ false =
       ap (λ w. is_measured w other) waited.is ∙ unmeasured waited.command name other waited.waits apart in
@@ -398,18 +398,18 @@ module _ (owner : Owner) (owed : List Task) (t : Gathers owner owed) (name : Lis
       })
       (λ other apart. settles_same owner owed t next number other (others other apart)))
 
-  -- no more steps are owed than were, and none to the session
-  ended_owes : OwesNoMore owner next.state
-  ended_owes other quiet = of_each_session {P = λ other. owed_in next.state other ≤ owed_in owner.state other}
-      (let none = idle_owed next.state name rests in omega (arith, none))
-      (λ other apart. let same = ap owed_of (others other apart) in omega (arith, same))
+  -- no more steps are pending than were, and none in the session
+  ended_pending : HasNoMorePending owner next.state
+  ended_pending other quiet = of_each_session {P = λ other. pending_in next.state other ≤ pending_in owner.state other}
+      (let none = idle_pending next.state name rests in omega (arith, none))
+      (λ other apart. let same = ap pending_of (others other apart) in omega (arith, same))
       other
 
-  ended_rests : OwesNoneWhereWaited owner next.state
+  ended_rests : HasNonePendingWhereWaited owner next.state
   ended_rests other for_it =
-      subst (λ n. owed_in next.state n ≡ 0)
+      subst (λ n. pending_in next.state n ≡ 0)
       (same_name_of name other (sym waited.waits ∙ same_name waited.command other (sym (ap (λ w. is_waited_for w other) waited.is) ∙ for_it)))
-      (idle_owed next.state name rests)
+      (idle_pending next.state name rests)
 
   -- no tile of the session was to come
   none_there : tiles_there (live_session owner.state name) ≡ 0
@@ -417,13 +417,13 @@ module _ (owner : Owner) (owed : List Task) (t : Gathers owner owed) (name : Lis
       let open_there = whole-open owner owed t name whole in
       let held : LiveSession = open_there.held in
       let left = whole-left owner owed t name whole in
-      let few : held.owed ≤ 1 =
-      let steps = ap (λ o. option_map_or (owed_in owner.state) o 0) waited.waits in
-      let is = ap owed_of open_there.there in
+      let few : held.pending ≤ 1 =
+      let steps = ap (λ o. option_map_or (pending_in owner.state) o 0) waited.waits in
+      let is = ap pending_of open_there.there in
       let last = one in omega (arith, steps, is, last) in
       let later : tiles_after held ≡ 0 =
       ap (λ n. steps_tiles held.live.composition n (next_simulation held.live.composition held.live.sim))
-      (let none : held.owed - 1 ≡ 0 = omega (arith, few) in none) in
+      (let none : held.pending - 1 ≡ 0 = omega (arith, few) in none) in
       let none : tiles_of_session held ≡ 0 = omega (arith, left, later) in
       ap tiles_there open_there.there ∙ none
 
@@ -444,4 +444,4 @@ module _ (owner : Owner) (owed : List Task) (t : Gathers owner owed) (name : Lis
       omega (arith, same, own)
 
   pub ended_at_turn : Ended owner owed next
-  ended_at_turn = record { gathers = ended_gathers; owes = ended_owes; rests = ended_rests; tiles = ended_tiles }
+  ended_at_turn = record { gathers = ended_gathers; pending = ended_pending; rests = ended_rests; tiles = ended_tiles }

@@ -20,26 +20,26 @@ use Rattle.lj_session.specs.declared.command.Command.TheVariants.{Measure}
 use Rattle.lj_session.specs.Users.{Session, User}
 use Rattle.lj_session.specs.Answers.{can_advance}
 use Rattle.lj_session.specs.Turns.{turns, waits_for}
-use Rattle.lj_session.specs.UserState.{LiveSession, UserState, IsAtWork, IsIdle, user_of, settled_session, live_session, owed_in, with_session_changed, with_more_owed, with_step}
+use Rattle.lj_session.specs.UserState.{LiveSession, UserState, IsAtWork, IsIdle, user_of, settled_session, live_session, pending_in, with_session_changed, with_more_pending, with_step}
 use Rattle.lj_session.specs.UserState.{with_step_finished, steps_before, turns_before, is_whole_in, is_measured}
 use Rattle.lj_session.specs.Owner.{Owner, user_in, owner_begun, state_taking_up, rest_of, label_of, with_state, is_waited_for, owner_turned}
 use Rattle.lj_session.specs.Owner.{IsLastTurn}
-use Rattle.lj_session.proofs.AtWork.{at_work-changed, at_work-waits, at_work-measured, kind-owing, kind-some, kind-none, kind-passed}
+use Rattle.lj_session.proofs.AtWork.{at_work-changed, at_work-waits, at_work-measured, kind-added, kind-some, kind-none, kind-passed}
 use Rattle.lj_session.proofs.Entries.{by_test}
-use Rattle.lj_session.proofs.Holding.{named-held, owed-of}
-use Rattle.lj_session.proofs.Owed.{owed-owing}
+use Rattle.lj_session.proofs.Holding.{named-held, pending-of}
+use Rattle.lj_session.proofs.PendingSteps.{pending-added}
 use Rattle.lj_session.proofs.Passing.{Open, opens, energies, measured_last, measures, at_work-passed}
 use Rattle.lj_session.proofs.Turning.{advance-turns-near, measure-turns-one, no-turns}
 use Rattle.lj_session.proofs.Waiting.{Goes, goes, measured_there, nothing-turns, passed_user, passed_turns, same_name}
 use Rattle.lj_pool.specs.Gathering.{is_of, tiles_left_in, tasks_posted_of, IsOpenFor, Gathers}
 use Rattle.lj_pool.specs.Counting.{steps_tiles, advance_tiles, measure_tiles, frame_tiles, command_tiles, sum_over}
 use Rattle.lj_pool.specs.Coming.{tiles_of_session, posts_of_session, tiles_after, waiting_tiles, waiting_tiles_of, turns_coming}
-use Rattle.lj_pool.specs.Coming.{tiles_to_come, tiles_coming, posts_coming, OwesNoMore}
+use Rattle.lj_pool.specs.Coming.{tiles_to_come, tiles_coming, posts_coming, HasNoMorePending}
 use Rattle.lj_pool.proofs.Gathering.{gathered_opened, whole_none, whole_posted}
 use Rattle.lj_pool.proofs.Gathered.{gathers_changed}
-use Rattle.lj_pool.proofs.Sessions.{there-changed, other-changed, owed-changed, owed-lowered, sum-changed}
-use Rattle.lj_pool.proofs.Tiles.{idle-tiles, idle-posts, opened-tiles, opened-posts, owing-tiles, owing-posts, owing-gathered}
-use Rattle.lj_pool.proofs.Tiles.{owing-posted, owing-open, passed-tiles, passed-posts, passed-owed, passed-posted, passed-gathered}
+use Rattle.lj_pool.proofs.Sessions.{there-changed, other-changed, pending-changed, pending-lowered, sum-changed}
+use Rattle.lj_pool.proofs.Tiles.{idle-tiles, idle-posts, opened-tiles, opened-posts, added-tiles, added-posts, added-gathered}
+use Rattle.lj_pool.proofs.Tiles.{added-posted, added-open, passed-tiles, passed-posts, passed-pending, passed-posted, passed-gathered}
 use Rattle.lj_pool.proofs.Tiles.{closed-part, closed-posted}
 
 -- a step that is open
@@ -50,12 +50,12 @@ some-part (Some p) kind e = (p, refl)
 some-open : (part : Option OpenStep) (kind : Kind) → kind_of part ≡ Some kind → IsSome part
 some-open part kind e = let s = some-part part kind e in subst IsSome (sym s.1) refl
 
--- where steps are owed to the session that a command waits for, one is open there
-pub open-owed : (waiting : Option Command) (state : UserState) (command : Command) → IsAtWork waiting state
+-- where steps are pending in the session that a command waits for, one is open there
+pub open-pending : (waiting : Option Command) (state : UserState) (command : Command) → IsAtWork waiting state
     → 0 < steps_before state command → IsOpenFor state command
-open-owed waiting state command work some = by (waits_for command) refl
+open-pending waiting state command work some = by (waits_for command) refl
   where
-    at : (name : List ℕ) → 0 < owed_in state name → (o : Option LiveSession) → live_session state name ≡ o
+    at : (name : List ℕ) → 0 < pending_in state name → (o : Option LiveSession) → live_session state name ≡ o
         → IsSomeAnd (live_session state name) (λ held. IsSome held.live.part)
     at name more None e = absurd (let none = rw e at more in omega (arith, none))
     at name more (Some held) e =
@@ -63,10 +63,10 @@ open-owed waiting state command work some = by (waits_for command) refl
         (some-open held.live.part Force (work name held e ∙ kind-some waiting name held (rw e at more)))
 
     by : (o : Option (List ℕ)) → waits_for command ≡ o → IsOpenFor state command
-    by None e = absurd (let none = ap (λ o. option_map_or (owed_in state) o 0) e in omega (arith, none, some))
+    by None e = absurd (let none = ap (λ o. option_map_or (pending_in state) o 0) e in omega (arith, none, some))
     by (Some name) e =
         subst (λ o. IsSomeAnd o (λ name. IsSomeAnd (live_session state name) (λ held. IsSome held.live.part))) (sym e)
-        (at name (subst (λ o. 0 < option_map_or (owed_in state) o 0) e some) (live_session state name) refl)
+        (at name (subst (λ o. 0 < option_map_or (pending_in state) o 0) e some) (live_session state name) refl)
 
 -- the tiles of a command that takes steps
 pub advance-tiles-is : (state : UserState) (name : List ℕ) (n : ℕ) (held : LiveSession) → live_session state name ≡ Some held
@@ -96,20 +96,20 @@ pub record Begins (base : Owner) (owed : List Task) (command : Command) (next : 
   pub gathers : Gathers next owed
   pub tiles : tiles_coming next ≡ tiles_to_come base.state + command_tiles (user_in base) command
   pub posts : posts_coming next ≡ sum_over posts_of_session base.state + command_tiles (user_in base) command
-  pub turns : turns_coming next ≡ sum_over (λ held. held.owed) base.state + turns (user_in base) command
+  pub turns : turns_coming next ≡ sum_over (λ held. held.pending) base.state + turns (user_in base) command
 
 module _ (base : Owner) (owed : List Task) (t : Gathers base owed) (idle : base.waiting ≡ None) where
   work : IsAtWork None base.state
   work = subst (λ w. IsAtWork w base.state) idle t.at_work
 
-  -- for steps that are owed
+  -- for pending steps
   begins-off : (command : Command) → 0 < steps_before base.state command → Begins base owed command (owner_begun command base)
   begins-off command some =
       let b : nat_lt 0 (steps_before base.state command) ≡ true = lt-ltb 0 (steps_before base.state command) some in
       rw b (record {
         gathers = record {
           at_work = at_work-waits command base.state some work;
-          waits = open-owed None base.state command work some;
+          waits = open-pending None base.state command work some;
           distinct = t.distinct;
           gathered = t.gathered;
           each = t.each;
@@ -120,10 +120,10 @@ module _ (base : Owner) (owed : List Task) (t : Gathers base owed) (idle : base.
       })
 
   -- the session of a command that takes steps of its own
-  idle-held : (name : List ℕ) (held : LiveSession) → live_session base.state name ≡ Some held → owed_in base.state name ≡ 0 → IsIdle held
+  idle-held : (name : List ℕ) (held : LiveSession) → live_session base.state name ≡ Some held → pending_in base.state name ≡ 0 → IsIdle held
   idle-held name held there none =
-      let n = owed-of base.state name held there none in
-      record { owed = n; closed = work name held there ∙ kind-none None name held n refl }
+      let n = pending-of base.state name held there none in
+      record { pending = n; closed = work name held there ∙ kind-none None name held n refl }
 
   no-posted : (name : List ℕ) (held : LiveSession) → live_session base.state name ≡ Some held → IsIdle held
       → filter (is_of name) owed ≡ []
@@ -131,51 +131,51 @@ module _ (base : Owner) (owed : List Task) (t : Gathers base owed) (idle : base.
       t.each name ∙ ap (tasks_posted_of (label_of base name)) there
       ∙ closed-posted held (label_of base name) (closed-part held.live.part i.closed)
 
-  meant-sim : (held : LiveSession) → held.owed ≡ 0 → (settled_session held).sim ≡ held.live.sim
+  meant-sim : (held : LiveSession) → held.pending ≡ 0 → (settled_session held).sim ≡ held.live.sim
   meant-sim held none = rw none refl
 
-  begins-advance : (name : List ℕ) (n : ℕ) → owed_in base.state name ≡ 0 → 0 < n → Goes base.state name n
+  begins-advance : (name : List ℕ) (n : ℕ) → pending_in base.state name ≡ 0 → 0 < n → Goes base.state name n
       → Begins base owed (Advance name n)
-      (record { state = with_session_changed name (with_more_owed n) base.state; number = base.number; waiting = Some (Advance name 0) })
+      (record { state = with_session_changed name (with_more_pending n) base.state; number = base.number; waiting = Some (Advance name 0) })
   unfolding waits_for
   begins-advance name n none some g =
       let i = idle-held name g.held g.there none in
-      let next : Owner = record { state = with_session_changed name (with_more_owed n) base.state; number = base.number; waiting = Some (Advance name 0) } in
-      let sum = sum-changed base.state name (with_more_owed n) in
-      let after = there-changed base.state name (with_more_owed n) g.held g.there in
+      let next : Owner = record { state = with_session_changed name (with_more_pending n) base.state; number = base.number; waiting = Some (Advance name 0) } in
+      let sum = sum-changed base.state name (with_more_pending n) in
+      let after = there-changed base.state name (with_more_pending n) g.held g.there in
       let tiles : command_tiles (user_in base) (Advance name n) ≡ steps_tiles g.held.live.composition n g.held.live.sim =
       advance-tiles-is base.state name n g.held g.there
       ∙ ap (λ b. if b then steps_tiles g.held.live.composition n (settled_session g.held).sim else 0) g.near
-      ∙ ap (steps_tiles g.held.live.composition n) (meant-sim g.held i.owed) in
+      ∙ ap (steps_tiles g.held.live.composition n) (meant-sim g.held i.pending) in
       let own : waiting_tiles next ≡ 0 =
-      if-none (nat_lt 0 (steps_before (with_session_changed name (with_more_owed n) base.state) (Advance name 0))) _
-      (none-tiles (user_of (with_session_changed name (with_more_owed n) base.state)) name) in
+      if-none (nat_lt 0 (steps_before (with_session_changed name (with_more_pending n) base.state) (Advance name 0))) _
+      (none-tiles (user_of (with_session_changed name (with_more_pending n) base.state)) name) in
       let tiles_before = idle-tiles g.held i in
-      let tiles_then = owing-tiles g.held i n some in
+      let tiles_then = added-tiles g.held i n some in
       let tiles_sum = sum tiles_of_session g.held g.there in
       let posts_before = idle-posts g.held i in
-      let posts_then = owing-posts g.held i n some in
+      let posts_then = added-posts g.held i n some in
       let posts_sum = sum posts_of_session g.held g.there in
-      let owed_then = owed-owing n g.held in
-      let owed_sum = sum (λ held. held.owed) g.held g.there in
-      let turns_then = nothing-turns (user_of (with_session_changed name (with_more_owed n) base.state)) name in
+      let pending_then = pending-added n g.held in
+      let pending_sum = sum (λ held. held.pending) g.held g.there in
+      let turns_then = nothing-turns (user_of (with_session_changed name (with_more_pending n) base.state)) name in
       let turns_before = advance-turns-near (user_in base) name n (settled_session g.held)
       (named-held base.state name g.held g.there) g.near in
       record {
-        gathers = gathers_changed base owed t name g.held g.there (with_more_owed n) (Some (Advance name 0)) owed
-            (at_work-changed None base.state name (with_more_owed n)
-            (λ held e. kind-owing None name n held refl (work name held e)) work)
+        gathers = gathers_changed base owed t name g.held g.there (with_more_pending n) (Some (Advance name 0)) owed
+            (at_work-changed None base.state name (with_more_pending n)
+            (λ held e. kind-added None name n held refl (work name held e)) work)
             (subst (λ o. IsSomeAnd o (λ held. IsSome held.live.part)) (sym after)
-            (subst IsSome (sym (owing-open g.held i n some)) refl))
-            (owing-gathered g.held i n some)
-            (no-posted name g.held g.there i ∙ sym (owing-posted g.held i n some (label_of base name)))
+            (subst IsSome (sym (added-open g.held i n some)) refl))
+            (added-gathered g.held i n some)
+            (no-posted name g.held g.there i ∙ sym (added-posted g.held i n some (label_of base name)))
             (λ other apart. refl);
         tiles = omega (arith, tiles, own, tiles_before, tiles_then, tiles_sum);
         posts = omega (arith, tiles, own, posts_before, posts_then, posts_sum);
-        turns = omega (arith, owed_then, owed_sum, turns_then, turns_before);
+        turns = omega (arith, pending_then, pending_sum, turns_then, turns_before);
       }
 
-  begins-measure : (name : List ℕ) (held : LiveSession) → live_session base.state name ≡ Some held → owed_in base.state name ≡ 0
+  begins-measure : (name : List ℕ) (held : LiveSession) → live_session base.state name ≡ Some held → pending_in base.state name ≡ 0
       → Begins base owed (Measure name)
       (record { state = with_session_changed name (with_step Energy) base.state; number = base.number; waiting = Some (Measure name) })
   unfolding waits_for
@@ -186,31 +186,31 @@ module _ (base : Owner) (owed : List Task) (t : Gathers base owed) (idle : base.
       let after = there-changed base.state name (with_step Energy) held there in
       let tiles : command_tiles (user_in base) (Measure name) ≡ frame_tiles held.live.composition held.live.sim =
       measure-tiles-is base.state name held there
-      ∙ ap (frame_tiles held.live.composition) (meant-sim held i.owed) in
+      ∙ ap (frame_tiles held.live.composition) (meant-sim held i.pending) in
       let no_steps : steps_before (with_session_changed name (with_step Energy) base.state) (Measure name) ≡ 0 =
-      ap (λ o. option_map_or (λ (h : LiveSession). h.owed) o 0) after ∙ i.owed in
+      ap (λ o. option_map_or (λ (h : LiveSession). h.pending) o 0) after ∙ i.pending in
       let own : waiting_tiles next ≡ 0 =
       ap (λ n. if nat_lt 0 n then command_tiles (user_in next) (Measure name) else 0) no_steps in
-      let later : tiles_after held ≡ 0 = rw i.owed refl in
+      let later : tiles_after held ≡ 0 = rw i.pending refl in
       let tiles_before = idle-tiles held i in
       let tiles_then = opened-tiles Energy held in
       let tiles_sum = sum tiles_of_session held there in
       let posts_before = idle-posts held i in
       let posts_then = opened-posts Energy held in
       let posts_sum = sum posts_of_session held there in
-      let owed_sum = sum (λ held. held.owed) held there in
+      let pending_sum = sum (λ held. held.pending) held there in
       let turns_then = measure-turns-one (user_in next) name _ (named-held next.state name (with_step Energy held) after) in
       let turns_before = measure-turns-one (user_in base) name _ (named-held base.state name held there) in
       record {
         gathers = gathers_changed base owed t name held there (with_step Energy) (Some (Measure name)) owed
-            (at_work-measured base.state name held there i.owed work)
+            (at_work-measured base.state name held there i.pending work)
             (subst (λ o. IsSomeAnd o (λ held. IsSome held.live.part)) (sym after) refl)
             (gathered_opened Energy held)
             (no-posted name held there i)
             (λ other apart. refl);
         tiles = omega (arith, tiles, own, tiles_before, tiles_then, tiles_sum, later);
         posts = omega (arith, tiles, own, posts_before, posts_then, posts_sum, later);
-        turns = omega (arith, owed_sum, turns_then, turns_before);
+        turns = omega (arith, pending_sum, turns_then, turns_before);
       }
 
   -- or for its own
@@ -260,21 +260,21 @@ begun-waits command owner name = by_test (nat_lt 0 (steps_before owner.state com
     (λ t. rw t refl)
     (λ t. rw t (rest-waits command name))
 
--- as many steps are owed to every other session
-taken-owes : (command : Command) (state : UserState) (name : List ℕ) → is_waited_for (Some command) name ≡ false
-    → owed_in (state_taking_up command state) name ≡ owed_in state name
+-- as many steps are pending in every other session
+taken-pending : (command : Command) (state : UserState) (name : List ℕ) → is_waited_for (Some command) name ≡ false
+    → pending_in (state_taking_up command state) name ≡ pending_in state name
 unfolding state_taking_up waits_for
-taken-owes (Advance session n) state name apart =
-    ap (λ o. option_map_or (λ (h : LiveSession). h.owed) o 0)
-    (other-changed state session (with_more_owed n) name (λ is. true≢false (sym ((bytes_eq-Decides session name).1 is) ∙ apart)))
-taken-owes (Measure session) state name apart = owed-changed state session (with_step Energy) (λ held. refl) name
-taken-owes command state name apart = refl
+taken-pending (Advance session n) state name apart =
+    ap (λ o. option_map_or (λ (h : LiveSession). h.pending) o 0)
+    (other-changed state session (with_more_pending n) name (λ is. true≢false (sym ((bytes_eq-Decides session name).1 is) ∙ apart)))
+taken-pending (Measure session) state name apart = pending-changed state session (with_step Energy) (λ held. refl) name
+taken-pending command state name apart = refl
 
-pub begun-owes : (command : Command) (owner : Owner) (name : List ℕ) → is_waited_for (Some command) name ≡ false
-    → owed_in (owner_begun command owner).state name ≡ owed_in owner.state name
-begun-owes command owner name apart = by_test (nat_lt 0 (steps_before owner.state command))
+pub begun-pending : (command : Command) (owner : Owner) (name : List ℕ) → is_waited_for (Some command) name ≡ false
+    → pending_in (owner_begun command owner).state name ≡ pending_in owner.state name
+begun-pending command owner name apart = by_test (nat_lt 0 (steps_before owner.state command))
     (λ t. rw t refl)
-    (λ t. rw t (taken-owes command owner.state name apart))
+    (λ t. rw t (taken-pending command owner.state name apart))
 
 -- a turn: the step of its session is passed, and what waits for the session begins again
 abbrev passed_in : List ℕ → Owner → Owner
@@ -303,16 +303,16 @@ turned-waits name owner other = turned-either (λ (o : Owner). is_waited_for o.w
     name owner refl
     (λ command is. begun-waits command (passed_in name owner) other ∙ sym (ap (λ w. is_waited_for w other) is))
 
-pub turned-owes : (name : List ℕ) (owner : Owner) → OwesNoMore owner (owner_turned name owner).state
-turned-owes name owner other apart = turned-either (λ (o : Owner). owed_in o.state other ≤ owed_in owner.state other)
+pub turned-pending : (name : List ℕ) (owner : Owner) → HasNoMorePending owner (owner_turned name owner).state
+turned-pending name owner other apart = turned-either (λ (o : Owner). pending_in o.state other ≤ pending_in owner.state other)
     name owner passes
     (λ command is.
-    let same = begun-owes command (passed_in name owner) other (sym (ap (λ w. is_waited_for w other) is) ∙ apart) in
+    let same = begun-pending command (passed_in name owner) other (sym (ap (λ w. is_waited_for w other) is) ∙ apart) in
     let fewer = passes in
     omega (arith, same, fewer))
   where
-    passes : owed_in (passed_in name owner).state other ≤ owed_in owner.state other
-    passes = owed-lowered owner.state name with_step_finished (λ held. let one_less = passed-owed held in omega (arith, one_less)) other
+    passes : pending_in (passed_in name owner).state other ≤ pending_in owner.state other
+    passes = pending-lowered owner.state name with_step_finished (λ held. let one_less = passed-pending held in omega (arith, one_less)) other
 
 -- a session that is whole, over a pool
 module _ (owner : Owner) (owed : List Task) (t : Gathers owner owed) (name : List ℕ)
@@ -333,11 +333,11 @@ module _ (owner : Owner) (owed : List Task) (t : Gathers owner owed) (name : Lis
   pub whole-owes : tasks_posted_of (label_of owner name) (Some o.held) ≡ []
   whole-owes = whole_posted o.held (label_of owner name) step_of_it.0 step_of_it.1 (t.gathered name o.held o.there) o.whole
 
-  owed-there : owed_in owner.state name ≡ o.held.owed
-  owed-there = ap (λ h. option_map_or (λ (h : LiveSession). h.owed) h 0) o.there
+  pending-there : pending_in owner.state name ≡ o.held.pending
+  pending-there = ap (λ h. option_map_or (λ (h : LiveSession). h.pending) h 0) o.there
 
   -- its step is passed
-  module _ (some : 0 < owed_in owner.state name) where
+  module _ (some : 0 < pending_in owner.state name) where
     pub passed-gathers : (waiting : Option Command) → IsAtWork waiting (with_session_changed name with_step_finished owner.state)
         → IfSome waiting (IsOpenFor (with_session_changed name with_step_finished owner.state))
         → Gathers (record { state = with_session_changed name with_step_finished owner.state; number = owner.number; waiting = waiting }) owed
@@ -361,11 +361,11 @@ module _ (owner : Owner) (owed : List Task) (t : Gathers owner owed) (name : Lis
         let passed = passed-posts o.held in
         omega (arith, sum, passed)
 
-    pub passed-owed-sum : sum_over (λ held. held.owed) (with_session_changed name with_step_finished owner.state) + 1 ≡ sum_over (λ held. held.owed) owner.state
-    passed-owed-sum =
-        let sum = sum-changed owner.state name with_step_finished (λ held. held.owed) o.held o.there in
-        let passed = passed-owed o.held in
-        let more = owed-there in
+    pub passed-pending-sum : sum_over (λ held. held.pending) (with_session_changed name with_step_finished owner.state) + 1 ≡ sum_over (λ held. held.pending) owner.state
+    passed-pending-sum =
+        let sum = sum-changed owner.state name with_step_finished (λ held. held.pending) o.held o.there in
+        let passed = passed-pending o.held in
+        let more = pending-there in
         omega (arith, sum, passed, more, some)
 
 -- what a turn that answers nothing leaves
@@ -377,17 +377,17 @@ pub record Turns (owner : Owner) (owed : List Task) (next : Owner) : Type 0 wher
 
 module _ (owner : Owner) (owed : List Task) (t : Gathers owner owed) (name : List ℕ)
     (whole : is_whole_in owner.state name ≡ true) where
-  same_user : 0 < owed_in owner.state name → user_of (with_session_changed name with_step_finished owner.state) ≡ user_in owner
+  same_user : 0 < pending_in owner.state name → user_of (with_session_changed name with_step_finished owner.state) ≡ user_in owner
   same_user some = passed_user owner.state name some
 
   -- nothing waits for the session
-  turns-other : is_waited_for owner.waiting name ≡ false → 0 < owed_in owner.state name
+  turns-other : is_waited_for owner.waiting name ≡ false → 0 < pending_in owner.state name
       → Turns owner owed (with_state (with_session_changed name with_step_finished owner.state) owner)
   turns-other other some =
       let user = same_user some in
       let tiles = passed-tiles-sum owner owed t name whole some in
       let posts = passed-posts-sum owner owed t name whole some in
-      let fewer = passed-owed-sum owner owed t name whole some in
+      let fewer = passed-pending-sum owner owed t name whole some in
       let own = waiting_same owner.waiting refl in
       let turns_same = ap (λ u. option_map_or (turns u) owner.waiting 0) user in
       record {
@@ -440,12 +440,12 @@ module _ (owner : Owner) (owed : List Task) (t : Gathers owner owed) (name : Lis
         where
           before : (w : Option (List ℕ)) → waits_for command ≡ w
               → steps_before (with_session_changed name with_step_finished owner.state) command ≡ steps_before owner.state command
-          before None w = ap (λ o. option_map_or (owed_in (with_session_changed name with_step_finished owner.state)) o 0) w
-              ∙ sym (ap (λ o. option_map_or (owed_in owner.state) o 0) w)
-          before (Some session) w = ap (λ o. option_map_or (owed_in (with_session_changed name with_step_finished owner.state)) o 0) w
-              ∙ ap (λ o. option_map_or (λ (h : LiveSession). h.owed) o 0)
+          before None w = ap (λ o. option_map_or (pending_in (with_session_changed name with_step_finished owner.state)) o 0) w
+              ∙ sym (ap (λ o. option_map_or (pending_in owner.state) o 0) w)
+          before (Some session) w = ap (λ o. option_map_or (pending_in (with_session_changed name with_step_finished owner.state)) o 0) w
+              ∙ ap (λ o. option_map_or (λ (h : LiveSession). h.pending) o 0)
               (other-changed owner.state name with_step_finished session (apart command e session w))
-              ∙ sym (ap (λ o. option_map_or (owed_in owner.state) o 0) w)
+              ∙ sym (ap (λ o. option_map_or (pending_in owner.state) o 0) w)
 
   -- a command waits for it
   module _ (command : Command) (waiting : owner.waiting ≡ Some command) (waits : waits_for command ≡ Some name) where
@@ -455,7 +455,7 @@ module _ (owner : Owner) (owed : List Task) (t : Gathers owner owed) (name : Lis
     abbrev base : Owner
     base = record { state = with_session_changed name with_step_finished owner.state; number = owner.number; waiting = None }
 
-    turns-waited : 0 < owed_in owner.state name → 0 < turns_before (with_session_changed name with_step_finished owner.state) command
+    turns-waited : 0 < pending_in owner.state name → 0 < turns_before (with_session_changed name with_step_finished owner.state) command
         → Turns owner owed (owner_begun command base)
     turns-waited some more =
         let passed = passed-gathers owner owed t name whole some None
@@ -464,9 +464,9 @@ module _ (owner : Owner) (owed : List Task) (t : Gathers owner owed) (name : Lis
         let user = same_user some in
         let tiles = passed-tiles-sum owner owed t name whole some in
         let posts = passed-posts-sum owner owed t name whole some in
-        let fewer = passed-owed-sum owner owed t name whole some in
-        let steps : steps_before owner.state command ≡ owed_in owner.state name =
-        ap (λ o. option_map_or (owed_in owner.state) o 0) waits in
+        let fewer = passed-pending-sum owner owed t name whole some in
+        let steps : steps_before owner.state command ≡ pending_in owner.state name =
+        ap (λ o. option_map_or (pending_in owner.state) o 0) waits in
         let own : waiting_tiles owner ≡ command_tiles (user_in owner) command =
         ap (waiting_tiles_of owner) waiting
         ∙ ap (λ b. if b then command_tiles (user_in owner) command else 0)
@@ -486,13 +486,13 @@ module _ (owner : Owner) (owed : List Task) (t : Gathers owner owed) (name : Lis
   pub turned : (IsLastTurn name owner → ⊥) → Turns owner owed (owner_turned name owner)
   turned more = by owner.waiting refl
     where
-      owed_some : (owed_in owner.state name ≡ 0 → ⊥) → 0 < owed_in owner.state name
-      owed_some some = omega (arith, some)
+      pending_some : (pending_in owner.state name ≡ 0 → ⊥) → 0 < pending_in owner.state name
+      pending_some some = omega (arith, some)
 
-      other : is_waited_for owner.waiting name ≡ false → 0 < owed_in owner.state name → Turns owner owed (owner_turned name owner)
+      other : is_waited_for owner.waiting name ≡ false → 0 < pending_in owner.state name → Turns owner owed (owner_turned name owner)
       other e some = rw e (turns-other e some)
 
-      none_measured : (w : Option Command) → owner.waiting ≡ w → is_waited_for w name ≡ false → owed_in owner.state name ≡ 0 → ⊥
+      none_measured : (w : Option Command) → owner.waiting ≡ w → is_waited_for w name ≡ false → pending_in owner.state name ≡ 0 → ⊥
       none_measured w e not_waited none =
           let en = energies owner.waiting owner.state name whole t.at_work none in
           by_w w e (ap (λ w. is_measured w name) (sym e) ∙ en.measured) not_waited
@@ -502,17 +502,17 @@ module _ (owner : Owner) (owed : List Task) (t : Gathers owner owed) (name : Lis
           by_w (Some command) e m n = true≢false (sym (waited-measure command name (measures command name m)) ∙ n)
 
       by : (w : Option Command) → owner.waiting ≡ w → Turns owner owed (owner_turned name owner)
-      by None e = other (ap (λ w. is_waited_for w name) e) (owed_some (none_measured None e refl))
+      by None e = other (ap (λ w. is_waited_for w name) e) (pending_some (none_measured None e refl))
       by (Some command) e = by_test (is_waited_for (Some command) name) waited not_waited
         where
           not_waited : is_waited_for (Some command) name ≡ false → Turns owner owed (owner_turned name owner)
-          not_waited n = other (ap (λ w. is_waited_for w name) e ∙ n) (owed_some (none_measured (Some command) e n))
+          not_waited n = other (ap (λ w. is_waited_for w name) e ∙ n) (pending_some (none_measured (Some command) e n))
 
           waited : is_waited_for (Some command) name ≡ true → Turns owner owed (owner_turned name owner)
           waited y =
               let waits = same_name command name y in
               let work = subst (λ w. IsAtWork w owner.state) e t.at_work in
-              let some : 0 < owed_in owner.state name = owed_some (λ none.
+              let some : 0 < pending_in owner.state name = pending_some (λ none.
               last (measured_last command owner.state name (energies (Some command) owner.state name whole work none))) in
               let fewer = passed_turns owner.state name command waits some in
               let left : 0 < turns_before (with_session_changed name with_step_finished owner.state) command =

@@ -16,7 +16,7 @@ use Rattle.lj_tile.specs.Task.{Task}
 use Rattle.lj_branch.specs.Named.{value_named}
 use Rattle.lj_session.specs.Turns.{turns, waits_for, advance_turns, measure_turns}
 use Rattle.lj_session.specs.Users.{Session, User}
-use Rattle.lj_session.specs.UserState.{LiveSession, UserState, user_of, with_steps_restarted, live_session, owed_in, steps_before, turns_before}
+use Rattle.lj_session.specs.UserState.{LiveSession, UserState, user_of, with_steps_restarted, live_session, pending_in, steps_before, turns_before}
 use Rattle.lj_session.specs.Owner.{is_waited_for}
 use Rattle.lj_session.proofs.Entries.{by_test}
 use Rattle.lj_session.proofs.Holding.{named-held}
@@ -40,14 +40,14 @@ use Rattle.lj_pool.specs.declared.engine.running.Halt.{Halt}
 use Rattle.lj_pool.specs.declared.engine.running.Halt.TheVariants as halts
 use Rattle.lj_pool.specs.Seen.{Seen}
 use Rattle.lj_pool.specs.declared.pool.TheConstants.{MAX_AHEAD}
-use Rattle.lj_pool.specs.Counting.{command_tiles, item_tiles, tiles, tiles_owed, CountsRise, FallsShort, HandedWithin}
-use Rattle.lj_pool.specs.Owing.{most_after, most_after_all, most_owed, steps_started, OwesAfter, OwesAfterAll}
+use Rattle.lj_pool.specs.Counting.{command_tiles, item_tiles, tiles, tiles_pending, CountsRise, FallsShort, HandedWithin}
+use Rattle.lj_pool.specs.PendingBounds.{most_after, most_after_all, most_pending, steps_started, HasPendingAfter, HasPendingAfterAll}
 use Rattle.lj_pool.specs.Coming.{tiles_to_come}
 use Rattle.lj_pool.specs.Endings.{served_of, ending_of}
 use Rattle.lj_pool.specs.Served.{NoneEnds, EndsAs, AnswersAll, IsServed, Reaches, MayWait, StopsShort, Serves}
 use Rattle.lj_pool.specs.Serving.{AnswersItem, Serving}
 use Rattle.lj_pool.proofs.Going.{rises_more, rises_none}
-use Rattle.lj_pool.proofs.Rested.{rested-tiles, rested-owes}
+use Rattle.lj_pool.proofs.Rested.{rested-tiles, rested-pending}
 
 -- bytes that begin with items do so too where more bytes come after
 pub Takes-on : (n : ℕ) (bytes : List ℕ) (items : List Item) (left more : List ℕ) → Takes n bytes items left
@@ -101,24 +101,24 @@ own_there owned Others (Measure name) more = (measures (value_named name (user_o
 own_there owned Others command more = absurd (omega (arith, more))
 
 -- so does one before which turns come
-waits_there : (owned : UserState) (Others : List ℕ → Type 0) → ((name : List ℕ) → 0 < owed_in owned name → Others name)
+waits_there : (owned : UserState) (Others : List ℕ → Type 0) → ((name : List ℕ) → 0 < pending_in owned name → Others name)
     → (command : Order) → 0 < turns_before owned command → Waits owned Others command
 waits_there owned Others may command some = by_test (nat_lt 0 (steps_before owned command))
     (λ t. for_steps (waits_for command) refl (ltb-true 0 (steps_before owned command) t))
     (λ t. let none = ltb-false 0 (steps_before owned command) t in own_there owned Others command (omega (arith, some, none)))
   where
-    there : (name : List ℕ) → 0 < owed_in owned name → (o : Option LiveSession) → live_session owned name ≡ o
+    there : (name : List ℕ) → 0 < pending_in owned name → (o : Option LiveSession) → live_session owned name ≡ o
         → IsSome (value_named name (user_of owned).sessions)
     there name more None e = absurd (let none = rw e at more in omega (arith, none))
     there name more (Some held) e = ap is_some (named-held owned name held e)
 
     for_steps : (o : Option (List ℕ)) → waits_for command ≡ o → 0 < steps_before owned command → Waits owned Others command
-    for_steps None e more = absurd (let none = ap (λ o. option_map_or (owed_in owned) o 0) e in omega (arith, none, more))
+    for_steps None e more = absurd (let none = ap (λ o. option_map_or (pending_in owned) o 0) e in omega (arith, none, more))
     for_steps (Some name) e more =
-        let owed : 0 < owed_in owned name = subst (λ o. 0 < option_map_or (owed_in owned) o 0) e more in
+        let pending : 0 < pending_in owned name = subst (λ o. 0 < option_map_or (pending_in owned) o 0) e more in
         subst (λ o. IsSomeAnd o (λ name. IsSome (value_named name (user_of owned).sessions)
         × ((0 < turns (user_of owned) command) ⊎ Others name))) (sym e)
-        (there name owed (live_session owned name) refl, inr (may name owed))
+        (there name pending (live_session owned name) refl, inr (may name pending))
 
 -- a load takes no turns, and none come before it
 lost_before : (owned : UserState) (found item : Item) → IsLost found item → item_before owned item ≡ 0
@@ -126,19 +126,19 @@ unfolding turns waits_for
 lost_before owned found item l = ap (item_before owned) l.item_is
 
 may_wait : (start : UserState) (before : List Item) (marks : List Bool) (owned : UserState) (found item : Item)
-    → OwesAfterAll start before marks owned → IsHandedOut found item → 0 < item_before owned item
+    → HasPendingAfterAll start before marks owned → IsHandedOut found item → 0 < item_before owned item
     → MayWait start before marks (user_of owned) found
-may_wait start before marks owned found item owes (inl same) some = of found (subst (λ i. 0 < item_before owned i) same some)
+may_wait start before marks owned found item pending (inl same) some = of found (subst (λ i. 0 < item_before owned i) same some)
   where
     of : (item : Item) → 0 < item_before owned item → MayWait start before marks (user_of owned) item
-    of (Command command) more = waits_there owned (λ name. 0 < most_owed start before marks name)
-        (λ name some. let few = owes name in omega (arith, few, some)) command more
+    of (Command command) more = waits_there owned (λ name. 0 < most_pending start before marks name)
+        (λ name some. let few = pending name in omega (arith, few, some)) command more
     of (Bad fault) more = absurd (omega (arith, more))
     of (Last fault) more = absurd (omega (arith, more))
-may_wait start before marks owned found item owes (inr l) some =
+may_wait start before marks owned found item pending (inr l) some =
     let none = lost_before owned found item l in absurd (omega (arith, none, some))
 
--- the most steps that may be owed after one item more
+-- the most steps that may be pending after one item more
 most-more : (user : User) (items : List Item) (marks : List Bool) (item : Item) (mark : Bool) (name : List ℕ) (n : ℕ)
     → length marks ≡ length items
     → most_after_all user (items ++ item ∷ []) (marks ++ mark ∷ []) name n
@@ -149,7 +149,7 @@ most-more user (first ∷ items) [] item mark name n h = absurd (omega (arith, h
 most-more user (first ∷ items) (next ∷ marks) item mark name n h =
     most-more (item_text user first next).1 items marks item mark name (most_after user first name n) (omega (arith, h))
 
--- as many may be owed, or more, if more may be before
+-- as many may be pending, or more, if more may be before
 most-monotone : (user : User) (item : Item) (name : List ℕ) (n m : ℕ) → n ≤ m
     → most_after user item name n ≤ most_after user item name m
 most-monotone user (Command command) name n m few = by_test (is_waited_for (Some command) name)
@@ -158,7 +158,7 @@ most-monotone user (Command command) name n m few = by_test (is_waited_for (Some
 most-monotone user (Bad fault) name n m few = few
 most-monotone user (Last fault) name n m few = few
 
--- as many may be owed after what is handed out for an item
+-- as many may be pending after what is handed out for an item
 most_lost : (user : User) (found item : Item) (name : List ℕ) (n : ℕ) → IsLost found item
     → (most_after user item name n ≡ n) × (most_after user found name n ≡ n)
 unfolding waits_for steps_started
@@ -172,18 +172,18 @@ most_alike : (user : User) (found item : Item) (name : List ℕ) (n : ℕ) → I
 most_alike user found item name n (inl same) = ap (λ i. most_after user i name n) same
 most_alike user found item name n (inr l) = let both = most_lost user found item name n l in both.0 ∙ sym both.1
 
--- no more steps are owed than may be, after one item more
-owes-more : (start : UserState) (items : List Item) (marks : List Bool) (owned : UserState) (found item : Item) (mark : Bool)
-    (last : UserState) → OwesAfterAll start items marks owned → user_of owned ≡ last_user (user_of start) items marks
-    → length marks ≡ length items → IsHandedOut found item → OwesAfter owned item last
-    → OwesAfterAll start (items ++ found ∷ []) (marks ++ mark ∷ []) last
-owes-more start items marks owned found item mark last before same many handed after name =
-    subst (λ n. owed_in last name ≤ n)
-    (sym (most-more (user_of start) items marks found mark name (owed_in start name) many)) (subst
-    (λ u. owed_in last name ≤ most_after u found name (most_owed start items marks name)) same
+-- no more steps are pending than may be, after one item more
+pending-within : (start : UserState) (items : List Item) (marks : List Bool) (owned : UserState) (found item : Item) (mark : Bool)
+    (last : UserState) → HasPendingAfterAll start items marks owned → user_of owned ≡ last_user (user_of start) items marks
+    → length marks ≡ length items → IsHandedOut found item → HasPendingAfter owned item last
+    → HasPendingAfterAll start (items ++ found ∷ []) (marks ++ mark ∷ []) last
+pending-within start items marks owned found item mark last before same many handed after name =
+    subst (λ n. pending_in last name ≤ n)
+    (sym (most-more (user_of start) items marks found mark name (pending_in start name) many)) (subst
+    (λ u. pending_in last name ≤ most_after u found name (most_pending start items marks name)) same
     (let few = after name in
-    let alike = most_alike (user_of owned) found item name (owed_in owned name) handed in
-    let more = most-monotone (user_of owned) found name (owed_in owned name) (most_owed start items marks name) (before name) in
+    let alike = most_alike (user_of owned) found item name (pending_in owned name) handed in
+    let more = most-monotone (user_of owned) found name (pending_in owned name) (most_pending start items marks name) (before name) in
     omega (arith, few, alike, more)))
 
 -- what is handed out for an item takes the same tiles
@@ -254,10 +254,10 @@ serving-start start first was old none is_open = record {
   are_marks = tt;
   written_is = refl;
   next_is = rested_user start;
-  counted = rises_none old old (0 + tiles_owed start - tiles_to_come (with_steps_restarted start)) refl refl
+  counted = rises_none old old (0 + tiles_pending start - tiles_to_come (with_steps_restarted start)) refl refl
       (let all = rested-tiles start in omega (arith, all));
   handed = let all = rested-tiles start in omega (arith, all);
-  owes = λ name. let same = rested-owes start name in omega (arith, same);
+  pending = λ name. let same = rested-pending start name in omega (arith, same);
   phase = is_open;
   errors = refl;
 }
@@ -271,7 +271,7 @@ module _ (start : UserState) (first now : LineReader) (was is : Option (List ℕ
   pub serving-goes : (next : UserState) (newer : Seen) → user_of next ≡ user_of owned
       → CountsRise (tiles_to_come owned - tiles_to_come next) new newer
       → HandedWithin (tiles_to_come owned) (tiles_to_come next) new newer
-      → ((name : List ℕ) → owed_in next name ≤ owed_in owned name)
+      → ((name : List ℕ) → pending_in next name ≤ pending_in owned name)
       → Serving start first now was is old newer next
   serving-goes next newer same risen handed fewer = record {
     read = s.read;
@@ -285,11 +285,11 @@ module _ (start : UserState) (first now : LineReader) (was is : Option (List ℕ
     are_marks = s.are_marks;
     written_is = s.written_is;
     next_is = same ∙ s.next_is;
-    counted = rises_more (tiles user s.items s.marks + tiles_owed start - tiles_to_come owned)
+    counted = rises_more (tiles user s.items s.marks + tiles_pending start - tiles_to_come owned)
         (tiles_to_come owned - tiles_to_come next)
-        (tiles user s.items s.marks + tiles_owed start - tiles_to_come next) s.counted risen (omega arith);
+        (tiles user s.items s.marks + tiles_pending start - tiles_to_come next) s.counted risen (omega arith);
     handed = let before = s.handed in omega (arith, before, handed);
-    owes = λ name. let before = s.owes name in let few = fewer name in omega (arith, before, few);
+    pending = λ name. let before = s.pending name in let few = fewer name in omega (arith, before, few);
     phase = s.phase;
     errors = s.errors;
   }
@@ -312,9 +312,9 @@ module _ (start : UserState) (first now : LineReader) (was is : Option (List ℕ
 
   -- before the next item the pool is given up
   pub serving-stops : (halt : Halt) (newer : Seen) → MAX_AHEAD < length newer.owed
-      → ((task : Task) → Contains newer.owed task → 0 < owed_in owned task.name.label.session)
+      → ((task : Task) → Contains newer.owed task → 0 < pending_in owned task.name.label.session)
       → Serves (served_of halt) start first.left now.left was is old newer None
-  serving-stops halt newer many owed =
+  serving-stops halt newer many pending =
       record { read = s.read; written = s.written; taken = s.taken; appends = s.appends; is_served = gives_up halt short }
     where
       short : StopsShort start s.read s.written old newer
@@ -331,15 +331,15 @@ module _ (start : UserState) (first now : LineReader) (was is : Option (List ℕ
           written_is = s.written_is;
           next_is = s.next_is;
         };
-        owes = λ task there.
-            let some = owed task there in
-            let few = s.owes task.name.label.session in
+        pending = λ task there.
+            let some = pending task there in
+            let few = s.pending task.name.label.session in
             omega (arith, some, few);
         many = many;
       })
 
   -- the state is handed back
-  module _ (back : UserState) (same : user_of back ≡ user_of owned) (few : tiles_to_come owned ≤ tiles_owed back) where
+  module _ (back : UserState) (same : user_of back ≡ user_of owned) (few : tiles_to_come owned ≤ tiles_pending back) where
     serving-part : (ending : Served) → ((items : List Item) → NoneEnds items → EndsAs ending items) → (part : List ℕ)
         → IsPart now.items part → AnswersAll ending start (s.read ++ part) s.written old new back
     serving-part ending none part p = record {
@@ -354,8 +354,8 @@ module _ (start : UserState) (first now : LineReader) (was is : Option (List ℕ
         next_is = same ∙ s.next_is;
       };
       ending = none s.items (Takes-none_ends 0 s.read s.items [] s.takes);
-      counted = rises_more (tiles user s.items s.marks + tiles_owed start - tiles_to_come owned) 0
-          (tiles user s.items s.marks + tiles_owed start - tiles_owed back) s.counted (rises_none new new 0 refl refl (omega arith))
+      counted = rises_more (tiles user s.items s.marks + tiles_pending start - tiles_to_come owned) 0
+          (tiles user s.items s.marks + tiles_pending start - tiles_pending back) s.counted (rises_none new new 0 refl refl (omega arith))
           (omega (arith, few));
     }
 
@@ -410,7 +410,7 @@ module _ (start : UserState) (first now : LineReader) (was is : Option (List ℕ
       between = user_of owned;
       item = h.found;
       reaches = reaches;
-      waits = may_wait start s.items s.marks owned h.found item s.owes h.is_found waits;
+      waits = may_wait start s.items s.marks owned h.found item s.pending h.is_found waits;
       missing =
           let handed = s.handed in
           let same = tiles_alike (user_of owned) h.found item h.is_found in
@@ -499,22 +499,22 @@ module _ (start : UserState) (first now : LineReader) (was is : Option (List ℕ
             ap (λ u. item_tiles u h.found) s.next_is in
             omega (arith, sum, same, from)
 
-        handed_more : HandedWithin (tiles user items_more marks_more + tiles_owed start) (tiles_to_come last) old newer
+        handed_more : HandedWithin (tiles user items_more marks_more + tiles_pending start) (tiles_to_come last) old newer
         handed_more =
             let sum = tiles_sum in
             let before = s.handed in
             omega (arith, sum, before, handed)
 
-        counted_more : CountsRise (tiles user items_more marks_more + tiles_owed start - tiles_to_come last) old newer
+        counted_more : CountsRise (tiles user items_more marks_more + tiles_pending start - tiles_to_come last) old newer
         counted_more =
             let sum = tiles_sum in
-            rises_more (tiles user s.items s.marks + tiles_owed start - tiles_to_come owned)
+            rises_more (tiles user s.items s.marks + tiles_pending start - tiles_to_come owned)
             (tiles_to_come owned + item_tiles (user_of owned) item - tiles_to_come last)
-            (tiles user items_more marks_more + tiles_owed start - tiles_to_come last)
+            (tiles user items_more marks_more + tiles_pending start - tiles_to_come last)
             s.counted risen (omega (arith, sum))
 
-        pub serving-more : ending_of item ≡ None → OwesAfter owned item last → Serving start first after was now_is old newer last
-        serving-more none owes =
+        pub serving-more : ending_of item ≡ None → HasPendingAfter owned item last → Serving start first after was now_is old newer last
+        serving-more none pending =
             let goes : is_ending item ≡ false = goes_on item none in
             record {
               read = s.read ++ h.front;
@@ -531,13 +531,13 @@ module _ (start : UserState) (first now : LineReader) (was is : Option (List ℕ
               next_is = next_more;
               counted = counted_more;
               handed = handed_more;
-              owes = owes-more start s.items s.marks owned h.found item t.mark last s.owes s.next_is marks_many h.is_found owes;
+              pending = pending-within start s.items s.marks owned h.found item t.mark last s.pending s.next_is marks_many h.is_found pending;
               phase = h.phase_is ∙ ap (λ end. cond end Over Open) goes;
               errors = h.errors_is ∙ s.errors;
             }
 
         -- and the connection ends with it
-        module _ (back : UserState) (same_back : user_of back ≡ user_of last) (few : tiles_to_come last ≤ tiles_owed back) where
+        module _ (back : UserState) (same_back : user_of back ≡ user_of last) (few : tiles_to_come last ≤ tiles_pending back) where
           ended : (kind : Served) → EndsAs kind items_more → is_ending item ≡ true
               → AnswersAll kind start (s.read ++ h.front) (s.written ++ words) old newer back
           ended kind ending over = record {
@@ -552,8 +552,8 @@ module _ (start : UserState) (first now : LineReader) (was is : Option (List ℕ
               next_is = same_back ∙ next_more;
             };
             ending = ending;
-            counted = rises_more (tiles user items_more marks_more + tiles_owed start - tiles_to_come last) 0
-                (tiles user items_more marks_more + tiles_owed start - tiles_owed back) counted_more
+            counted = rises_more (tiles user items_more marks_more + tiles_pending start - tiles_to_come last) 0
+                (tiles user items_more marks_more + tiles_pending start - tiles_pending back) counted_more
                 (rises_none newer newer 0 refl refl (omega arith)) (omega (arith, few));
           }
 

@@ -9,7 +9,7 @@ use Rattle.lj_session.specs.declared.reply.Reply.{Reply}
 use Rattle.lj_session.specs.Users.{User}
 use Rattle.lj_session.specs.Answers.{AnswersAlike}
 use Rattle.lj_session.specs.Begins.{OnRefusal}
-use Rattle.lj_session.specs.UserState.{UserState, IsIdleIn, OthersKept, OtherSessionsKept, StepsFollow, is_whole_in, names, owed_in, turns_before}
+use Rattle.lj_session.specs.UserState.{UserState, IsIdleIn, OthersKept, OtherSessionsKept, StepsFollow, is_whole_in, names, pending_in, turns_before}
 use Rattle.lj_session.specs.Owner.{Owner, IsAnswered, IsReplied, IsLastTurn, IsSettled, WaitsAlike, WaitsAlikeFor, owner_begun, is_waited_for, user_in}
 use Rattle.lj_session.proofs.Entries.{by_test}
 use Rattle.lj_wire.specs.declared.item.Item.TheVariants.{Command as Ordered}
@@ -18,12 +18,12 @@ use Rattle.lj_pool.specs.declared.engine.running.Halt.TheVariants.{PoolClosed, T
 use Rattle.lj_pool.specs.Seen.{Seen}
 use Rattle.lj_pool.specs.Gathering.{Gathers}
 use Rattle.lj_pool.specs.Counting.{CountsRise, FallsShort, StraysRise}
-use Rattle.lj_pool.specs.Coming.{GoesOn, OwesNoMore, OwesNoneWhereWaited, tiles_to_come, tiles_coming, tiles_with_item}
-use Rattle.lj_pool.specs.Owing.{OwesAfter, most_after, steps_started}
+use Rattle.lj_pool.specs.Coming.{GoesOn, HasNoMorePending, HasNonePendingWhereWaited, tiles_to_come, tiles_coming, tiles_with_item}
+use Rattle.lj_pool.specs.PendingBounds.{HasPendingAfter, most_after, steps_started}
 use Rattle.lj_pool.specs.Running.{AnswersNext, AnswersPending, Finishes, IsHalted, LeavesUnanswered}
 use Rattle.lj_pool.specs.Serving.{AnswersItem}
 use Rattle.lj_pool.proofs.Sessions.{distinct-answered}
-use Rattle.lj_pool.proofs.Begun.{Begins, begins, begun-waits, begun-owes}
+use Rattle.lj_pool.proofs.Begun.{Begins, begins, begun-waits, begun-pending}
 use Rattle.lj_pool.proofs.Answered.{Ended, answered_at_once, ended_at_turn}
 use Rattle.lj_pool.proofs.Going.{rises_more, rises_none, replied_alike}
 
@@ -82,8 +82,8 @@ module _ (start : Owner) (before : Seen) (now : Owner) (after : Seen) (goes : Go
           handed = omega (arith, same, handed);
         };
         no_more = λ other quiet.
-            let went = goes.owes other quiet in
-            let ended = its_end.owes other (goes.waits other ∙ quiet) in
+            let went = goes.pending other quiet in
+            let ended = its_end.pending other (goes.waits other ∙ quiet) in
             omega (arith, went, ended);
         rests = λ other for_it. its_end.rests other (goes.waits other ∙ for_it);
       }
@@ -115,18 +115,18 @@ module _ (owner : Owner) (seen : Seen) (t : Gathers owner seen.owed) (idle : own
         by None s a r = absurd (true≢false (sym s))
         by (Some left) s a r = (r.mark, sym (r.answers ∙ a r.mark))
 
-    -- no more steps are owed after it than may be
-    begun_owes : (last : UserState) → OwesNoMore next last → OwesNoneWhereWaited next last
-        → OwesAfter owner.state (Ordered command) last
-    begun_owes last no_more rests name = by_test (is_waited_for next.waiting name)
+    -- no more steps are pending after it than may be
+    begun_pending : (last : UserState) → HasNoMorePending next last → HasNonePendingWhereWaited next last
+        → HasPendingAfter owner.state (Ordered command) last
+    begun_pending last no_more rests name = by_test (is_waited_for next.waiting name)
         (λ t. let none = rests name t in omega (arith, none))
         (λ t.
         let quiet = sym (ap (λ (o : Owner). is_waited_for o.waiting name) is ∙ begun-waits command owner name) ∙ t in
-        let begins_with = ap (λ (o : Owner). owed_in o.state name) is ∙ begun-owes command owner name quiet in
+        let begins_with = ap (λ (o : Owner). pending_in o.state name) is ∙ begun-pending command owner name quiet in
         let few = no_more name t in
-        let most : most_after (user_in owner) (Ordered command) name (owed_in owner.state name)
-        ≡ owed_in owner.state name + steps_started (user_in owner) command name =
-        ap (λ b. if b then 0 else owed_in owner.state name + steps_started (user_in owner) command name) quiet in
+        let most : most_after (user_in owner) (Ordered command) name (pending_in owner.state name)
+        ≡ pending_in owner.state name + steps_started (user_in owner) command name =
+        ap (λ b. if b then 0 else pending_in owner.state name + steps_started (user_in owner) command name) quiet in
         omega (arith, begins_with, few, most))
 
     -- once it is answered
@@ -136,7 +136,7 @@ module _ (owner : Owner) (seen : Seen) (t : Gathers owner seen.owed) (idle : own
     begun_answered alike last after reply answers = record {
       answered = begun_answers reply (user_in last) alike answers.replied;
       finished = subst (λ number. Finishes number seen reply last after) begun_tiles answers.finished;
-      owes = begun_owes last.state answers.no_more answers.rests;
+      pending = begun_pending last.state answers.no_more answers.rests;
     }
 
     -- where it is given up
@@ -164,7 +164,7 @@ module _ (owner : Owner) (seen : Seen) (t : Gathers owner seen.owed) (idle : own
               (omega (arith, same));
           handed = omega (arith, same);
         };
-        owes = it.owes;
+        pending = it.pending;
       }
 
 -- strays in a row, and what halts

@@ -70,7 +70,7 @@ of_other name work apart = by_test (is_of name work)
     (λ t. absurd (apart (sym ((bytes_eq-Decides name work.name.label.session).0 t))))
     (λ t. t)
 
--- one session changed, and what it is owed
+-- one session changed, and what is owed of it
 module _ (owner : Owner) (owed : List Task) (t : Gathers owner owed) (name : List ℕ) (held : LiveSession)
     (there : live_session owner.state name ≡ Some held) (change : LiveSession → LiveSession) (waiting : Option Command) (newer : List Task) where
   abbrev next : Owner
@@ -147,7 +147,7 @@ still_open held k h = by held.live.part refl h
     by (Some p) e h = rw e refl
 
 module _ (owner : Owner) (owed : List Task) (t : Gathers owner owed) where
-  -- a session that is owed something, or whose tile is awaited, has a step open
+  -- a session of which a task is owed, or whose tile is awaited, has a step open
   pub record Opened (name : List ℕ) : Type 0 where
     pub held : LiveSession
     pub there : live_session owner.state name ≡ Some held

@@ -12,7 +12,7 @@ use Rattle.lj_session.specs.declared.reply.Reply.{Reply}
 use Rattle.lj_session.specs.Users.{User}
 use Rattle.lj_session.specs.Answers.{answer}
 use Rattle.lj_session.specs.Turns.{turns, waits_for}
-use Rattle.lj_session.specs.UserState.{LiveSession, live_session, owed_in, user_of, with_session_changed, with_posted, with_tile_in, next_tile, with_passed_to, steps_before}
+use Rattle.lj_session.specs.UserState.{LiveSession, live_session, pending_in, user_of, with_session_changed, with_posted, with_tile_in, next_tile, with_passed_to, steps_before}
 use Rattle.lj_session.specs.UserState.{is_whole_in}
 use Rattle.lj_session.specs.Owner.{Owner, user_in, label_of, next_task_of, with_task_posted, with_task_in, IsAwaitedIn, IsAnswered, IsReplied}
 use Rattle.lj_session.specs.Owner.{WaitsAlike, WaitsAlikeFor, IsLastTurn, is_waited_for, owner_turned}
@@ -26,8 +26,8 @@ use Rattle.lj_pool.specs.Coming.{GoesOn, tiles_of_session, posts_of_session, wai
 use Rattle.lj_pool.specs.Coming.{tiles_coming, posts_coming}
 use Rattle.lj_pool.proofs.Gathering.{posted_fewer, taken_left, taken_tiles}
 use Rattle.lj_pool.proofs.Gathered.{Opened, Posting, posting, gathers_posted, with_task_posted_is, gathers_taken, taken_open, taken_wanted, wanted_off}
-use Rattle.lj_pool.proofs.Sessions.{owed-changed, sum-changed}
-use Rattle.lj_pool.proofs.Begun.{turned, turned-owes, turned-waits}
+use Rattle.lj_pool.proofs.Sessions.{pending-changed, sum-changed}
+use Rattle.lj_pool.proofs.Begun.{turned, turned-pending, turned-waits}
 
 -- counts that rise, and rise on
 pub rises_more : {a b c : Seen} (n m k : ℕ) → CountsRise n a b → CountsRise m b c → k ≤ n + m → CountsRise k a c
@@ -111,9 +111,9 @@ goes_then {a} {b} {c} first second =
       turns = omega (arith, first.turns, second.turns);
       tiles = omega (arith, t1, t2);
       posts = omega (arith, first.posts, second.posts);
-      owes = λ name quiet.
-          let before = first.owes name quiet in
-          let after = second.owes name (first.waits name ∙ quiet) in
+      pending = λ name quiet.
+          let before = first.pending name quiet in
+          let after = second.pending name (first.waits name ∙ quiet) in
           omega (arith, before, after);
       waits = λ name. second.waits name ∙ first.waits name;
     }
@@ -135,7 +135,7 @@ goes_alike owner before after t owed expected strays = record {
   turns = omega arith;
   tiles = omega arith;
   posts = omega arith;
-  owes = λ name quiet. omega arith;
+  pending = λ name quiet. omega arith;
   waits = λ name. refl;
 }
 
@@ -148,9 +148,9 @@ goes_unchanged owner before after t same =
 pub goes_nothing : (owner : Owner) (seen : Seen) → Gathers owner seen.owed → GoesOn owner seen owner seen
 goes_nothing owner seen t = goes_unchanged owner seen seen t (record { owed = refl; expected = refl; strays = refl })
 
--- one session changed that is owed as many steps as before, and means the same
+-- one session changed that has as many pending steps as before, and means the same
 module _ (owner : Owner) (name : List ℕ) (change : LiveSession → LiveSession) (held : LiveSession) (there : live_session owner.state name ≡ Some held)
-    (owed : (held : LiveSession) → (change held).owed ≡ held.owed)
+    (pending : (held : LiveSession) → (change held).pending ≡ held.pending)
     (user : user_of (with_session_changed name change owner.state) ≡ user_in owner) where
   abbrev next : Owner
   next = record { state = with_session_changed name change owner.state; number = owner.number; waiting = owner.waiting }
@@ -161,9 +161,9 @@ module _ (owner : Owner) (name : List ℕ) (change : LiveSession → LiveSession
       before : (command : Command) → steps_before (with_session_changed name change owner.state) command ≡ steps_before owner.state command
       before command = by (waits_for command)
         where
-          by : (o : Option (List ℕ)) → option_map_or (owed_in (with_session_changed name change owner.state)) o 0 ≡ option_map_or (owed_in owner.state) o 0
+          by : (o : Option (List ℕ)) → option_map_or (pending_in (with_session_changed name change owner.state)) o 0 ≡ option_map_or (pending_in owner.state) o 0
           by None = refl
-          by (Some session) = owed-changed owner.state name change owed session
+          by (Some session) = pending-changed owner.state name change pending session
 
       by : (w : Option Command) → waiting_tiles_of next w ≡ waiting_tiles_of owner w
       by None = refl
@@ -173,8 +173,8 @@ module _ (owner : Owner) (name : List ℕ) (change : LiveSession → LiveSession
 
   pub changed-turns : turns_coming next ≡ turns_coming owner
   changed-turns =
-      let sum = sum-changed owner.state name change (λ held. held.owed) held there in
-      let same = owed held in
+      let sum = sum-changed owner.state name change (λ held. held.pending) held there in
+      let same = pending held in
       let turns_same = ap (λ u. option_map_or (turns u) owner.waiting 0) user in
       omega (arith, sum, same, turns_same)
 
@@ -190,11 +190,11 @@ module _ (owner : Owner) (name : List ℕ) (change : LiveSession → LiveSession
       let own = own_same in
       omega (arith, sum, own)
 
--- a post leaves what is owed
-owed_posted : (held : LiveSession) → (with_posted held).owed ≡ held.owed
-owed_posted held = by (next_tile held)
+-- a post leaves the pending steps
+pending_posted : (held : LiveSession) → (with_posted held).pending ≡ held.pending
+pending_posted held = by (next_tile held)
   where
-    by : (o : Option ℕ) → (with_passed_to o held).owed ≡ held.owed
+    by : (o : Option ℕ) → (with_passed_to o held).pending ≡ held.pending
     by None = refl
     by (Some i) = refl
 
@@ -228,18 +228,18 @@ module _ (owner : Owner) (before after : Seen) (t : Gathers owner before.owed) (
 
   pub fewer_posts : posts_coming (with_task_posted owner) < posts_coming owner
   fewer_posts =
-      let sum = changed-posts owner p.name with_posted p.held p.there owed_posted posted_same in
+      let sum = changed-posts owner p.name with_posted p.held p.there pending_posted posted_same in
       let less = fewer in
       let is = ap posts_coming there_is in
       omega (arith, sum, less, is)
 
   pub goes_posted : IsPosted work before after → GoesOn owner before (with_task_posted owner) after
   goes_posted posted =
-      let sum = changed-tiles owner p.name with_posted p.held p.there owed_posted posted_same in
+      let sum = changed-tiles owner p.name with_posted p.held p.there pending_posted posted_same in
       let same = same_tiles in
       let tiles : tiles_coming (with_task_posted owner) ≡ tiles_coming owner =
       ap tiles_coming there_is ∙ (let e : tiles_coming with_posted_there ≡ tiles_coming owner = omega (arith, sum, same) in e) in
-      let turns_same = ap turns_coming there_is ∙ changed-turns owner p.name with_posted p.held p.there owed_posted posted_same in
+      let turns_same = ap turns_coming there_is ∙ changed-turns owner p.name with_posted p.held p.there pending_posted posted_same in
       let less = fewer_posts in
       record {
         gathers = subst (Gathers (with_task_posted owner)) (sym posted.owed) (gathers_posted owner before.owed t work some);
@@ -252,9 +252,9 @@ module _ (owner : Owner) (before after : Seen) (t : Gathers owner before.owed) (
         turns = omega (arith, turns_same);
         tiles = omega (arith, tiles);
         posts = omega (arith, less);
-        owes = λ name quiet.
-            let is = ap (λ (o : Owner). owed_in o.state name) there_is in
-            let same = owed-changed owner.state p.name with_posted owed_posted name in
+        pending = λ name quiet.
+            let is = ap (λ (o : Owner). pending_in o.state name) there_is in
+            let same = pending-changed owner.state p.name with_posted pending_posted name in
             omega (arith, is, same);
         waits = λ name. ap (λ (o : Owner). is_waited_for o.waiting name) there_is;
       }
@@ -311,9 +311,9 @@ module _ (owner : Owner) (before after : Seen) (t : Gathers owner before.owed) (
           turns = omega (arith, turns_same);
           tiles = omega (arith, less);
           posts = omega (arith, posts, same);
-          owes = λ name quiet.
-              let owed = owed-changed owner.state work.name.label.session (with_tile_in (tile_number_of work)) (λ held. refl) name in
-              omega (arith, owed);
+          pending = λ name quiet.
+              let pending = pending-changed owner.state work.name.label.session (with_tile_in (tile_number_of work)) (λ held. refl) name in
+              omega (arith, pending);
           waits = λ name. refl;
         }
 
@@ -415,9 +415,9 @@ turns_on owner next seen t name whole more is alike number quota =
         turns = omega (arith, turns_less, turns_is);
         tiles = omega (arith, tiles);
         posts = omega (arith, posts_less, posts_is);
-        owes = λ other quiet.
-            let few = turned-owes name owner other quiet in
-            let same = ap (λ (o : Owner). owed_in o.state other) is in
+        pending = λ other quiet.
+            let few = turned-pending name owner other quiet in
+            let same = ap (λ (o : Owner). pending_in o.state other) is in
             omega (arith, few, same);
         waits = λ other. ap (λ (o : Owner). is_waited_for o.waiting other) is ∙ turned-waits name owner other;
       };

@@ -3,7 +3,7 @@ use Rattle.std.proofs.Common.{◌≡◌, ℕ, ◌-◌, ◌<◌, ◌≤◌, List,
 use Rattle.std.specs.List.{IsDistinct, Contains}
 use Rattle.std.specs.Str.{bytes_eq}
 use Rattle.lj_tile.specs.Task.{Task}
-use Rattle.lj_session.specs.UserState.{UserState, owed_in, with_steps_restarted, names}
+use Rattle.lj_session.specs.UserState.{UserState, pending_in, with_steps_restarted, names}
 use Rattle.lj_session.specs.Owner.{Owner, owner_of_state, is_waited_for}
 use Rattle.lj_wire.specs.declared.reader.phase.Phase.TheVariants.{Open}
 use Rattle.lj_wire.specs.LineReader.{LineReader}
@@ -11,15 +11,15 @@ use Rattle.lj_pool.specs.declared.engine.running.Halt.{Halt}
 use Rattle.lj_pool.specs.declared.engine.served.Served.{Served}
 use Rattle.lj_pool.specs.Endings.{served_of}
 use Rattle.lj_pool.specs.Seen.{Seen}
-use Rattle.lj_pool.specs.Gathering.{Gathers, NoneOwed}
-use Rattle.lj_pool.specs.Counting.{tiles_owed}
+use Rattle.lj_pool.specs.Gathering.{Gathers, NonePending}
+use Rattle.lj_pool.specs.Counting.{tiles_pending}
 use Rattle.lj_pool.specs.Coming.{GoesOn, waiting_tiles_of, tiles_to_come, tiles_coming}
 use Rattle.lj_pool.specs.Served.{HandsBack}
 use Rattle.lj_pool.specs.Serving.{Serving}
 use Rattle.lj_pool.proofs.Dialogues.{serving-start, serving-goes}
 use Rattle.lj_pool.proofs.Ending.{alike_none}
 use Rattle.lj_pool.proofs.Going.{rises_more, rises_none}
-use Rattle.lj_pool.proofs.Rested.{gathers-entered, rested-few, none-owed, owed-owes}
+use Rattle.lj_pool.proofs.Rested.{gathers-entered, rested-few, none-owed, owed-pending}
 
 -- an owner that has just been given the state
 module _ (state : UserState) (number : ℕ) (owner : Owner) (is : owner ≡ owner_of_state state number) where
@@ -54,21 +54,21 @@ module _ {owner : Owner} {seen : Seen} (idle : owner.waiting ≡ None) {next : O
       (rises_more (tiles_coming owner - tiles_coming next) 0 (tiles_to_come owner.state - tiles_to_come next.state) goes.counted
       (rises_none newer newer 0 refl refl (omega arith)) (omega (arith, before, after)))
       (let handed = goes.handed in omega (arith, handed, before, after))
-      (λ name. goes.owes name (ap (λ w. is_waited_for w name) idle))
+      (λ name. goes.pending name (ap (λ w. is_waited_for w name) idle))
 
-  -- a step is owed then to the session of each task that is owed
-  pub ahead_owes : (task : Task) → Contains newer.owed task → 0 < owed_in next.state task.name.label.session
-  ahead_owes = owed-owes next newer.owed goes.gathers ahead_idle
+  -- the session of each task that is owed has a pending step then
+  pub ahead_pending : (task : Task) → Contains newer.owed task → 0 < pending_in next.state task.name.label.session
+  ahead_pending = owed-pending next newer.owed goes.gathers ahead_idle
 
 -- the state handed back
 module _ (owner : Owner) (seen : Seen) (t : Gathers owner seen.owed) (idle : owner.waiting ≡ None) (back : UserState)
     (is : back ≡ with_steps_restarted owner.state) where
-  pub back_few : tiles_to_come owner.state ≤ tiles_owed back
-  back_few = subst (λ o. tiles_to_come owner.state ≤ tiles_owed o) (sym is) (rested-few owner seen.owed t idle)
+  pub back_few : tiles_to_come owner.state ≤ tiles_pending back
+  back_few = subst (λ o. tiles_to_come owner.state ≤ tiles_pending o) (sym is) (rested-few owner seen.owed t idle)
 
   pub hands_back : (start : UserState) → owner.state.quota ≡ start.quota → HandsBack start seen back
   hands_back start quota = record {
-    none_owed = λ none. none-owed owner seen.owed t idle (subst NoneOwed is none);
+    none_owed = λ none. none-owed owner seen.owed t idle (subst NonePending is none);
     quota = ap (λ (state : UserState). state.quota) is ∙ quota;
   }
 

@@ -26,7 +26,7 @@ use Rattle.lj_session.specs.UserState.{live_session, with_start, turns_before}
 use Rattle.lj_session.specs.Owner.{IsAnswered}
 use Rattle.lj_session.proofs.AtWork.{kind-none}
 use Rattle.lj_session.proofs.Entries.{by_test, named-put_any}
-use Rattle.lj_session.proofs.Holding.{named-held, named-absent, owed-of, none-before}
+use Rattle.lj_session.proofs.Holding.{named-held, named-absent, pending-of, none-before}
 use Rattle.lj_session.proofs.Loading.{new-admitted}
 use Rattle.lj_pool.specs.Counting.{advance_tiles, measure_tiles, command_tiles}
 
@@ -91,7 +91,7 @@ refused-load user load mark there = by (admission user load) refl
     by (Ok mix) e = absurd (true≢false (sym there ∙ (new-admitted user load mix e).0))
     by (Err refusal) e = (refusal, rw e refl)
 
--- what becomes of the steps of a session: none is owed or open before and after; or they are as they were; or START owes more
+-- what becomes of the steps of a session: none is pending or open before and after; or they are as they were; or START adds more
 pub record RestsBoth (old new : UserState) (name : List ℕ) : Type 0 where
   pub before : IsIdleIn old name
   pub after : IsIdleIn new name
@@ -123,11 +123,11 @@ module _ (old new : UserState) (command : Command) (reply : Reply) (work : IsAtW
   absent : (held : LiveSession) → live_session old name ≡ None → live_session old name ≡ Some held → ⊥
   absent held none some = none-some held (sym none ∙ some)
 
-  -- nothing is owed to a session that the command waits for
+  -- a session that the command waits for has no pending steps
   waited_idle : waits_for command ≡ Some name → IsIdleIn old name
   waited_idle waits held found =
-      let none = owed-of old name held found (none-before old command name waits at_once) in
-      record { owed = none; closed = work name held found ∙ kind-none None name held none refl }
+      let none = pending-of old name held found (none-before old command name waits at_once) in
+      record { pending = none; closed = work name held found ∙ kind-none None name held none refl }
 
   generic : IsIdleIn old name
       → ((after : LiveSession) → live_session new name ≡ Some after → IsIdle after ⊎ IsSomeAnd (live_session old name) (λ held. SameSteps held after))
@@ -189,11 +189,11 @@ module _ (old new : UserState) (command : Command) (reply : Reply) (work : IsAtW
         same = subst (λ o. IsSomeAnd o (λ held. SameSteps held after)) w (follows after e);
       }))
 
-  start_owes : (n : ℕ) → command ≡ Start name n
+  start_adds : (n : ℕ) → command ≡ Start name n
       → ((held : LiveSession) → live_session old name ≡ Some held → live_session new name ≡ None → ⊥)
       → ((after : LiveSession) → live_session new name ≡ Some after → IsSomeAnd (live_session old name) (λ held. after ≡ with_start n held))
       → Outcome old new command name
-  start_owes n which stays follows = by (live_session old name) refl (live_session new name) refl
+  start_adds n which stays follows = by (live_session old name) refl (live_session new name) refl
     where
       by : (o : Option LiveSession) → live_session old name ≡ o → (p : Option LiveSession) → live_session new name ≡ p → Outcome old new command name
       by None w None e = gone w e
@@ -242,11 +242,11 @@ outcome old new (Load load) reply work a u s z name n = by (live_session old nam
       after = held;
       was = e;
       is = ap (λ (o : UserState). live_session o name) (unchanged_by held e) ∙ e;
-      same = record { live = refl; passed = refl; owed = refl };
+      same = record { live = refl; passed = refl; pending = refl };
     }))
 outcome old new (Start session k) reply work a u s z name n =
     let is = same_name_of session name n in
-    start_owes old new (Start session k) reply work a u s z name n k (ap (λ m. Start m k) is)
+    start_adds old new (Start session k) reply work a u s z name n k (ap (λ m. Start m k) is)
     (staying old new (Start session k) reply work a u s z name n (λ held found.
     still-there (user_of old) name (command_result (user_of old) (Start session k) a.mark)
     (ap is_some (named-held old name held found))

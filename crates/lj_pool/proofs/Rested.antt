@@ -1,4 +1,4 @@
--- States whose steps are begun anew: what is to come of them, and that nothing is owed then where no step is.
+-- States whose steps are begun anew: what is to come of them, and that nothing is owed then where no step is pending.
 use Rattle.std.proofs.Common.{◌≡◌, ℕ, ◌<◌, ◌≤◌, nat_lt, List, [], ◌∷◌, map, Option, Some, None, refl, sym, ap}
 use Rattle.std.proofs.Common.{◌∙◌, subst, arith}
 use Rattle.std.specs.List.{IsDistinct, Contains, filter, sum_by}
@@ -8,17 +8,17 @@ use Rattle.std.proofs.lemmas.Bool.{ltb-true, ltb-false}
 use Rattle.std.proofs.lemmas.List.Sums.{sum_by-cons}
 use Rattle.std.proofs.lemmas.Option.{none-some, same_Some}
 use Rattle.lj_tile.specs.Task.{Task}
-use Rattle.lj_session.specs.UserState.{LiveSession, UserState, IsAtWork, live_session, owed_in, names, with_step_restarted, with_steps_restarted}
+use Rattle.lj_session.specs.UserState.{LiveSession, UserState, IsAtWork, live_session, pending_in, names, with_step_restarted, with_steps_restarted}
 use Rattle.lj_session.specs.Owner.{Owner, owner_of_state, label_of}
 use Rattle.lj_session.proofs.AtWork.{at_work-rested, kind-none}
 use Rattle.lj_session.proofs.Entries.{by_test, named-seen}
-use Rattle.lj_session.proofs.Holding.{owed-of}
-use Rattle.lj_pool.specs.Gathering.{IsGathered, is_of, tasks_posted_of, Gathers, NoneOwed}
-use Rattle.lj_pool.specs.Counting.{owed_tiles, tiles_owed}
+use Rattle.lj_session.proofs.Holding.{pending-of}
+use Rattle.lj_pool.specs.Gathering.{IsGathered, is_of, tasks_posted_of, Gathers, NonePending}
+use Rattle.lj_pool.specs.Counting.{pending_tiles, tiles_pending}
 use Rattle.lj_pool.specs.Coming.{tiles_of_session, tiles_to_come}
 use Rattle.lj_pool.proofs.Sessions.{same_name, sum-below}
 use Rattle.lj_pool.proofs.Gathered.{Opened, owed_wanted, taken_open}
-use Rattle.lj_pool.proofs.Tiles.{rest-tiles, rest-owed, rest-more, rest-gathered, rest-posted, closed-part, closed-posted}
+use Rattle.lj_pool.proofs.Tiles.{rest-tiles, rest-pending, rest-more, rest-gathered, rest-posted, closed-part, closed-posted}
 
 -- sums over the sessions of a state begun anew
 rested-sum : (f g : LiveSession → ℕ) → ((held : LiveSession) → f (with_step_restarted held) ≡ g held) → (es : List (List ℕ × LiveSession))
@@ -32,33 +32,33 @@ rested-sum f g same (e ∷ es) =
     let tail = rested-sum f g same es in
     omega (arith, new, old, head, tail)
 
-pub rested-tiles : (state : UserState) → tiles_to_come (with_steps_restarted state) ≡ tiles_owed state
-rested-tiles state = rested-sum tiles_of_session owed_tiles rest-tiles state.sessions
+pub rested-tiles : (state : UserState) → tiles_to_come (with_steps_restarted state) ≡ tiles_pending state
+rested-tiles state = rested-sum tiles_of_session pending_tiles rest-tiles state.sessions
 
-rested-owed : (state : UserState) → tiles_owed (with_steps_restarted state) ≡ tiles_owed state
-rested-owed state = rested-sum owed_tiles owed_tiles rest-owed state.sessions
+rested-pending_tiles : (state : UserState) → tiles_pending (with_steps_restarted state) ≡ tiles_pending state
+rested-pending_tiles state = rested-sum pending_tiles pending_tiles rest-pending state.sessions
 
 rested-there : (state : UserState) (name : List ℕ) → live_session (with_steps_restarted state) name ≡ option_map with_step_restarted (live_session state name)
 rested-there state name = named-seen with_step_restarted name state.sessions
 
--- as many steps are owed to each session
-rest-count : (held : LiveSession) → (with_step_restarted held).owed ≡ held.owed
-rest-count held = by_test (nat_lt 0 held.owed) (λ t. rw t refl) (λ t. rw t refl)
+-- as many steps are pending in each session
+rest-count : (held : LiveSession) → (with_step_restarted held).pending ≡ held.pending
+rest-count held = by_test (nat_lt 0 held.pending) (λ t. rw t refl) (λ t. rw t refl)
 
-pub rested-owes : (state : UserState) (name : List ℕ) → owed_in (with_steps_restarted state) name ≡ owed_in state name
-rested-owes state name = ap (λ o. option_map_or (λ (h : LiveSession). h.owed) o 0) (rested-there state name) ∙ by (live_session state name)
+pub rested-pending : (state : UserState) (name : List ℕ) → pending_in (with_steps_restarted state) name ≡ pending_in state name
+rested-pending state name = ap (λ o. option_map_or (λ (h : LiveSession). h.pending) o 0) (rested-there state name) ∙ by (live_session state name)
   where
-    by : (o : Option LiveSession) → option_map_or (λ (h : LiveSession). h.owed) (option_map with_step_restarted o) 0 ≡ option_map_or (λ (h : LiveSession). h.owed) o 0
+    by : (o : Option LiveSession) → option_map_or (λ (h : LiveSession). h.pending) (option_map with_step_restarted o) 0 ≡ option_map_or (λ (h : LiveSession). h.pending) o 0
     by None = refl
     by (Some held) = rest-count held
 
 -- no more is to come of a state than of the same begun anew
 pub rested-few : (owner : Owner) (owed : List Task) → Gathers owner owed → owner.waiting ≡ None
-    → tiles_to_come owner.state ≤ tiles_owed (with_steps_restarted owner.state)
+    → tiles_to_come owner.state ≤ tiles_pending (with_steps_restarted owner.state)
 rested-few owner owed t idle =
     let below = sum-below tiles_of_session owner.state.sessions (with_steps_restarted owner.state).sessions t.distinct more in
     let all = rested-tiles owner.state in
-    let same = rested-owed owner.state in
+    let same = rested-pending_tiles owner.state in
     omega (arith, below, all, same)
   where
     work : IsAtWork None owner.state
@@ -101,16 +101,16 @@ module _ (owner : Owner) (owed : List Task) (t : Gathers owner owed) (idle : own
   work : IsAtWork None owner.state
   work = subst (λ w. IsAtWork w owner.state) idle t.at_work
 
-  none_posted : (name : List ℕ) → owed_in owner.state name ≡ 0 → (o : Option LiveSession) → live_session owner.state name ≡ o
+  none_posted : (name : List ℕ) → pending_in owner.state name ≡ 0 → (o : Option LiveSession) → live_session owner.state name ≡ o
       → tasks_posted_of (label_of owner name) (live_session owner.state name) ≡ []
   none_posted name none None e = ap (tasks_posted_of (label_of owner name)) e
   none_posted name none (Some held) e =
       ap (tasks_posted_of (label_of owner name)) e
       ∙ closed-posted held (label_of owner name) (closed-part held.live.part
-      (work name held e ∙ kind-none None name held (owed-of owner.state name held e none) refl))
+      (work name held e ∙ kind-none None name held (pending-of owner.state name held e none) refl))
 
-  -- the session of a task owes a step
-  not_none : (w : Task) (ws : List Task) → owed ≡ w ∷ ws → owed_in owner.state w.name.label.session ≡ 0 → ⊥
+  -- the session of a task has a pending step
+  not_none : (w : Task) (ws : List Task) → owed ≡ w ∷ ws → pending_in owner.state w.name.label.session ≡ 0 → ⊥
   not_none w ws e none =
       let name = w.name.label.session in
       let empty : filter (is_of name) (w ∷ ws) ≡ [] =
@@ -118,20 +118,20 @@ module _ (owner : Owner) (owed : List Task) (t : Gathers owner owed) (idle : own
       let here = same_name name in
       absurd (let k = rw here at empty in cc)
 
-  -- where no step is owed to the sessions, the pool owes nothing
-  pub none-owed : NoneOwed (with_steps_restarted owner.state) → owed ≡ []
+  -- where the sessions have no pending steps, the pool owes nothing
+  pub none-owed : NonePending (with_steps_restarted owner.state) → owed ≡ []
   none-owed none = by owed refl
     where
       by : (ws : List Task) → owed ≡ ws → owed ≡ []
       by [] e = e
       by (w ∷ ws) e =
-          absurd (not_none w ws e (sym (rested-owes owner.state w.name.label.session) ∙ none w.name.label.session))
+          absurd (not_none w ws e (sym (rested-pending owner.state w.name.label.session) ∙ none w.name.label.session))
 
-  -- a step is owed to the session of each task that it owes
-  pub owed-owes : (task : Task) → Contains owed task → 0 < owed_in owner.state task.name.label.session
-  owed-owes task there =
-      by_test (nat_lt 0 (owed_in owner.state name)) (λ yes. ltb-true 0 (owed_in owner.state name) yes)
-      (λ no. absurd (let none = ltb-false 0 (owed_in owner.state name) no in closed (omega (arith, none))))
+  -- the session of each task that it owes has a pending step
+  pub owed-pending : (task : Task) → Contains owed task → 0 < pending_in owner.state task.name.label.session
+  owed-pending task there =
+      by_test (nat_lt 0 (pending_in owner.state name)) (λ yes. ltb-true 0 (pending_in owner.state name) yes)
+      (λ no. absurd (let none = ltb-false 0 (pending_in owner.state name) no in closed (omega (arith, none))))
     where
       name : List ℕ
       name = task.name.label.session
@@ -139,6 +139,6 @@ module _ (owner : Owner) (owed : List Task) (t : Gathers owner owed) (idle : own
       opened : Opened owner owed t name
       opened = taken_open owner owed t task (owed_wanted owner owed t task there)
 
-      closed : owed_in owner.state name ≡ 0 → ⊥
+      closed : pending_in owner.state name ≡ 0 → ⊥
       closed none = none-some opened.step (sym (closed-part opened.held.live.part (work name opened.held opened.there
-          ∙ kind-none None name opened.held (owed-of owner.state name opened.held opened.there none) refl)) ∙ opened.is_open)
+          ∙ kind-none None name opened.held (pending-of owner.state name opened.held opened.there none) refl)) ∙ opened.is_open)

@@ -24,7 +24,7 @@ use Rattle.lj_session.specs.Users.{Session, User, branches_used}
 use Rattle.lj_session.specs.declared.refusal.Refusal.TheVariants.{BranchExists, QuotaBranches, StepRange, Memory}
 use Rattle.lj_session.specs.Loads.{admission, body_or_refusal, session_read, refusal_unless}
 use Rattle.lj_session.specs.Answers.{session_of, simulation_saved, atom_or_refusal, can_advance, command_result, reply_and_user, answer}
-use Rattle.lj_session.specs.UserState.{LiveSession, UserState, as_entry, user_of, live_session, owed_in, names, with_session_changed}
+use Rattle.lj_session.specs.UserState.{LiveSession, UserState, as_entry, user_of, live_session, pending_in, names, with_session_changed}
 use Rattle.lj_session.proofs.Entries.{by_test, named-put_any, named-taken_other, put-new, sum-put, sum-taken}
 use Rattle.lj_session.proofs.Holding.{changed-some, changed-none}
 use Rattle.lj_session.proofs.Others.{others-changed}
@@ -42,36 +42,36 @@ module _ (state : UserState) (name : List ℕ) (change : LiveSession → LiveSes
   pub other-changed : (other : List ℕ) → (name ≡ other → ⊥) → live_session (with_session_changed name change state) other ≡ live_session state other
   other-changed other apart = others-changed state name change other (λ same. apart (same_Some name other same))
 
-  -- what is owed before and after is related, where each change relates it
-  owed-related : (R : ℕ → ℕ → Type 0) → ((n : ℕ) → R n n) → ((held : LiveSession) → R (change held).owed held.owed) → (other : List ℕ)
-      → R (owed_in (with_session_changed name change state) other) (owed_in state other)
-  owed-related R same each other = by_test (bytes_eq name other)
-      (λ t. subst (λ n. R (owed_in (with_session_changed name change state) n) (owed_in state n)) ((bytes_eq-Decides name other).0 t) here)
-      (λ t. subst (λ n. R n (owed_in state other))
-      (sym (ap owed_of (other-changed other (λ is. true≢false (sym ((bytes_eq-Decides name other).1 is) ∙ t)))))
-      (same (owed_in state other)))
+  -- the pending steps before and after are related, where each change relates them
+  pending-related : (R : ℕ → ℕ → Type 0) → ((n : ℕ) → R n n) → ((held : LiveSession) → R (change held).pending held.pending) → (other : List ℕ)
+      → R (pending_in (with_session_changed name change state) other) (pending_in state other)
+  pending-related R same each other = by_test (bytes_eq name other)
+      (λ t. subst (λ n. R (pending_in (with_session_changed name change state) n) (pending_in state n)) ((bytes_eq-Decides name other).0 t) here)
+      (λ t. subst (λ n. R n (pending_in state other))
+      (sym (ap pending_of (other-changed other (λ is. true≢false (sym ((bytes_eq-Decides name other).1 is) ∙ t)))))
+      (same (pending_in state other)))
     where
-      owed_of : Option LiveSession → ℕ
-      owed_of o = option_map_or (λ (h : LiveSession). h.owed) o 0
+      pending_of : Option LiveSession → ℕ
+      pending_of o = option_map_or (λ (h : LiveSession). h.pending) o 0
 
-      here : R (owed_in (with_session_changed name change state) name) (owed_in state name)
+      here : R (pending_in (with_session_changed name change state) name) (pending_in state name)
       here = by (live_session state name) refl
         where
-          by : (o : Option LiveSession) → live_session state name ≡ o → R (owed_in (with_session_changed name change state) name) (owed_in state name)
-          by None e = subst (λ (o : UserState). R (owed_in o name) (owed_in state name)) (sym (changed-none state name change e))
-              (same (owed_in state name))
+          by : (o : Option LiveSession) → live_session state name ≡ o → R (pending_in (with_session_changed name change state) name) (pending_in state name)
+          by None e = subst (λ (o : UserState). R (pending_in o name) (pending_in state name)) (sym (changed-none state name change e))
+              (same (pending_in state name))
           by (Some held) e =
-              subst (λ n. R n (owed_in state name)) (sym (ap owed_of (there-changed held e)))
-              (subst (R (change held).owed) (sym (ap owed_of e)) (each held))
+              subst (λ n. R n (pending_in state name)) (sym (ap pending_of (there-changed held e)))
+              (subst (R (change held).pending) (sym (ap pending_of e)) (each held))
 
-  -- what is owed stays, where the change leaves it, and falls, where the change lowers it
-  pub owed-changed : ((held : LiveSession) → (change held).owed ≡ held.owed) → (other : List ℕ)
-      → owed_in (with_session_changed name change state) other ≡ owed_in state other
-  owed-changed = owed-related (λ n m. n ≡ m) (λ n. refl)
+  -- the number of pending steps stays, where the change leaves it, and falls, where the change lowers it
+  pub pending-changed : ((held : LiveSession) → (change held).pending ≡ held.pending) → (other : List ℕ)
+      → pending_in (with_session_changed name change state) other ≡ pending_in state other
+  pending-changed = pending-related (λ n m. n ≡ m) (λ n. refl)
 
-  pub owed-lowered : ((held : LiveSession) → (change held).owed ≤ held.owed) → (other : List ℕ)
-      → owed_in (with_session_changed name change state) other ≤ owed_in state other
-  owed-lowered = owed-related (λ n m. n ≤ m) (λ n. omega arith)
+  pub pending-lowered : ((held : LiveSession) → (change held).pending ≤ held.pending) → (other : List ℕ)
+      → pending_in (with_session_changed name change state) other ≤ pending_in state other
+  pending-lowered = pending-related (λ n m. n ≤ m) (λ n. omega arith)
 
   pub sum-changed : (f : LiveSession → ℕ) (held : LiveSession) → live_session state name ≡ Some held
       → sum_over f (with_session_changed name change state) + f held ≡ sum_over f state + f (change held)

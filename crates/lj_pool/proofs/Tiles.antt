@@ -1,4 +1,4 @@
--- The tiles that are to come of one session: as its steps are owed, opened, turned and begun anew.
+-- The tiles that are to come of one session: as its steps are added, opened, turned and begun anew.
 use Rattle.std.proofs.Common.{◌≡◌, ℕ, zero, suc, ◌+◌, ◌-◌, ◌<◌, ◌≤◌, true, false, ◌&&◌, nat_le, nat_lt, [], length, Option, Some, None}
 use Rattle.std.proofs.Common.{refl, sym, ap, ◌∙◌, subst, arith}
 use Rattle.std.proofs.lemmas.Bool.{lt-ltb, lt-leb, ltb-true, ltb-false}
@@ -11,11 +11,11 @@ use Rattle.lj_step.specs.Sim.{Sim, OpenStep}
 use Rattle.lj_step.specs.Motion.{Simulation, next_simulation, steps}
 use Rattle.lj_step.specs.OpenSteps.{cover, kind_of, tiles_of, tiles_in}
 use Rattle.lj_session.specs.Answers.{can_advance}
-use Rattle.lj_session.specs.UserState.{LiveSession, settled_session, with_more_owed, with_start, with_step, with_step_taken, with_step_finished, with_no_step, with_step_restarted, kind_owed, IsIdle}
+use Rattle.lj_session.specs.UserState.{LiveSession, settled_session, with_more_pending, with_start, with_step, with_step_taken, with_step_finished, with_no_step, with_step_restarted, kind_pending, IsIdle}
 use Rattle.lj_session.proofs.Entries.{by_test}
 use Rattle.lj_session.proofs.AtWork.{kind-none}
 use Rattle.lj_pool.specs.Gathering.{times, tiles_left_in, tasks_posted_in, tasks_posted_of, IsGathered}
-use Rattle.lj_pool.specs.Counting.{frame_tiles, steps_tiles, advance_tiles, owed_tiles}
+use Rattle.lj_pool.specs.Counting.{frame_tiles, steps_tiles, advance_tiles, pending_tiles}
 use Rattle.lj_pool.specs.Coming.{tiles_after, tiles_of_session, posts_of_session}
 use Rattle.lj_pool.proofs.Gathering.{opened_left, gathered_opened, gathered_closed}
 
@@ -44,7 +44,7 @@ module _ (held : LiveSession) (idle : IsIdle held) where
   closed = closed-part held.live.part idle.closed
 
   nothing : tiles_after held ≡ 0
-  nothing = ap (λ n. steps_tiles held.live.composition (n - 1) (next_simulation held.live.composition held.live.sim)) idle.owed
+  nothing = ap (λ n. steps_tiles held.live.composition (n - 1) (next_simulation held.live.composition held.live.sim)) idle.pending
 
   pub idle-tiles : tiles_of_session held ≡ 0
   idle-tiles = let left = ap tiles_left_in closed in omega (arith, left, nothing)
@@ -57,7 +57,7 @@ module _ (held : LiveSession) (idle : IsIdle held) where
   pub idle-gathered : IsGathered held
   idle-gathered = gathered_closed held closed
 
--- a step opened, and those that are owed after it
+-- a step opened, and those that are pending after it
 pub opened-tiles : (kind : Kind) (held : LiveSession)
     → tiles_of_session (with_step kind held) ≡ frame_tiles held.live.composition held.live.sim + tiles_after held
 opened-tiles kind held =
@@ -67,145 +67,145 @@ pub opened-posts : (kind : Kind) (held : LiveSession)
     → posts_of_session (with_step kind held) ≡ frame_tiles held.live.composition held.live.sim + tiles_after held
 opened-posts kind held = omega arith
 
--- steps owed to an idle session
+-- steps added to an idle session
 module _ (held : LiveSession) (idle : IsIdle held) (n : ℕ) (some : 0 < n) where
-  owing_is : with_more_owed n held ≡ with_step Force (record held { owed = held.owed + n })
-  owing_is =
+  added_is : with_more_pending n held ≡ with_step Force (record held { pending = held.pending + n })
+  added_is =
       let b : nat_lt 0 n ≡ true = lt-ltb 0 n some in
-      let c : nat_le held.owed 0 ≡ true = rw idle.owed refl in
+      let c : nat_le held.pending 0 ≡ true = rw idle.pending refl in
       rw (b, c) refl
 
-  sum_is : frame_tiles held.live.composition held.live.sim + tiles_after (record held { owed = held.owed + n })
+  sum_is : frame_tiles held.live.composition held.live.sim + tiles_after (record held { pending = held.pending + n })
       ≡ steps_tiles held.live.composition n held.live.sim
   sum_is =
       ap (λ k. frame_tiles held.live.composition held.live.sim
       + steps_tiles held.live.composition k (next_simulation held.live.composition held.live.sim))
-      (let same : held.owed + n - 1 ≡ n - 1 = let none = idle.owed in omega (arith, none) in same)
+      (let same : held.pending + n - 1 ≡ n - 1 = let none = idle.pending in omega (arith, none) in same)
       ∙ sym (tiles-suc held.live.composition n held.live.sim some)
 
-  pub owing-tiles : tiles_of_session (with_more_owed n held) ≡ steps_tiles held.live.composition n held.live.sim
-  owing-tiles = ap tiles_of_session owing_is ∙ opened-tiles Force (record held { owed = held.owed + n }) ∙ sum_is
+  pub added-tiles : tiles_of_session (with_more_pending n held) ≡ steps_tiles held.live.composition n held.live.sim
+  added-tiles = ap tiles_of_session added_is ∙ opened-tiles Force (record held { pending = held.pending + n }) ∙ sum_is
 
-  pub owing-posts : posts_of_session (with_more_owed n held) ≡ steps_tiles held.live.composition n held.live.sim
-  owing-posts = ap posts_of_session owing_is ∙ opened-posts Force (record held { owed = held.owed + n }) ∙ sum_is
+  pub added-posts : posts_of_session (with_more_pending n held) ≡ steps_tiles held.live.composition n held.live.sim
+  added-posts = ap posts_of_session added_is ∙ opened-posts Force (record held { pending = held.pending + n }) ∙ sum_is
 
-  pub owing-gathered : IsGathered (with_more_owed n held)
-  owing-gathered = subst IsGathered (sym owing_is) (gathered_opened Force (record held { owed = held.owed + n }))
+  pub added-gathered : IsGathered (with_more_pending n held)
+  added-gathered = subst IsGathered (sym added_is) (gathered_opened Force (record held { pending = held.pending + n }))
 
-  pub owing-posted : (label : Label) → tasks_posted_of label (Some (with_more_owed n held)) ≡ []
-  owing-posted label = ap (λ (h : LiveSession). tasks_posted_of label (Some h)) owing_is
+  pub added-posted : (label : Label) → tasks_posted_of label (Some (with_more_pending n held)) ≡ []
+  added-posted label = ap (λ (h : LiveSession). tasks_posted_of label (Some h)) added_is
 
-  pub owing-open : (with_more_owed n held).live.part ≡ (with_step Force held).live.part
-  owing-open = ap (λ (h : LiveSession). h.live.part) owing_is
+  pub added-open : (with_more_pending n held).live.part ≡ (with_step Force held).live.part
+  added-open = ap (λ (h : LiveSession). h.live.part) added_is
 
 -- a step passed
 module _ (held : LiveSession) where
   next : LiveSession
   next = with_step_taken held
 
-  passed_sum : 0 < held.owed - 1
+  passed_sum : 0 < held.pending - 1
       → frame_tiles held.live.composition (next_simulation held.live.composition held.live.sim)
-      + steps_tiles held.live.composition (held.owed - 1 - 1)
+      + steps_tiles held.live.composition (held.pending - 1 - 1)
       (next_simulation held.live.composition (next_simulation held.live.composition held.live.sim)) ≡ tiles_after held
   passed_sum some =
-      sym (tiles-suc held.live.composition (held.owed - 1) (next_simulation held.live.composition held.live.sim) some)
+      sym (tiles-suc held.live.composition (held.pending - 1) (next_simulation held.live.composition held.live.sim) some)
 
-  last_sum : held.owed - 1 ≤ 0 → steps_tiles held.live.composition (held.owed - 1 - 1)
+  last_sum : held.pending - 1 ≤ 0 → steps_tiles held.live.composition (held.pending - 1 - 1)
       (next_simulation held.live.composition (next_simulation held.live.composition held.live.sim)) ≡ tiles_after held
   last_sum none =
-      let zero_left : held.owed - 1 ≡ 0 = omega (arith, none) in rw zero_left refl
+      let zero_left : held.pending - 1 ≡ 0 = omega (arith, none) in rw zero_left refl
 
   pub passed-tiles : tiles_of_session (with_step_finished held) ≡ tiles_after held
-  passed-tiles = by_test (nat_lt 0 (held.owed - 1))
-      (λ t. rw t (opened-tiles Force (with_step_taken held) ∙ passed_sum (ltb-true 0 (held.owed - 1) t)))
-      (λ t. rw t (let none = last_sum (ltb-false 0 (held.owed - 1) t) in omega (arith, none)))
+  passed-tiles = by_test (nat_lt 0 (held.pending - 1))
+      (λ t. rw t (opened-tiles Force (with_step_taken held) ∙ passed_sum (ltb-true 0 (held.pending - 1) t)))
+      (λ t. rw t (let none = last_sum (ltb-false 0 (held.pending - 1) t) in omega (arith, none)))
 
   pub passed-posts : posts_of_session (with_step_finished held) ≡ tiles_after held
-  passed-posts = by_test (nat_lt 0 (held.owed - 1))
-      (λ t. rw t (opened-posts Force (with_step_taken held) ∙ passed_sum (ltb-true 0 (held.owed - 1) t)))
-      (λ t. rw t (let none = last_sum (ltb-false 0 (held.owed - 1) t) in omega (arith, none)))
+  passed-posts = by_test (nat_lt 0 (held.pending - 1))
+      (λ t. rw t (opened-posts Force (with_step_taken held) ∙ passed_sum (ltb-true 0 (held.pending - 1) t)))
+      (λ t. rw t (let none = last_sum (ltb-false 0 (held.pending - 1) t) in omega (arith, none)))
 
-  pub passed-owed : (with_step_finished held).owed ≡ held.owed - 1
-  passed-owed = by_test (nat_lt 0 (held.owed - 1)) (λ t. rw t refl) (λ t. rw t refl)
+  pub passed-pending : (with_step_finished held).pending ≡ held.pending - 1
+  passed-pending = by_test (nat_lt 0 (held.pending - 1)) (λ t. rw t refl) (λ t. rw t refl)
 
   pub passed-posted : (label : Label) → tasks_posted_of label (Some (with_step_finished held)) ≡ []
-  passed-posted label = by_test (nat_lt 0 (held.owed - 1)) (λ t. rw t refl) (λ t. rw t refl)
+  passed-posted label = by_test (nat_lt 0 (held.pending - 1)) (λ t. rw t refl) (λ t. rw t refl)
 
   pub passed-gathered : IsGathered (with_step_finished held)
-  passed-gathered = by_test (nat_lt 0 (held.owed - 1))
+  passed-gathered = by_test (nat_lt 0 (held.pending - 1))
       (λ t. rw t (gathered_opened Force (with_step_taken held)))
       (λ t. rw t (gathered_closed (with_step_taken held) refl))
 
   -- the steps begun anew
-  pub rest-tiles : tiles_of_session (with_step_restarted held) ≡ owed_tiles held
-  rest-tiles = by_test (nat_lt 0 held.owed)
-      (λ t. rw t (opened-tiles Force held ∙ sym (tiles-suc held.live.composition held.owed held.live.sim (ltb-true 0 held.owed t))))
-      (λ t. rw t (let few = ltb-false 0 held.owed t in let none : held.owed ≡ 0 = omega (arith, few) in rw none refl))
+  pub rest-tiles : tiles_of_session (with_step_restarted held) ≡ pending_tiles held
+  rest-tiles = by_test (nat_lt 0 held.pending)
+      (λ t. rw t (opened-tiles Force held ∙ sym (tiles-suc held.live.composition held.pending held.live.sim (ltb-true 0 held.pending t))))
+      (λ t. rw t (let few = ltb-false 0 held.pending t in let none : held.pending ≡ 0 = omega (arith, few) in rw none refl))
 
-  pub rest-owed : owed_tiles (with_step_restarted held) ≡ owed_tiles held
-  rest-owed = by_test (nat_lt 0 held.owed) (λ t. rw t refl) (λ t. rw t refl)
+  pub rest-pending : pending_tiles (with_step_restarted held) ≡ pending_tiles held
+  rest-pending = by_test (nat_lt 0 held.pending) (λ t. rw t refl) (λ t. rw t refl)
 
   pub rest-gathered : IsGathered (with_step_restarted held)
-  rest-gathered = by_test (nat_lt 0 held.owed)
+  rest-gathered = by_test (nat_lt 0 held.pending)
       (λ t. rw t (gathered_opened Force held))
       (λ t. rw t (gathered_closed (with_no_step held) refl))
 
   pub rest-posted : (label : Label) → tasks_posted_of label (Some (with_step_restarted held)) ≡ []
-  rest-posted label = by_test (nat_lt 0 held.owed) (λ t. rw t refl) (λ t. rw t refl)
+  rest-posted label = by_test (nat_lt 0 held.pending) (λ t. rw t refl) (λ t. rw t refl)
 
-  -- no more are to come than the steps have that are owed
-  pub rest-more : IsGathered held → kind_of held.live.part ≡ kind_owed None [] held → tiles_of_session held ≤ owed_tiles held
-  rest-more gathered work = by_test (nat_lt 0 held.owed)
-      (λ t. let all = tiles-suc held.live.composition held.owed held.live.sim (ltb-true 0 held.owed t) in
+  -- no more are to come than the pending steps have
+  pub rest-more : IsGathered held → kind_of held.live.part ≡ kind_pending None [] held → tiles_of_session held ≤ pending_tiles held
+  rest-more gathered work = by_test (nat_lt 0 held.pending)
+      (λ t. let all = tiles-suc held.live.composition held.pending held.live.sim (ltb-true 0 held.pending t) in
       let few = gathered.few in omega (arith, all, few))
-      (λ t. let few = ltb-false 0 held.owed t in
-      let none : held.owed ≡ 0 = omega (arith, few) in
-      let idle = idle-tiles held (record { owed = none; closed = work ∙ kind-none None [] held none refl }) in
+      (λ t. let few = ltb-false 0 held.pending t in
+      let none : held.pending ≡ 0 = omega (arith, few) in
+      let idle = idle-tiles held (record { pending = none; closed = work ∙ kind-none None [] held none refl }) in
       omega (arith, idle))
 
 -- a START adds the tiles of its steps
-module _ (held : LiveSession) (n : ℕ) (work : kind_of held.live.part ≡ kind_owed None [] held) where
+module _ (held : LiveSession) (n : ℕ) (work : kind_of held.live.part ≡ kind_pending None [] held) where
   abbrev u : Composition
   u = held.live.composition
 
-  meant_after : 0 < held.owed → steps u (held.owed - 1) (next_simulation u held.live.sim) ≡ (settled_session held).sim
-  meant_after some = by held.owed some
+  meant_after : 0 < held.pending → steps u (held.pending - 1) (next_simulation u held.live.sim) ≡ (settled_session held).sim
+  meant_after some = by held.pending some
     where
       by : (m : ℕ) → 0 < m → steps u (m - 1) (next_simulation u held.live.sim) ≡ steps u m held.live.sim
       by zero some = absurd (omega (arith, some))
       by (suc m) some = ap (λ k. steps u k (next_simulation u held.live.sim)) (let same : suc m - 1 ≡ m = omega arith in same)
 
-  more_after : 0 < held.owed → steps_tiles u (held.owed + n - 1) (next_simulation u held.live.sim)
+  more_after : 0 < held.pending → steps_tiles u (held.pending + n - 1) (next_simulation u held.live.sim)
       ≡ tiles_after held + steps_tiles u n (settled_session held).sim
   more_after some =
-      ap (λ k. steps_tiles u k (next_simulation u held.live.sim)) (let same : held.owed + n - 1 ≡ held.owed - 1 + n = omega (arith, some) in same)
-      ∙ tiles-add u (held.owed - 1) n (next_simulation u held.live.sim)
+      ap (λ k. steps_tiles u k (next_simulation u held.live.sim)) (let same : held.pending + n - 1 ≡ held.pending - 1 + n = omega (arith, some) in same)
+      ∙ tiles-add u (held.pending - 1) n (next_simulation u held.live.sim)
       ∙ ap (λ sim. tiles_after held + steps_tiles u n sim) (meant_after some)
 
-  idle : held.owed ≡ 0 → IsIdle held
-  idle none = record { owed = none; closed = work ∙ kind-none None [] held none refl }
+  idle : held.pending ≡ 0 → IsIdle held
+  idle none = record { pending = none; closed = work ∙ kind-none None [] held none refl }
 
-  owed_more : tiles_of_session (with_more_owed n held) ≡ tiles_of_session held + steps_tiles u n (settled_session held).sim
-  owed_more = by_test (nat_lt 0 held.owed)
-      (λ t. let some = ltb-true 0 held.owed t in
-      let more : nat_le held.owed 0 ≡ false = lt-leb held.owed 0 some in
+  pending_more : tiles_of_session (with_more_pending n held) ≡ tiles_of_session held + steps_tiles u n (settled_session held).sim
+  pending_more = by_test (nat_lt 0 held.pending)
+      (λ t. let some = ltb-true 0 held.pending t in
+      let more : nat_le held.pending 0 ≡ false = lt-leb held.pending 0 some in
       by_test (nat_lt 0 n)
       (λ v. rw (v, more) (let sum = more_after some in omega (arith, sum)))
       (λ v. rw v (let sum = more_after some in omega (arith, sum))))
-      (λ t. let few = ltb-false 0 held.owed t in
-      let none : held.owed ≡ 0 = omega (arith, few) in
+      (λ t. let few = ltb-false 0 held.pending t in
+      let none : held.pending ≡ 0 = omega (arith, few) in
       let before = idle-tiles held (idle none) in
       let same : (settled_session held).sim ≡ held.live.sim = rw none refl in
       by_test (nat_lt 0 n)
-      (λ v. let after = owing-tiles held (idle none) n (ltb-true 0 n v) in
+      (λ v. let after = added-tiles held (idle none) n (ltb-true 0 n v) in
       let is = ap (steps_tiles u n) same in omega (arith, before, after, is))
       (λ v. let small = ltb-false 0 n v in
       let zero_more : n ≡ 0 = omega (arith, small) in
-      rw zero_more (let stays : held.owed + 0 ≡ held.owed = omega arith in rw stays (omega arith))))
+      rw zero_more (let stays : held.pending + 0 ≡ held.pending = omega arith in rw stays (omega arith))))
 
   pub started-tiles : tiles_of_session (with_start n held) ≡ tiles_of_session held + advance_tiles (Some (settled_session held)) n
   started-tiles = by_test (can_advance (settled_session held) n)
-      (λ t. rw t owed_more)
+      (λ t. rw t pending_more)
       (λ t. rw t (omega arith))
 
 -- where no step is open nothing is posted and not in
@@ -213,7 +213,7 @@ pub closed-posted : (held : LiveSession) (label : Label) → held.live.part ≡ 
 closed-posted held label closed = ap (tasks_posted_in label held.live held.passed) closed
 
 -- sessions of the same steps
-module _ (old new : LiveSession) (live : new.live ≡ old.live) (passed : new.passed ≡ old.passed) (owed : new.owed ≡ old.owed) where
+module _ (old new : LiveSession) (live : new.live ≡ old.live) (passed : new.passed ≡ old.passed) (pending : new.pending ≡ old.pending) where
   pub same-posted : (label : Label) → tasks_posted_of label (Some new) ≡ tasks_posted_of label (Some old)
   same-posted label =
       ap (λ (l : Sim). tasks_posted_in label l new.passed l.part) live
@@ -221,8 +221,8 @@ module _ (old new : LiveSession) (live : new.live ≡ old.live) (passed : new.pa
 
   pub same-tiles : tiles_of_session new ≡ tiles_of_session old
   same-tiles =
-      ap (λ (l : Sim). tiles_left_in l.part + steps_tiles l.composition (new.owed - 1) (next_simulation l.composition l.sim)) live
-      ∙ ap (λ n. tiles_left_in old.live.part + steps_tiles old.live.composition (n - 1) (next_simulation old.live.composition old.live.sim)) owed
+      ap (λ (l : Sim). tiles_left_in l.part + steps_tiles l.composition (new.pending - 1) (next_simulation l.composition l.sim)) live
+      ∙ ap (λ n. tiles_left_in old.live.part + steps_tiles old.live.composition (n - 1) (next_simulation old.live.composition old.live.sim)) pending
 
   pub same-gathered : IsGathered old → IsGathered new
   same-gathered gathered = record {
@@ -232,36 +232,36 @@ module _ (old new : LiveSession) (live : new.live ≡ old.live) (passed : new.pa
   }
 
 -- the same of a START
-module _ (held : LiveSession) (n : ℕ) (work : kind_of held.live.part ≡ kind_owed None [] held) where
-  starting-idle : nat_lt 0 held.owed ≡ false → IsIdle held
+module _ (held : LiveSession) (n : ℕ) (work : kind_of held.live.part ≡ kind_pending None [] held) where
+  starting-idle : nat_lt 0 held.pending ≡ false → IsIdle held
   starting-idle t =
-      let few = ltb-false 0 held.owed t in
-      let none : held.owed ≡ 0 = omega (arith, few) in
-      record { owed = none; closed = work ∙ kind-none None [] held none refl }
+      let few = ltb-false 0 held.pending t in
+      let none : held.pending ≡ 0 = omega (arith, few) in
+      record { pending = none; closed = work ∙ kind-none None [] held none refl }
 
-  no_more : nat_lt 0 held.owed ≡ true → (nat_lt 0 n && nat_le held.owed 0) ≡ false
+  no_more : nat_lt 0 held.pending ≡ true → (nat_lt 0 n && nat_le held.pending 0) ≡ false
   no_more t =
-      let some = ltb-true 0 held.owed t in
-      let more : nat_le held.owed 0 ≡ false = lt-leb held.owed 0 some in
+      let some = ltb-true 0 held.pending t in
+      let more : nat_le held.pending 0 ≡ false = lt-leb held.pending 0 some in
       by_test (nat_lt 0 n) (λ v. rw (v, more) refl) (λ v. rw v refl)
 
-  owing_posted : (label : Label) → tasks_posted_of label (Some (with_more_owed n held)) ≡ tasks_posted_of label (Some held)
-  owing_posted label = by_test (nat_lt 0 held.owed)
+  added_posted : (label : Label) → tasks_posted_of label (Some (with_more_pending n held)) ≡ tasks_posted_of label (Some held)
+  added_posted label = by_test (nat_lt 0 held.pending)
       (λ t. let none = no_more t in rw none refl)
       (λ t. let idle = starting-idle t in by_test (nat_lt 0 n)
-      (λ v. owing-posted held idle n (ltb-true 0 n v) label
+      (λ v. added-posted held idle n (ltb-true 0 n v) label
       ∙ sym (closed-posted held label (closed-part held.live.part idle.closed)))
       (λ v. rw v refl))
 
-  owing_gathered : IsGathered held → IsGathered (with_more_owed n held)
-  owing_gathered g = by_test (nat_lt 0 held.owed)
+  added_gathered : IsGathered held → IsGathered (with_more_pending n held)
+  added_gathered g = by_test (nat_lt 0 held.pending)
       (λ t. let none = no_more t in rw none (record { once = g.once; few = g.few }))
       (λ t. by_test (nat_lt 0 n)
-      (λ v. owing-gathered held (starting-idle t) n (ltb-true 0 n v))
+      (λ v. added-gathered held (starting-idle t) n (ltb-true 0 n v))
       (λ v. rw v (record { once = g.once; few = g.few })))
 
   pub started-posted : (label : Label) → tasks_posted_of label (Some (with_start n held)) ≡ tasks_posted_of label (Some held)
-  started-posted label = by_test (can_advance (settled_session held) n) (λ t. rw t (owing_posted label)) (λ t. rw t refl)
+  started-posted label = by_test (can_advance (settled_session held) n) (λ t. rw t (added_posted label)) (λ t. rw t refl)
 
   pub started-gathered : IsGathered held → IsGathered (with_start n held)
-  started-gathered g = by_test (can_advance (settled_session held) n) (λ t. rw t (owing_gathered g)) (λ t. rw t g)
+  started-gathered g = by_test (can_advance (settled_session held) n) (λ t. rw t (added_gathered g)) (λ t. rw t g)

@@ -1,21 +1,21 @@
--- The work still to come for the steps owed to sessions and for the pending command: turns, tiles, and posts.
+-- The work still to come for the pending steps of sessions and for the pending command: turns, tiles, and posts.
 use Rattle.std.specs.Prelude.{◌≡◌, ◌≤◌, ℕ, ◌+◌, ◌-◌, true, false, nat_lt, List, Option, Some, None, if◌then◌else◌}
 use Rattle.std.specs.Option.{option_map_or}
 use Rattle.lj_step.specs.Motion.{next_simulation}
 use Rattle.lj_step.specs.OpenSteps.{tiles_of}
 use Rattle.lj_session.specs.declared.command.Command.{Command}
 use Rattle.lj_session.specs.Turns.{turns}
-use Rattle.lj_session.specs.UserState.{LiveSession, UserState, owed_in, steps_before}
+use Rattle.lj_session.specs.UserState.{LiveSession, UserState, pending_in, steps_before}
 use Rattle.lj_session.specs.Owner.{Owner, user_in, is_waited_for, WaitsAlike}
 use Rattle.lj_wire.specs.declared.item.Item.{Item}
 use Rattle.lj_pool.specs.Seen.{Seen}
 use Rattle.lj_pool.specs.Gathering.{Gathers, tiles_left_in}
 use Rattle.lj_pool.specs.Counting.{steps_tiles, command_tiles, item_tiles, sum_over, CountsRise, HandedWithin}
 
--- the number of tiles of the steps owed to a session after the open one
+-- the number of tiles of the pending steps of a session after the open one
 abbrev pub tiles_after : LiveSession → ℕ
 tiles_after held =
-    steps_tiles held.live.composition (held.owed - 1) (next_simulation held.live.composition held.live.sim)
+    steps_tiles held.live.composition (held.pending - 1) (next_simulation held.live.composition held.live.sim)
 
 -- the number of tiles of a session whose results are still to come
 abbrev pub tiles_of_session : LiveSession → ℕ
@@ -25,7 +25,7 @@ tiles_of_session held = tiles_left_in held.live.part + tiles_after held
 abbrev pub posts_of_session : LiveSession → ℕ
 posts_of_session held = (tiles_of held.live - held.passed) + tiles_after held
 
--- the tiles of the pending command's own steps, while it waits for steps owed before it
+-- the tiles of the pending command's own steps, while it waits for steps pending before it
 abbrev pub waiting_tiles_of : Owner → Option Command → ℕ
 waiting_tiles_of owner None = 0
 waiting_tiles_of owner (Some command) =
@@ -37,13 +37,13 @@ waiting_tiles owner = waiting_tiles_of owner owner.waiting
 -- the number of turns to come
 abbrev pub turns_coming : Owner → ℕ
 turns_coming owner =
-    sum_over (λ held. held.owed) owner.state + option_map_or (turns (user_in owner)) owner.waiting 0
+    sum_over (λ held. held.pending) owner.state + option_map_or (turns (user_in owner)) owner.waiting 0
 
--- the number of tiles to come of the steps owed
+-- the number of tiles to come of the pending steps
 abbrev pub tiles_to_come : UserState → ℕ
 tiles_to_come state = sum_over tiles_of_session state
 
--- the number of tiles to come of the steps owed and of the pending command
+-- the number of tiles to come of the pending steps and of the pending command
 abbrev pub tiles_coming : Owner → ℕ
 tiles_coming owner = tiles_to_come owner.state + waiting_tiles owner
 
@@ -51,17 +51,17 @@ tiles_coming owner = tiles_to_come owner.state + waiting_tiles owner
 abbrev pub posts_coming : Owner → ℕ
 posts_coming owner = sum_over posts_of_session owner.state + waiting_tiles owner
 
--- the number of tiles to come of the steps owed and of an item
+-- the number of tiles to come of the pending steps and of an item
 abbrev pub tiles_with_item : Owner → Item → ℕ
 tiles_with_item owner item = tiles_to_come owner.state + item_tiles (user_in owner) item
 
--- No session is owed more steps than before, except the one that the pending command waits for.
-abbrev pub OwesNoMore : Owner → UserState → Type 0
-OwesNoMore old new = (name : List ℕ) → is_waited_for old.waiting name ≡ false → owed_in new name ≤ owed_in old.state name
+-- No session has more pending steps than before, except the one that the pending command waits for.
+abbrev pub HasNoMorePending : Owner → UserState → Type 0
+HasNoMorePending old new = (name : List ℕ) → is_waited_for old.waiting name ≡ false → pending_in new name ≤ pending_in old.state name
 
--- No step is owed to the session that the pending command waited for.
-abbrev pub OwesNoneWhereWaited : Owner → UserState → Type 0
-OwesNoneWhereWaited old new = (name : List ℕ) → is_waited_for old.waiting name ≡ true → owed_in new name ≡ 0
+-- No step is pending in the session that the pending command waited for.
+abbrev pub HasNonePendingWhereWaited : Owner → UserState → Type 0
+HasNonePendingWhereWaited old new = (name : List ℕ) → is_waited_for old.waiting name ≡ true → pending_in new name ≡ 0
 
 -- Work on the owner's steps went on over the pool, and no command was answered.
 pub record GoesOn (old : Owner) (before : Seen) (new : Owner) (after : Seen) : Type 0 where
@@ -83,7 +83,7 @@ pub record GoesOn (old : Owner) (before : Seen) (new : Owner) (after : Seen) : T
   pub tiles : tiles_coming new ≤ tiles_coming old
   -- No more tiles are to be posted than before.
   pub posts : posts_coming new ≤ posts_coming old
-  -- No session is owed more steps than before, except the one that the pending command waits for.
-  pub owes : OwesNoMore old new.state
+  -- No session has more pending steps than before, except the one that the pending command waits for.
+  pub pending : HasNoMorePending old new.state
   -- The pending command waits for the same session.
   pub waits : (name : List ℕ) → is_waited_for new.waiting name ≡ is_waited_for old.waiting name

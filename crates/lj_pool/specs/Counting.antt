@@ -54,17 +54,17 @@ tiles user [] marks = 0
 tiles user (item ∷ items) marks =
     item_tiles user item + tiles (item_text user item (first_mark marks)).1 items (other_marks marks)
 
--- the number of tiles of the steps owed to a session
-abbrev pub owed_tiles : LiveSession → ℕ
-owed_tiles held = steps_tiles held.live.composition held.owed held.live.sim
+-- the number of tiles of the pending steps of a session
+abbrev pub pending_tiles : LiveSession → ℕ
+pending_tiles held = steps_tiles held.live.composition held.pending held.live.sim
 
 -- the sum of a number over the sessions of a state
 abbrev pub sum_over : (LiveSession → ℕ) → UserState → ℕ
 sum_over number state = sum_by (λ entry. number entry.1) state.sessions
 
--- the number of tiles of the steps owed to all sessions
-abbrev pub tiles_owed : UserState → ℕ
-tiles_owed state = sum_over owed_tiles state
+-- the number of tiles of the pending steps of all sessions
+abbrev pub tiles_pending : UserState → ℕ
+tiles_pending state = sum_over pending_tiles state
 
 -- Neither count has fallen, and together they rose by at least `number`, unless one of them is saturated.
 pub record CountsRise (number : ℕ) (old new : Seen) : Type 0 where

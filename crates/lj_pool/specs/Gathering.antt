@@ -9,7 +9,7 @@ use Rattle.lj_step.specs.Sim.{Sim, OpenStep}
 use Rattle.lj_step.specs.OpenSteps.{cover, task_of, tiles_left}
 use Rattle.lj_session.specs.declared.command.Command.{Command}
 use Rattle.lj_session.specs.Turns.{waits_for}
-use Rattle.lj_session.specs.UserState.{LiveSession, UserState, IsAtWork, live_session, owed_in, names}
+use Rattle.lj_session.specs.UserState.{LiveSession, UserState, IsAtWork, live_session, pending_in, names}
 use Rattle.lj_session.specs.Owner.{Owner, label_of}
 
 -- how often a number occurs in a list
@@ -56,7 +56,7 @@ IsOpenFor state command = IsSomeAnd (waits_for command)
     (λ name. IsSomeAnd (live_session state name) (λ held. IsSome held.live.part))
 
 -- The tasks owed are, for each session, those of its open step that are posted and whose results are not in, and no others. A
--- step is open in each session to which steps are owed, and in the one that a command waits for.
+-- step is open in each session with pending steps, and in the one that a command waits for.
 pub record Gathers (owner : Owner) (owed : List Task) : Type 0 where
   pub at_work : IsAtWork owner.waiting owner.state
   pub waits : IfSome owner.waiting (IsOpenFor owner.state)
@@ -66,6 +66,6 @@ pub record Gathers (owner : Owner) (owed : List Task) : Type 0 where
   pub each : (name : List ℕ)
       → filter (is_of name) owed ≡ tasks_posted_of (label_of owner name) (live_session owner.state name)
 
--- no step is owed to any session
-abbrev pub NoneOwed : UserState → Type 0
-NoneOwed state = (name : List ℕ) → owed_in state name ≡ 0
+-- no step is pending in any session
+abbrev pub NonePending : UserState → Type 0
+NonePending state = (name : List ℕ) → pending_in state name ≡ 0

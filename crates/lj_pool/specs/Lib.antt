@@ -3,7 +3,7 @@ pub mod Refusals
 pub mod InlinePool
 pub mod Gathering
 pub mod Counting
-pub mod Owing
+pub mod PendingBounds
 pub mod Coming
 pub mod Running
 pub mod Endings

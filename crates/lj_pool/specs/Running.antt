@@ -10,8 +10,8 @@ use Rattle.lj_pool.specs.declared.engine.running.Halt.TheVariants.{PoolClosed, T
 use Rattle.lj_pool.specs.Seen.{Seen}
 use Rattle.lj_pool.specs.Gathering.{Gathers}
 use Rattle.lj_pool.specs.Counting.{CountsRise, FallsShort, HandedWithin, StraysRise}
-use Rattle.lj_pool.specs.Coming.{OwesNoMore, OwesNoneWhereWaited, tiles_coming, tiles_to_come, tiles_with_item}
-use Rattle.lj_pool.specs.Owing.{OwesAfter}
+use Rattle.lj_pool.specs.Coming.{HasNoMorePending, HasNonePendingWhereWaited, tiles_coming, tiles_to_come, tiles_with_item}
+use Rattle.lj_pool.specs.PendingBounds.{HasPendingAfter}
 use Rattle.lj_pool.specs.Serving.{AnswersItem}
 
 -- why it was given up: the pool is closed, or at least 4,096 strays came
@@ -45,10 +45,10 @@ pub record AnswersPending (old : Owner) (before : Seen) (reply : Reply) (new : O
   pub replied : IsReplied old reply (user_in new)
   -- The work has ended, and what came was counted.
   pub finished : Finishes (tiles_coming old) before reply new after
-  -- No other session is owed more steps than before.
-  pub no_more : OwesNoMore old new.state
-  -- No step is owed to the session that the command waited for.
-  pub rests : OwesNoneWhereWaited old new.state
+  -- No other session has more pending steps than before.
+  pub no_more : HasNoMorePending old new.state
+  -- No step is pending in the session that the command waited for.
+  pub rests : HasNonePendingWhereWaited old new.state
 
 -- The item is answered with this reply.
 pub record AnswersNext (old : Owner) (item : Item) (before : Seen) (reply : Reply) (new : Owner) (after : Seen) : Type 0 where
@@ -56,8 +56,8 @@ pub record AnswersNext (old : Owner) (item : Item) (before : Seen) (reply : Repl
   pub answered : AnswersItem (user_in old) item reply (user_in new)
   -- The work has ended, and what came was counted.
   pub finished : Finishes (tiles_with_item old item) before reply new after
-  -- No session is owed more steps than its bound after the item.
-  pub owes : OwesAfter old.state item new.state
+  -- No session has more pending steps than its bound after the item.
+  pub pending : HasPendingAfter old.state item new.state
 
 -- The item had to wait, and is not answered.
 pub record LeavesUnanswered (old : Owner) (item : Item) (before after : Seen) : Type 0 where

@@ -23,9 +23,9 @@ use Rattle.lj_pool.specs.declared.engine.served.Served.TheVariants.{End, Bye, En
 use Rattle.lj_pool.specs.declared.engine.served.Served.TheVariants.{TooManyStrays}
 use Rattle.lj_pool.specs.Seen.{Seen}
 use Rattle.lj_pool.specs.declared.pool.TheConstants.{MAX_AHEAD, MAX_STRAYS}
-use Rattle.lj_pool.specs.Gathering.{NoneOwed}
-use Rattle.lj_pool.specs.Counting.{tiles, tiles_owed, item_tiles, CountsRise, FallsShort, StraysRise}
-use Rattle.lj_pool.specs.Owing.{most_owed}
+use Rattle.lj_pool.specs.Gathering.{NonePending}
+use Rattle.lj_pool.specs.Counting.{tiles, tiles_pending, item_tiles, CountsRise, FallsShort, StraysRise}
+use Rattle.lj_pool.specs.PendingBounds.{most_pending}
 
 -- no item ends the connection
 abbrev pub NoneEnds : List Item → Type 0
@@ -52,10 +52,10 @@ pub record AnswersAll (served : Served) (state : UserState) (read written : List
   pub dialogue : Dialogue (user_of state) read written (user_of next)
   -- The last item is one at which serving ends so.
   pub ending : EndsAs served dialogue.items
-  -- At least as many results were counted as there are tiles of the steps that the items took and of those owed before, less
-  -- those owed now.
+  -- At least as many results were counted as there are tiles of the steps that the items took and of those pending before,
+  -- less those pending now.
   pub counted : CountsRise
-      (tiles (user_of state) dialogue.items dialogue.marks + tiles_owed state - tiles_owed next) old new
+      (tiles (user_of state) dialogue.items dialogue.marks + tiles_pending state - tiles_pending next) old new
 
 -- The items read before this one are answered, and this one comes next.
 pub record Reaches (user : User) (read written : List ℕ) (between : User) (item : Item) : Type 0 where
@@ -86,10 +86,10 @@ pub record BreaksOff (user : User) (read written : List ℕ) (next : User) : Typ
   -- The user is that after the item.
   pub next_is : next ≡ (item_text between item mark).1
 
--- the item waits for a session of the user: it takes steps of its own, or steps may be owed there after the items before it
+-- the item waits for a session of the user: it takes steps of its own, or steps may be pending there after the items before it
 abbrev pub MayWait : UserState → List Item → List Bool → User → Item → Type 0
 MayWait state before marks user (Command command) = IsSomeAnd (waits_for command)
-    (λ name. IsSome (value_named name user.sessions) × ((0 < turns user command) ⊎ (0 < most_owed state before marks name)))
+    (λ name. IsSome (value_named name user.sessions) × ((0 < turns user command) ⊎ (0 < most_pending state before marks name)))
 MayWait state before marks user (Bad fault) = ⊥
 MayWait state before marks user (Last fault) = ⊥
 
@@ -100,10 +100,10 @@ pub record StopsAt (state : UserState) (read written : List ℕ) (old new : Seen
   -- The replies to the items before it are written, and nothing for it.
   pub reaches : Reaches (user_of state) read written between item
   pub waits : MayWait state reaches.progress.items reaches.progress.marks between item
-  -- Fewer results that were owed were handed out than there are tiles of the steps owed at first, of those of the answered items,
-  -- and of those of the waiting one.
+  -- Fewer results that were owed were handed out than there are tiles of the steps pending at first, of those of the answered
+  -- items, and of those of the waiting one.
   pub missing : FallsShort
-      (tiles (user_of state) reaches.progress.items reaches.progress.marks + tiles_owed state + item_tiles between item) old new
+      (tiles (user_of state) reaches.progress.items reaches.progress.marks + tiles_pending state + item_tiles between item) old new
 
 -- The first `count` items read are answered, and too many tasks are owed for the next one.
 pub record StopsBetween (state : UserState) (read written : List ℕ) (new : Seen) : Type 0 where
@@ -112,9 +112,9 @@ pub record StopsBetween (state : UserState) (read written : List ℕ) (new : See
   pub between : User
   -- The replies to the first items are written, and nothing after them.
   pub progress : Progress (user_of state) read count written left between
-  -- Each task that is owed is of a session to which steps may be owed then.
-  pub owes : (task : Task) → Contains new.owed task
-      → 0 < most_owed state progress.items progress.marks task.name.label.session
+  -- Each task that is owed is of a session in which steps may be pending then.
+  pub pending : (task : Task) → Contains new.owed task
+      → 0 < most_pending state progress.items progress.marks task.name.label.session
   -- More tasks are owed than may be before the next item.
   pub many : MAX_AHEAD < length new.owed
 
@@ -158,9 +158,9 @@ pub record HasCause (served : Served) (rest : Option (List ℕ)) (errors more_er
   -- At least 4,096 strays came.
   pub strays : served ≡ TooManyStrays → StraysRise MAX_STRAYS old new
 
--- The state that is handed back, with the steps still owed to its sessions.
+-- The state that is handed back, with the pending steps of its sessions.
 pub record HandsBack (state : UserState) (seen : Seen) (back : UserState) : Type 0 where
-  -- Where no step is owed to it, no task is owed either.
-  pub none_owed : NoneOwed back → seen.owed ≡ []
+  -- Where no step of it is pending, no task is owed.
+  pub none_owed : NonePending back → seen.owed ≡ []
   -- It has the same quota.
   pub quota : back.quota ≡ state.quota

@@ -12,9 +12,9 @@ use Rattle.lj_wire.specs.Streams.{AreMarks}
 use Rattle.lj_wire.specs.Progress.{Takes}
 use Rattle.lj_wire.specs.Told.{item_reply, texts, last_user}
 use Rattle.lj_pool.specs.Seen.{Seen}
-use Rattle.lj_pool.specs.Counting.{tiles, tiles_owed, CountsRise, HandedWithin}
+use Rattle.lj_pool.specs.Counting.{tiles, tiles_pending, CountsRise, HandedWithin}
 use Rattle.lj_pool.specs.Coming.{tiles_to_come}
-use Rattle.lj_pool.specs.Owing.{OwesAfterAll}
+use Rattle.lj_pool.specs.PendingBounds.{HasPendingAfterAll}
 
 -- an item gets this reply, which leaves the next user, under some mark
 abbrev pub AnswersItem : User → Item → Reply → User → Type 0
@@ -39,10 +39,10 @@ pub record Serving (start : UserState) (first now : LineReader) (was is : Option
   pub next_is : user_of state ≡ last_user (user_of start) items marks
   -- At least as many results were counted as tiles are no more to come, and at most as many that were owed were handed out.
   pub counted : CountsRise
-      (tiles (user_of start) items marks + tiles_owed start - tiles_to_come state) old new
-  pub handed : HandedWithin (tiles (user_of start) items marks + tiles_owed start) (tiles_to_come state) old new
-  -- No session is owed more steps than its bound after the items.
-  pub owes : OwesAfterAll start items marks state
+      (tiles (user_of start) items marks + tiles_pending start - tiles_to_come state) old new
+  pub handed : HandedWithin (tiles (user_of start) items marks + tiles_pending start) (tiles_to_come state) old new
+  -- No session has more pending steps than its bound after the items.
+  pub pending : HasPendingAfterAll start items marks state
   -- The reader goes on, and no read has failed.
   pub phase : now.phase ≡ Open
   pub errors : now.errors ≡ first.errors

@@ -172,7 +172,7 @@ learns port v all items views b at h =
     let popped = alone (popped_weight h) (λ u e. ap (sum_by h) e.1) views port v at whole b.idle in
     omega (arith, b.leaves h, pushed, popped)
 
--- what a call that pushes owes, and one that pops, by a pass of one part
+-- what a call that pushes has to meet, and one that pops, by a pass of one part
 pub push_asked : (n port : ℕ) (v : PassHistory) (x : OpenTask) → v.parts ≡ 1
     → Pushes Balanced n port v x (λ w. w ≡ with_pushed v x) × Learns Balanced port v (λ items. ⊤)
 push_asked n port v x one = (pushes n port v x (omega (arith, one)), λ items views b at. tt)

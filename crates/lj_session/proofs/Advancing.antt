@@ -1,4 +1,4 @@
--- An ADVANCE whose steps are owed: it is answered in the end as it would have been.
+-- An ADVANCE whose steps are pending: it is answered in the end as it would have been.
 use Rattle.std.proofs.Common.{◌≡◌, ℕ, ◌≤◌, ◌^◌, Bool, true, List, Some, Ok, pos, ◌+ℤ◌, ◌*ℤ◌, sym, ◌∙◌, ap}
 use Rattle.std.specs.Prelude.{nat_le, unsigned_abs}
 use Rattle.std.proofs.lemmas.Bool.{and_parts, leb-true}
@@ -11,7 +11,7 @@ use Rattle.lj_branch.specs.Named.{value_named}
 use Rattle.lj_session.specs.Users.{Session, User}
 use Rattle.lj_session.specs.Answers.{command_result, answer, reply_and_user, can_advance, with_sim}
 use Rattle.lj_session.proofs.Entries.{named-put, put-put}
-use Rattle.lj_session.proofs.Owed.{step-steps}
+use Rattle.lj_session.proofs.PendingSteps.{step-steps}
 use Rattle.lj_session.proofs.Performing.{steps-done}
 use Rattle.lj_session.proofs.Turning.{near-nothing}
 

@@ -12,27 +12,27 @@ use Rattle.lj_branch.specs.Named.{value_named, with_value, without_value}
 use Rattle.lj_session.specs.declared.command.Command.{Command}
 use Rattle.lj_session.specs.Turns.{waits_for}
 use Rattle.lj_session.specs.Users.{Session, with_session}
-use Rattle.lj_session.specs.UserState.{LiveSession, UserState, as_session, settled_session, user_of, names, live_session, live_session_at, owed_in, turns_before, with_live_session, with_session_changed}
+use Rattle.lj_session.specs.UserState.{LiveSession, UserState, as_session, settled_session, user_of, names, live_session, live_session_at, pending_in, turns_before, with_live_session, with_session_changed}
 use Rattle.lj_session.specs.declared.state.UserState.TheInside.{Inside}
 use Rattle.lj_session.specs.Totals.{state_of_kept}
 use Rattle.lj_session.proofs.Entries.{named-seen, put-seen, taken-seen, put-same}
-use Rattle.lj_session.proofs.Owed.{meant-settled}
+use Rattle.lj_session.proofs.PendingSteps.{meant-settled}
 
 -- a session that is held is one of the user
 pub named-held : (state : UserState) (name : List ℕ) (held : LiveSession) → live_session state name ≡ Some held
     → value_named name (user_of state).sessions ≡ Some (settled_session held)
 named-held state name held h = named-seen settled_session name state.sessions ∙ ap (option_map settled_session) h
 
--- and where nothing is owed to it, the one that is held
-pub named-settled : (state : UserState) (name : List ℕ) (held : LiveSession) → live_session state name ≡ Some held → held.owed ≡ 0
+-- and where it has no pending steps, the one that is held
+pub named-settled : (state : UserState) (name : List ℕ) (held : LiveSession) → live_session state name ≡ Some held → held.pending ≡ 0
     → value_named name (user_of state).sessions ≡ Some (as_session held)
 named-settled state name held h none =
     named-held state name held h ∙ ap (λ (s : Session). Some s) (meant-settled held none)
 
--- what is owed to a session that is held
-pub owed-of : (state : UserState) (name : List ℕ) (held : LiveSession) → live_session state name ≡ Some held → owed_in state name ≡ 0
-    → held.owed ≡ 0
-owed-of state name held h none = rw h at none
+-- the pending steps of a session that is held
+pub pending-of : (state : UserState) (name : List ℕ) (held : LiveSession) → live_session state name ≡ Some held → pending_in state name ≡ 0
+    → held.pending ≡ 0
+pending-of state name held h none = rw h at none
 
 pub named-absent : (state : UserState) (name : List ℕ) → live_session state name ≡ None
     → value_named name (user_of state).sessions ≡ None
@@ -128,8 +128,8 @@ changed-quota state name change = by (live_session state name) refl
     by None e = rw e refl
     by (Some held) e = rw e refl
 
--- to the session that a command waits for no step is owed, where no turn comes before it
+-- the session that a command waits for has no pending steps, where no turn comes before it
 pub none-before : (state : UserState) (command : Command) (name : List ℕ) → waits_for command ≡ Some name
-    → turns_before state command ≡ 0 → owed_in state name ≡ 0
+    → turns_before state command ≡ 0 → pending_in state name ≡ 0
 none-before state command name waits none =
-    let is = ap (λ o. option_map_or (owed_in state) o 0) waits in omega (arith, none, is)
+    let is = ap (λ o. option_map_or (pending_in state) o 0) waits in omega (arith, none, is)

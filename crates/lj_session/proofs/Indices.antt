@@ -11,7 +11,7 @@ use Rattle.lj_session.specs.declared.command.Command.TheVariants.{ListBranches, 
 use Rattle.lj_branch.specs.Named.{value_named}
 use Rattle.lj_session.specs.Answers.{can_advance}
 use Rattle.lj_session.specs.Turns.{turns, waits_for}
-use Rattle.lj_session.specs.UserState.{LiveSession, UserState, settled_session, user_of, names, live_session, live_session_at, owed_in, index_waited_for, steps_before, turns_before}
+use Rattle.lj_session.specs.UserState.{LiveSession, UserState, settled_session, user_of, names, live_session, live_session_at, pending_in, index_waited_for, steps_before, turns_before}
 use Rattle.lj_session.proofs.Holding.{named-absent, named-held}
 use Rattle.lj_session.proofs.Turning.{advance-turns-none, advance-turns-far, advance-turns-near, measure-turns-none, measure-turns-one, no-turns}
 use Rattle.lj_session.proofs.Waiting.{nothing-turns}
@@ -87,20 +87,20 @@ nothing-before state command e = by (waits_for command) refl
 
     by : (o : Option (List ℕ)) → waits_for command ≡ o → turns_before state command ≡ 0
     by None w =
-        let steps : steps_before state command ≡ 0 = ap (λ o. option_map_or (owed_in state) o 0) w in
+        let steps : steps_before state command ≡ 0 = ap (λ o. option_map_or (pending_in state) o 0) w in
         omega (arith, none, steps)
     by (Some name) w =
-        let steps : steps_before state command ≡ 0 = ap (λ o. option_map_or (owed_in state) o 0) w
-        ∙ ap (λ o. option_map_or (λ (h : LiveSession). h.owed) o 0) (absent name w) in
+        let steps : steps_before state command ≡ 0 = ap (λ o. option_map_or (pending_in state) o 0) w
+        ∙ ap (λ o. option_map_or (λ (h : LiveSession). h.pending) o 0) (absent name w) in
         omega (arith, none, steps)
 
--- how many turns come before a command whose session stands at an index: those that are owed there, and its own
+-- how many turns come before a command whose session stands at an index: those that are pending there, and its own
 pub before-at : (state : UserState) (command : Command) (i : ℕ) (held : LiveSession) → index_waited_for state command ≡ Some i
-    → live_session_at state i ≡ Some held → turns_before state command ≡ held.owed + turns (user_of state) command
+    → live_session_at state i ≡ Some held → turns_before state command ≡ held.pending + turns (user_of state) command
 before-at state command i held e there =
     let at = waited_at state command i e in
-    let steps : steps_before state command ≡ held.owed = ap (λ o. option_map_or (owed_in state) o 0) at.waits
-    ∙ ap (λ o. option_map_or (λ (h : LiveSession). h.owed) o 0) (at.held ∙ there) in
+    let steps : steps_before state command ≡ held.pending = ap (λ o. option_map_or (pending_in state) o 0) at.waits
+    ∙ ap (λ o. option_map_or (λ (h : LiveSession). h.pending) o 0) (at.held ∙ there) in
     omega (arith, steps)
 
 -- the session of an ADVANCE, or of a MEASURE, stands at the index
@@ -124,11 +124,11 @@ measure-held state command i held e there name is =
 
 module _ (state : UserState) (command : Command) (i : ℕ) (held : LiveSession) (e : index_waited_for state command ≡ Some i)
     (there : live_session_at state i ≡ Some held) where
-  -- where steps are owed there it waits
-  pub before-owed : 0 < held.owed → 0 < turns_before state command
-  before-owed some = let all = before-at state command i held e there in omega (arith, some, all)
+  -- where steps are pending there it waits
+  pub before-pending : 0 < held.pending → 0 < turns_before state command
+  before-pending some = let all = before-at state command i held e there in omega (arith, some, all)
 
-  module _ (none : held.owed ≡ 0) where
+  module _ (none : held.pending ≡ 0) where
     own : turns_before state command ≡ turns (user_of state) command
     own = let all = before-at state command i held e there in omega (arith, none, all)
 

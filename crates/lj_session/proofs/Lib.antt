@@ -3,8 +3,8 @@ pub mod Counts
 pub mod Firsts
 pub mod NextTiles
 pub mod Cursors
-pub mod Owed
-pub mod Owing
+pub mod PendingSteps
+pub mod OwnerSteps
 pub mod Reach
 pub mod Holding
 pub mod Others

@@ -111,8 +111,8 @@ pub atoms-opened : (mix : Mix) (symbols : Option SymbolPair) (first last : List 
 atoms-opened mix symbols first last same = length-map last (place_in (edge_of mix)) ∙ same
 
 -- a session that has just been loaded is idle
-idle_of : (made after : LiveSession) → Some made ≡ Some after → made.owed ≡ 0 → kind_of made.live.part ≡ None → IsIdle after
-idle_of made after is owed closed = subst IsIdle (same made after is) (record { owed = owed; closed = closed })
+idle_of : (made after : LiveSession) → Some made ≡ Some after → made.pending ≡ 0 → kind_of made.live.part ≡ None → IsIdle after
+idle_of made after is pending closed = subst IsIdle (same made after is) (record { pending = pending; closed = closed })
   where
     same : (a b : LiveSession) → Some a ≡ Some b → a ≡ b
     same a b e = cc

@@ -19,7 +19,7 @@ use Rattle.lj_session.specs.Users.{User, atoms_of, branches_used}
 use Rattle.lj_session.specs.Answers.{session_of, simulation_saved, atom_or_refusal, can_advance, command_result, session_named}
 use Rattle.lj_session.specs.Loads.{admission, body_or_refusal, session_read, refusal_unless}
 use Rattle.lj_session.specs.Begins.{OnRefusal, reply_of}
-use Rattle.lj_session.specs.UserState.{LiveSession, UserState, OthersKept, Reads, StepsAfter, Performs, live_session, with_live_session, with_session_changed, names, owed_in, steps_before}
+use Rattle.lj_session.specs.UserState.{LiveSession, UserState, OthersKept, Reads, StepsAfter, Performs, live_session, with_live_session, with_session_changed, names, pending_in, steps_before}
 use Rattle.lj_session.specs.Owner.{IsSettled}
 use Rattle.lj_session.specs.Turns.{waits_for}
 use Rattle.lj_session.proofs.Entries.{named-put_other, named-taken_other, names-put}
@@ -143,7 +143,7 @@ pub on_refusal : {P Q : Type 0} (made : Reply) → (P → Q) → OnRefusal made 
 on_refusal (reply.Refused refusal) follows p = follows p
 on_refusal _ follows p = tt
 
--- to a session whose frame is told no step is owed
+-- a session whose frame is told has no pending steps
 pub settled-performed : (old new : UserState) (command : Command) (result : Result Reply Refusal)
     → Performs old command result new → steps_before old command ≡ 0 → IsSettled new (reply_of result)
 unfolding waits_for
@@ -151,21 +151,21 @@ settled-performed old new command (Err refusal) performs none = tt
 settled-performed old new command (Ok made) performs none = by made
     (subst (λ r. IfOk r (λ made. Replies command made.0)) performs.performs (is_done _ command performs.mark)).1
   where
-    told : (name : List ℕ) → command ≡ Dump name → owed_in new name ≡ 0
+    told : (name : List ℕ) → command ≡ Dump name → pending_in new name ≡ 0
     told name is = there (live_session new name) refl
       where
-        before : owed_in old name ≡ 0
+        before : pending_in old name ≡ 0
         before = rw is at none
 
-        owed : (held : LiveSession) (o : Option LiveSession) → live_session old name ≡ o → StepsAfter (Dump name) o held → held.owed ≡ 0
-        owed held o e (inl idle) = idle.owed
-        owed held None e (inr lacking) = absurd lacking
-        owed held (Some was) e (inr same) =
-            same.owed ∙ (sym (ap (λ o. option_map_or (λ (h : LiveSession). h.owed) o 0) e) ∙ before)
+        pending : (held : LiveSession) (o : Option LiveSession) → live_session old name ≡ o → StepsAfter (Dump name) o held → held.pending ≡ 0
+        pending held o e (inl idle) = idle.pending
+        pending held None e (inr lacking) = absurd lacking
+        pending held (Some was) e (inr same) =
+            same.pending ∙ (sym (ap (λ o. option_map_or (λ (h : LiveSession). h.pending) o 0) e) ∙ before)
 
-        there : (o : Option LiveSession) → live_session new name ≡ o → owed_in new name ≡ 0
+        there : (o : Option LiveSession) → live_session new name ≡ o → pending_in new name ≡ 0
         there None e = rw e refl
-        there (Some held) e = rw e (owed held (live_session old name) refl
+        there (Some held) e = rw e (pending held (live_session old name) refl
             (subst (λ (k : Command). StepsAfter k (live_session old name) held) is (performs.steps name held (ap session_named is) e)))
 
     by : (made : Reply) → DumpsOwn command made → IsSettled new made

@@ -17,10 +17,10 @@ use Rattle.lj_branch.specs.Named.{value_named, with_value, without_value}
 use Rattle.lj_session.specs.Users.{Session, User, with_session, branches_used}
 use Rattle.lj_session.specs.Answers.{session_named, command_result, answer, reply_and_user, can_advance, with_sim}
 use Rattle.lj_session.specs.UserState.{LiveSession, UserState, Performs, with_simulation, with_saved, as_session, settled_session, user_of, live_session, with_live_session}
-use Rattle.lj_session.specs.UserState.{StepsFollow, StepsAfter, with_more_owed}
+use Rattle.lj_session.specs.UserState.{StepsFollow, StepsAfter, with_more_pending}
 use Rattle.lj_session.proofs.Entries.{put-same, named-put_any}
 use Rattle.lj_session.proofs.Holding.{named-held, named-settled, user_of-put, user_of-taken}
-use Rattle.lj_session.proofs.Owed.{meant-settled, meant-owing}
+use Rattle.lj_session.proofs.PendingSteps.{meant-settled, meant-added}
 use Rattle.lj_session.proofs.Others.{others-put, others-taken}
 use Rattle.lj_session.proofs.Performing as performing
 
@@ -57,23 +57,23 @@ module _ (old : UserState) (name : List ℕ) (held : LiveSession) (found : live_
       (with_live_session name (with_saved held (without_value branch held.saved)) old)
   forget branch sim saved = put_in _ _ (with_saved held (without_value branch held.saved)) refl
       (performing.forget-done (user_of old) name false (settled_session held) (named-held old name held found) branch sim saved)
-      (record { live = refl; passed = refl; owed = refl })
+      (record { live = refl; passed = refl; pending = refl })
 
   pub start : (n : ℕ) → can_advance (settled_session held) n ≡ true
-      → Performs old (Start name n) (Ok (reply.Started name (settled_session (with_more_owed n held)).sim.step))
-      (with_live_session name (with_more_owed n held) old)
-  start n near = put_in _ _ (with_more_owed n held) refl
+      → Performs old (Start name n) (Ok (reply.Started name (settled_session (with_more_pending n held)).sim.step))
+      (with_live_session name (with_more_pending n held) old)
+  start n near = put_in _ _ (with_more_pending n held) refl
       ((performing.steps-done (user_of old) name false (settled_session held) (named-held old name held found) n near).1
       ∙ ap (λ (s : Session). Ok (reply.Started name s.sim.step, with_session name s (user_of old)))
-      (sym (meant-owing n held)))
+      (sym (meant-added n held)))
       (rw near refl)
 
-  -- the steps of an ADVANCE, owed to its session
-  pub owed-user : (n : ℕ) → can_advance (settled_session held) n ≡ true
-      → user_of (with_live_session name (with_more_owed n held) old) ≡ (answer (user_of old) (Advance name n) false).1
-  owed-user n near =
-      user_of-put old name (with_more_owed n held)
-      ∙ ap (λ (s : Session). with_session name s (user_of old)) (meant-owing n held)
+  -- the steps of an ADVANCE, pending in its session
+  pub pending-user : (n : ℕ) → can_advance (settled_session held) n ≡ true
+      → user_of (with_live_session name (with_more_pending n held) old) ≡ (answer (user_of old) (Advance name n) false).1
+  pending-user n near =
+      user_of-put old name (with_more_pending n held)
+      ∙ ap (λ (s : Session). with_session name s (user_of old)) (meant-added n held)
       ∙ sym (ap (λ r. (reply_and_user (user_of old) r).1)
       (performing.steps-done (user_of old) name false (settled_session held) (named-held old name held found) n near).0)
 
@@ -89,8 +89,8 @@ module _ (old : UserState) (name : List ℕ) (held : LiveSession) (found : live_
       ))
       (put-same name (user_of old).sessions (settled_session held) session)
 
-  -- commands of a session to which nothing is owed
-  module _ (none : held.owed ≡ 0) where
+  -- commands of a session with no pending steps
+  module _ (none : held.pending ≡ 0) where
     session : value_named name (user_of old).sessions ≡ Some (as_session held)
     session = named-settled old name held found none
 
@@ -108,21 +108,21 @@ module _ (old : UserState) (name : List ℕ) (held : LiveSession) (found : live_
         (with_live_session name (with_simulation held (reversal held.live.sim)) old)
     reverse = move _ _ (reversal held.live.sim) refl
         (performing.reverse-done (user_of old) name false (as_session held) session)
-        (inl (record { owed = none; closed = refl }))
+        (inl (record { pending = none; closed = refl }))
 
     pub tug : (atom : ℕ) (x y z : ℤ) → nat_lt atom (length held.live.sim.cur) ≡ true
         → Performs old (Tug name atom x y z) (Ok (reply.Tugged name atom held.live.sim.step))
         (with_live_session name (with_simulation held (with_tug atom (record { x = x; y = y; z = z }) held.live.sim)) old)
     tug atom x y z there = move _ _ (with_tug atom (record { x = x; y = y; z = z }) held.live.sim) refl
         (performing.tug-done (user_of old) name false (as_session held) session atom x y z there)
-        (inl (record { owed = none; closed = refl }))
+        (inl (record { pending = none; closed = refl }))
 
     pub restore : (branch : List ℕ) (sim : Simulation) → value_named branch held.saved ≡ Some sim
         → Performs old (Restore name branch) (Ok (reply.Restored name branch sim.step))
         (with_live_session name (with_simulation held sim) old)
     restore branch sim saved = move _ _ sim refl
         (performing.restore-done (user_of old) name false (as_session held) session branch sim saved)
-        (inl (record { owed = none; closed = refl }))
+        (inl (record { pending = none; closed = refl }))
 
     pub branch : (saved_as : List ℕ) → is_some (value_named saved_as held.saved) ≡ false
         → nat_lt (branches_used (user_of old)) old.quota.branches ≡ true
@@ -134,7 +134,7 @@ module _ (old : UserState) (name : List ℕ) (held : LiveSession) (found : live_
         (performing.branch-done (user_of old) name (as_session held) session saved_as new room
         ∙ ap (λ (s : Session). Ok (reply.Branched name saved_as held.live.sim.step, with_session name s (user_of old)))
         (sym (meant-settled next none)))
-        (inr (record { live = refl; passed = refl; owed = refl }))
+        (inr (record { live = refl; passed = refl; pending = refl }))
 
     pub unload : value_named name (without_value name old.sessions) ≡ None
         → Performs old (Unload name) (Ok (reply.Unloaded name))

@@ -16,7 +16,7 @@ use Rattle.lj_session.specs.declared.command.Command.TheVariants.{ListBranches, 
 use Rattle.lj_session.specs.declared.reply.Reply.{Reply}
 use Rattle.lj_session.specs.Answers.{command_result, reply_and_user, session_named}
 use Rattle.lj_session.specs.Turns.{turns, waits_for}
-use Rattle.lj_session.specs.UserState.{LiveSession, UserState, OthersKept, OtherSessionsKept, StepsFollow, StepsAfter, SameSteps, IsIdle, IsIdleIn, IsAtWork, IsWhole, Reads, user_of, live_session, owed_in, with_session_changed, with_live_session, with_step_finished, with_no_step, is_whole_in, is_measured, kind_owed, turns_before}
+use Rattle.lj_session.specs.UserState.{LiveSession, UserState, OthersKept, OtherSessionsKept, StepsFollow, StepsAfter, SameSteps, IsIdle, IsIdleIn, IsAtWork, IsWhole, Reads, user_of, live_session, pending_in, with_session_changed, with_live_session, with_step_finished, with_no_step, is_whole_in, is_measured, kind_pending, turns_before}
 use Rattle.lj_session.specs.Owner.{IsAnswered}
 use Rattle.lj_session.proofs.AtWork.{kind-none, kind-passed}
 use Rattle.lj_session.proofs.Entries.{by_test, named-put_any, named-put_other}
@@ -27,14 +27,14 @@ use Rattle.lj_session.proofs.Turning.{measure-turns-one}
 same_Some : {A : Type 0} (x y : A) → Some x ≡ Some y → x ≡ y
 same_Some x y e = cc
 
--- a session whose open step is whole, and the step that it owes
+-- a session whose open step is whole, and its pending step
 pub record Open (waiting : Option Command) (state : UserState) (name : List ℕ) : Type 0 where
   pub held : LiveSession
   pub there : live_session state name ≡ Some held
   pub kind : Kind
   pub is : kind_of held.live.part ≡ Some kind
   pub whole : is_whole held.live.part ≡ true
-  pub owes : kind_owed waiting name held ≡ Some kind
+  pub pending : kind_pending waiting name held ≡ Some kind
 
 pub opens : (waiting : Option Command) (state : UserState) (name : List ℕ) → is_whole_in state name ≡ true
     → IsAtWork waiting state → Open waiting state name
@@ -49,60 +49,60 @@ opens waiting state name whole work = by (live_session state name) refl
       kind = p.kind;
       is = ap kind_of is;
       whole = ap is_whole is ∙ all;
-      owes = sym (work name held e) ∙ ap kind_of is;
+      pending = sym (work name held e) ∙ ap kind_of is;
     }
 
     by : (o : Option LiveSession) → live_session state name ≡ o → Open waiting state name
     by None e = absurd (true≢false (sym (rw e at whole)))
     by (Some held) e = of held held.live.part e refl (rw e at whole)
 
-pub owed-held : (state : UserState) (name : List ℕ) (held : LiveSession) → live_session state name ≡ Some held → owed_in state name ≡ held.owed
-owed-held state name held e = ap (λ o. option_map_or (λ (h : LiveSession). h.owed) o 0) e
+pub pending-held : (state : UserState) (name : List ℕ) (held : LiveSession) → live_session state name ≡ Some held → pending_in state name ≡ held.pending
+pending-held state name held e = ap (λ o. option_map_or (λ (h : LiveSession). h.pending) o 0) e
 
--- where steps are owed it is one of pushes
+-- where steps are pending it is one of pushes
 pub forces : (waiting : Option Command) (state : UserState) (name : List ℕ) → is_whole_in state name ≡ true
-    → IsAtWork waiting state → 0 < owed_in state name → (held : LiveSession) → live_session state name ≡ Some held → IsWhole Force held
+    → IsAtWork waiting state → 0 < pending_in state name → (held : LiveSession) → live_session state name ≡ Some held → IsWhole Force held
 forces waiting state name whole work some held e =
     let o = opens waiting state name whole work in
     let is : o.held ≡ held = same_Some o.held held (sym o.there ∙ e) in
     subst (λ (h : LiveSession). IsWhole Force h) is
-    (record { kind = o.is ∙ sym o.owes ∙ kind o.held (subst (λ n. 0 < n) (owed-held state name o.held o.there) some); whole = o.whole })
+    (record { kind = o.is ∙ sym o.pending ∙ kind o.held (subst (λ n. 0 < n) (pending-held state name o.held o.there) some); whole = o.whole })
   where
-    kind : (h : LiveSession) → 0 < h.owed → kind_owed waiting name h ≡ Some Force
-    kind h more = rw (lt-ltb 0 h.owed more) refl
+    kind : (h : LiveSession) → 0 < h.pending → kind_pending waiting name h ≡ Some Force
+    kind h more = rw (lt-ltb 0 h.pending more) refl
 
 -- where none are it is one of energies, since what waits measures the session
 pub record Energies (waiting : Option Command) (state : UserState) (name : List ℕ) : Type 0 where
   pub held : LiveSession
   pub there : live_session state name ≡ Some held
-  pub none : held.owed ≡ 0
+  pub none : held.pending ≡ 0
   pub whole : IsWhole Energy held
   pub measured : is_measured waiting name ≡ true
 
 pub energies : (waiting : Option Command) (state : UserState) (name : List ℕ) → is_whole_in state name ≡ true
-    → IsAtWork waiting state → owed_in state name ≡ 0 → Energies waiting state name
+    → IsAtWork waiting state → pending_in state name ≡ 0 → Energies waiting state name
 energies waiting state name whole work none = by_test (is_measured waiting name) some lacking
   where
     o : Open waiting state name
     o = opens waiting state name whole work
 
-    nothing : o.held.owed ≡ 0
-    nothing = sym (owed-held state name o.held o.there) ∙ none
+    nothing : o.held.pending ≡ 0
+    nothing = sym (pending-held state name o.held o.there) ∙ none
 
     some : is_measured waiting name ≡ true → Energies waiting state name
     some t =
-        let kind : kind_owed waiting name o.held ≡ Some Energy = rw (nothing, t) refl in record {
+        let kind : kind_pending waiting name o.held ≡ Some Energy = rw (nothing, t) refl in record {
           held = o.held;
           there = o.there;
           none = nothing;
-          whole = record { kind = o.is ∙ sym o.owes ∙ kind; whole = o.whole };
+          whole = record { kind = o.is ∙ sym o.pending ∙ kind; whole = o.whole };
           measured = t;
         }
 
     lacking : is_measured waiting name ≡ false → Energies waiting state name
     lacking t =
-        let kind : kind_owed waiting name o.held ≡ None = rw (nothing, t) refl in
-        absurd (none_some o.kind (sym kind ∙ o.owes))
+        let kind : kind_pending waiting name o.held ≡ None = rw (nothing, t) refl in
+        absurd (none_some o.kind (sym kind ∙ o.pending))
       where
         none_some : (k : Kind) → None ≡ Some k → ⊥
         none_some k e = cc
@@ -139,9 +139,9 @@ pub measured_last : (command : Command) (state : UserState) (name : List ℕ) �
 unfolding waits_for
 measured_last command state name e =
     let is = measures command name e.measured in
-    let owed : owed_in state name ≡ 0 = owed-held state name e.held e.there ∙ e.none in
+    let pending : pending_in state name ≡ 0 = pending-held state name e.held e.there ∙ e.none in
     let one = measure-turns-one (user_of state) name _ (named-held state name e.held e.there) in
-    ap (turns_before state) is ∙ (let sum : owed_in state name + turns (user_of state) (Measure name) ≡ 1 = omega (arith, owed, one) in sum)
+    ap (turns_before state) is ∙ (let sum : pending_in state name + turns (user_of state) (Measure name) ≡ 1 = omega (arith, pending, one) in sum)
 
 pub measured_answered : (command : Command) (state next : UserState) (name : List ℕ) (reply : Reply) → command ≡ Measure name
     → Reads state (Measure name) (Ok reply) → user_of next ≡ user_of state
@@ -153,7 +153,7 @@ measured_answered command state next name reply is reads same = record {
   only_memory = λ set. absurd (true≢false (sym set));
 }
 
--- and no step is open then but where steps are owed
+-- and no step is open then but where steps are pending
 pub at_work-closed : (command : Command) (state : UserState) (name : List ℕ) → waits_for command ≡ Some name
     → Energies (Some command) state name → IsAtWork (Some command) state → IsAtWork None (with_session_changed name with_no_step state)
 at_work-closed command state name waits en work other h e = by_test (bytes_eq name other) here there
@@ -161,16 +161,16 @@ at_work-closed command state name waits en work other h e = by_test (bytes_eq na
     now : with_session_changed name with_no_step state ≡ with_live_session name (with_no_step en.held) state
     now = changed-some state name with_no_step en.held en.there
 
-    here : bytes_eq name other ≡ true → kind_of h.live.part ≡ kind_owed None other h
+    here : bytes_eq name other ≡ true → kind_of h.live.part ≡ kind_pending None other h
     here t =
         let same = (bytes_eq-Decides name other).0 t in
         let is : with_no_step en.held ≡ h =
         same_Some (with_no_step en.held) h (sym (named-put_any name state.sessions (with_no_step en.held))
         ∙ ap (λ (o : UserState). live_session o name) (sym now)
         ∙ ap (live_session (with_session_changed name with_no_step state)) same ∙ e) in
-        subst (λ (x : LiveSession). kind_of x.live.part ≡ kind_owed None other x) is (rw en.none refl)
+        subst (λ (x : LiveSession). kind_of x.live.part ≡ kind_pending None other x) is (rw en.none refl)
 
-    there : bytes_eq name other ≡ false → kind_of h.live.part ≡ kind_owed None other h
+    there : bytes_eq name other ≡ false → kind_of h.live.part ≡ kind_pending None other h
     there t =
         let apart : name ≢ other = λ same. true≢false (sym ((bytes_eq-Decides name other).1 same) ∙ t) in
         let was : live_session state other ≡ Some h =
@@ -179,7 +179,7 @@ at_work-closed command state name waits en work other h e = by_test (bytes_eq na
         work other h was ∙ rw (unmeasured command name other waits apart) refl
 
 -- a step passed of the session that is waited for: nothing waits then
-pub at_work-passed : (command : Command) (state : UserState) (name : List ℕ) → waits_for command ≡ Some name → 0 < owed_in state name
+pub at_work-passed : (command : Command) (state : UserState) (name : List ℕ) → waits_for command ≡ Some name → 0 < pending_in state name
     → IsAtWork (Some command) state → IsAtWork None (with_session_changed name with_step_finished state)
 at_work-passed command state name waits some work other h e = by_test (bytes_eq name other) here there
   where
@@ -193,16 +193,16 @@ at_work-passed command state name waits some work other h e = by_test (bytes_eq 
     now : with_session_changed name with_step_finished state ≡ with_live_session name (with_step_finished found.0) state
     now = changed-some state name with_step_finished found.0 found.1
 
-    here : bytes_eq name other ≡ true → kind_of h.live.part ≡ kind_owed None other h
+    here : bytes_eq name other ≡ true → kind_of h.live.part ≡ kind_pending None other h
     here t =
         let same = (bytes_eq-Decides name other).0 t in
         let is : with_step_finished found.0 ≡ h =
         same_Some (with_step_finished found.0) h (sym (named-put_any name state.sessions (with_step_finished found.0))
         ∙ ap (λ (o : UserState). live_session o name) (sym now)
         ∙ ap (live_session (with_session_changed name with_step_finished state)) same ∙ e) in
-        subst (λ (x : LiveSession). kind_of x.live.part ≡ kind_owed None other x) is (kind-passed None other found.0 refl)
+        subst (λ (x : LiveSession). kind_of x.live.part ≡ kind_pending None other x) is (kind-passed None other found.0 refl)
 
-    there : bytes_eq name other ≡ false → kind_of h.live.part ≡ kind_owed None other h
+    there : bytes_eq name other ≡ false → kind_of h.live.part ≡ kind_pending None other h
     there t =
         let apart : name ≢ other = λ same. true≢false (sym ((bytes_eq-Decides name other).1 same) ∙ t) in
         let was : live_session state other ≡ Some h =
@@ -247,7 +247,7 @@ waited_named Bye name e = absurd (none_some e)
     none_some : None ≡ Some name → ⊥
     none_some k = cc
 
--- what waited is answered, and no step is owed or open in its session
+-- what waited is answered, and no step is pending or open in its session
 pub rests-followed : (command : Command) (old new : UserState) (name : List ℕ) → waits_for command ≡ Some name
     → turns_before old command ≡ 0 → IsAtWork None old → StepsFollow command old new → IsIdleIn new name
 unfolding waits_for
@@ -257,9 +257,9 @@ rests-followed command old new name waits none work steps held there =
     same : (o : Option LiveSession) → live_session old name ≡ o → IsSomeAnd o (λ before. SameSteps before held) → IsIdle held
     same None h lacking = absurd lacking
     same (Some before) h s =
-        let owed : before.owed ≡ 0 = sym (owed-held old name before h) ∙ none-before old command name waits none in record {
-          owed = s.owed ∙ owed;
-          closed = ap (λ l. kind_of l.part) s.live ∙ work name before h ∙ kind-none None name before owed refl;
+        let pending : before.pending ≡ 0 = sym (pending-held old name before h) ∙ none-before old command name waits none in record {
+          pending = s.pending ∙ pending;
+          closed = ap (λ l. kind_of l.part) s.live ∙ work name before h ∙ kind-none None name before pending refl;
         }
 
     none_some : None ≡ Some name → ⊥
@@ -276,7 +276,7 @@ rests-followed command old new name waits none work steps held there =
         either (inl i) = i
         either (inr s) = same (live_session old name) refl s
 
-pub rests-closed : (old : UserState) (name : List ℕ) → owed_in old name ≡ 0 → IsIdleIn (with_session_changed name with_no_step old) name
+pub rests-closed : (old : UserState) (name : List ℕ) → pending_in old name ≡ 0 → IsIdleIn (with_session_changed name with_no_step old) name
 rests-closed old name none held there = by (live_session old name) refl
   where
     none_some : (x : LiveSession) → None ≡ Some x → ⊥
@@ -287,7 +287,7 @@ rests-closed old name none held there = by (live_session old name) refl
     by (Some was) e =
         let is : with_no_step was ≡ held = same_Some (with_no_step was) held (sym (named-put_any name old.sessions (with_no_step was))
         ∙ ap (λ (o : UserState). live_session o name) (sym (changed-some old name with_no_step was e)) ∙ there) in
-        subst IsIdle is (record { owed = sym (owed-held old name was e) ∙ none; closed = refl })
+        subst IsIdle is (record { pending = sym (pending-held old name was e) ∙ none; closed = refl })
 
 -- the others are left by the step and by what is begun again
 pub others-passed : (command : Command) (old new : UserState) (name : List ℕ) → waits_for command ≡ Some name

@@ -36,11 +36,11 @@ IsFarIn state command =
 
 -- nothing has changed
 same-after : (command : Command) (held : LiveSession) → IsFar command held → StepsAfter command (Some held) held
-same-after (Load load) held far = record { live = refl; passed = refl; owed = refl }
+same-after (Load load) held far = record { live = refl; passed = refl; pending = refl }
 same-after (Start name n) held far = rw far refl
-same-after (Forget name branch) held far = record { live = refl; passed = refl; owed = refl }
-same-after (ListBranches name) held far = record { live = refl; passed = refl; owed = refl }
-same-after command held far = inr (record { live = refl; passed = refl; owed = refl })
+same-after (Forget name branch) held far = record { live = refl; passed = refl; pending = refl }
+same-after (ListBranches name) held far = record { live = refl; passed = refl; pending = refl }
+same-after command held far = inr (record { live = refl; passed = refl; pending = refl })
 
 pub steps-same : (state : UserState) (command : Command) → IsFarIn state command → StepsFollow command state state
 steps-same state command far name held is there =

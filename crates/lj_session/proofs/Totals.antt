@@ -8,7 +8,7 @@ use Rattle.lj_session.specs.declared.state.UserState.TheInside.{Inside}
 use Rattle.lj_session.specs.Totals.{state_of_kept}
 use Rattle.lj_session.proofs.Entries.{length-put, length-new, length-taken, sum-put, sum-new, sum-taken}
 use Rattle.lj_session.proofs.Holding.{named-held, named-absent, user_of-put, user_of-taken}
-use Rattle.lj_session.proofs.Owed.{count-meant}
+use Rattle.lj_session.proofs.PendingSteps.{count-meant}
 
 -- totals are equal where each part is
 pub same_used : (a b : Used) → a.sessions ≡ b.sessions → a.atoms ≡ b.atoms → a.branches ≡ b.branches → a ≡ b

@@ -1,4 +1,4 @@
--- The turn of the session that a command waits for: an energy step, which answers a MEASURE, or a step that was owed, after
+-- The turn of the session that a command waits for: an energy step, which answers a MEASURE, or a pending step, after
 -- which the command is begun again.
 use Rattle.std.proofs.Common.{◌≡◌, ℕ, ◌+◌, ◌<◌, true, List, Option, Some, None, Ok, sym, ap, ◌∙◌, subst, arith}
 use Rattle.std.specs.Prelude.{IfSome}
@@ -9,7 +9,7 @@ use Rattle.lj_session.specs.declared.command.Command.TheVariants.{Measure}
 use Rattle.lj_session.specs.declared.reply.Reply.{Reply}
 use Rattle.lj_session.specs.Users.{User}
 use Rattle.lj_session.specs.Turns.{waits_for}
-use Rattle.lj_session.specs.UserState.{LiveSession, UserState, IsAtWork, IsIdleIn, IsWhole, OthersKept, OtherSessionsKept, Reads, StepsFollow, user_of, live_session, owed_in, with_session_changed, with_step_finished, with_no_step, is_whole_in, turns_before}
+use Rattle.lj_session.specs.UserState.{LiveSession, UserState, IsAtWork, IsIdleIn, IsWhole, OthersKept, OtherSessionsKept, Reads, StepsFollow, user_of, live_session, pending_in, with_session_changed, with_step_finished, with_no_step, is_whole_in, turns_before}
 use Rattle.lj_session.specs.Owner.{Owner, IsAnswered, IsLastTurn, IsReplied, is_waited_for, user_in}
 use Rattle.lj_session.proofs.Passing.{Energies, energies, forces, measures, measured_last, measured_answered, at_work-closed, at_work-passed, others-passed, rests-followed}
 use Rattle.lj_session.proofs.Waiting.{passed_turns, same_name}
@@ -35,7 +35,7 @@ module _ (old : Owner) (name : List ℕ) (command : Command) (waiting : Some com
       subst (λ (w : Option Command). IfSome w (λ k. IsAnswered (user_in old) k reply next)) waiting answered
 
   -- an energy step
-  module _ (none : owed_in old.state name ≡ 0) where
+  module _ (none : pending_in old.state name ≡ 0) where
     measured : Energies (Some command) old.state name
     measured = energies (Some command) old.state name whole at_work none
 
@@ -58,8 +58,8 @@ module _ (old : Owner) (name : List ℕ) (command : Command) (waiting : Some com
     pub measured-work : IsAtWork None (with_session_changed name with_no_step old.state)
     measured-work = at_work-closed command old.state name waits measured at_work
 
-  -- a step that was owed
-  module _ (some : 0 < owed_in old.state name) where
+  -- a step that was pending
+  module _ (some : 0 < pending_in old.state name) where
     pub passed-whole : (held : LiveSession) → live_session old.state name ≡ Some held → IsWhole Force held
     passed-whole = forces (Some command) old.state name whole at_work some
 

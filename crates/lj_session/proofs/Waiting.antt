@@ -13,14 +13,14 @@ use Rattle.lj_session.specs.declared.command.Command.TheVariants.{Advance, Measu
 use Rattle.lj_session.specs.Users.{Session, User}
 use Rattle.lj_session.specs.Answers.{answer, AnswersAlike, can_advance}
 use Rattle.lj_session.specs.Turns.{turns, waits_for, advance_turns}
-use Rattle.lj_session.specs.UserState.{LiveSession, UserState, user_of, as_entry, settled_session, live_session, with_session_changed, with_step, with_posted, with_tile_in, with_step_restarted, with_steps_restarted, with_more_owed, with_step_finished, owed_in, steps_before, turns_before}
+use Rattle.lj_session.specs.UserState.{LiveSession, UserState, user_of, as_entry, settled_session, live_session, with_session_changed, with_step, with_posted, with_tile_in, with_step_restarted, with_steps_restarted, with_more_pending, with_step_finished, pending_in, steps_before, turns_before}
 use Rattle.lj_session.specs.Owner.{Owner, user_in, state_begun, command_left, state_taking_up, rest_of, state_changed_in, next_session, with_task_posted, with_task_in, is_waited_for}
 use Rattle.lj_session.specs.Laws.{user_taking, BeginsAlike}
 use Rattle.lj_session.proofs.Advancing.{advanced, alike}
 use Rattle.lj_session.proofs.Entries.{by_test, named-put_any}
 use Rattle.lj_session.proofs.Holding.{named-held, named-absent, user_of-changed, user_of-kept, changed-some}
-use Rattle.lj_session.proofs.Outcomes.{owed-user}
-use Rattle.lj_session.proofs.Owed.{meant-rest, meant-posted, meant-passed, owed-owing}
+use Rattle.lj_session.proofs.Outcomes.{pending-user}
+use Rattle.lj_session.proofs.PendingSteps.{meant-rest, meant-posted, meant-passed, pending-added}
 use Rattle.lj_session.proofs.Turning.{advance-turns-none, advance-turns-far, advance-turns-near, measure-turns-none}
 
 -- a state whose steps are begun anew means the same user
@@ -47,8 +47,8 @@ pub taken_user : (work : Task) (owner : Owner) → user_in (with_task_in work ow
 taken_user work owner =
     user_of-changed owner.state work.name.label.session (with_tile_in (tile_number_of work)) (λ held. refl)
 
--- a step that was owed is passed
-pub passed_user : (state : UserState) (name : List ℕ) → 0 < owed_in state name → user_of (with_session_changed name with_step_finished state) ≡ user_of state
+-- a step that was pending is passed
+pub passed_user : (state : UserState) (name : List ℕ) → 0 < pending_in state name → user_of (with_session_changed name with_step_finished state) ≡ user_of state
 passed_user state name some = by (live_session state name) refl
   where
     by : (o : Option LiveSession) → live_session state name ≡ o → user_of (with_session_changed name with_step_finished state) ≡ user_of state
@@ -57,24 +57,24 @@ passed_user state name some = by (live_session state name) refl
         ap user_of (changed-some state name with_step_finished held e)
         ∙ user_of-kept state name held (with_step_finished held) e (meant-passed held (rw e at some))
 
--- and one step less is owed
-pub passed_owed : (state : UserState) (name : List ℕ) → 0 < owed_in state name
-    → owed_in (with_session_changed name with_step_finished state) name + 1 ≡ owed_in state name
-passed_owed state name some = by (live_session state name) refl
+-- and one step fewer is pending
+pub passed_pending : (state : UserState) (name : List ℕ) → 0 < pending_in state name
+    → pending_in (with_session_changed name with_step_finished state) name + 1 ≡ pending_in state name
+passed_pending state name some = by (live_session state name) refl
   where
-    less : (held : LiveSession) → (with_step_finished held).owed + 1 ≡ held.owed - 1 + 1
-    less held = by_test (nat_lt 0 (held.owed - 1)) (λ t. rw t refl) (λ t. rw t refl)
+    less : (held : LiveSession) → (with_step_finished held).pending + 1 ≡ held.pending - 1 + 1
+    less held = by_test (nat_lt 0 (held.pending - 1)) (λ t. rw t refl) (λ t. rw t refl)
 
-    by : (o : Option LiveSession) → live_session state name ≡ o → owed_in (with_session_changed name with_step_finished state) name + 1 ≡ owed_in state name
+    by : (o : Option LiveSession) → live_session state name ≡ o → pending_in (with_session_changed name with_step_finished state) name + 1 ≡ pending_in state name
     by None e = absurd (let none = rw e at some in omega (arith, none))
     by (Some held) e =
         let there : live_session (with_session_changed name with_step_finished state) name ≡ Some (with_step_finished held) =
         ap (λ (o : UserState). live_session o name) (changed-some state name with_step_finished held e) ∙ named-put_any name state.sessions (with_step_finished held) in
         let one = less held in
-        let more : 0 < held.owed = rw e at some in
-        ap (λ o. option_map_or (λ (h : LiveSession). h.owed) o 0 + 1) there
-        ∙ (let n : (with_step_finished held).owed + 1 ≡ held.owed = omega (arith, one, more) in n)
-        ∙ sym (ap (λ o. option_map_or (λ (h : LiveSession). h.owed) o 0) e)
+        let more : 0 < held.pending = rw e at some in
+        ap (λ o. option_map_or (λ (h : LiveSession). h.pending) o 0 + 1) there
+        ∙ (let n : (with_step_finished held).pending + 1 ≡ held.pending = omega (arith, one, more) in n)
+        ∙ sym (ap (λ o. option_map_or (λ (h : LiveSession). h.pending) o 0) e)
 
 -- an ADVANCE that takes steps can go on by them
 pub record Goes (state : UserState) (name : List ℕ) (n : ℕ) : Type 0 where
@@ -92,15 +92,15 @@ goes state name n some = by (live_session state name) refl
         (λ far. absurd (let none = advance-turns-far (user_of state) name n (settled_session held) (named-held state name held e) far in
         omega (arith, none, some)))
 
--- the steps of an ADVANCE that are owed are counted
+-- the pending steps of an ADVANCE are counted
 pub taken_user_of : (state : UserState) (name : List ℕ) (n : ℕ) → Goes state name n
-    → user_of (with_session_changed name (with_more_owed n) state) ≡ (answer (user_of state) (Advance name n) false).1
+    → user_of (with_session_changed name (with_more_pending n) state) ≡ (answer (user_of state) (Advance name n) false).1
 taken_user_of state name n g =
-    ap user_of (changed-some state name (with_more_owed n) g.held g.there) ∙ owed-user state name g.held g.there n g.near
+    ap user_of (changed-some state name (with_more_pending n) g.held g.there) ∙ pending-user state name g.held g.there n g.near
 
 -- and an ADVANCE by 0 is then answered as the whole
 pub taken_alike : (state : UserState) (name : List ℕ) (n : ℕ) → Goes state name n
-    → AnswersAlike (user_of (with_session_changed name (with_more_owed n) state)) (Advance name 0) (user_of state) (Advance name n)
+    → AnswersAlike (user_of (with_session_changed name (with_more_pending n) state)) (Advance name 0) (user_of state) (Advance name n)
 taken_alike state name n g mark =
     let found = named-held state name g.held g.there in
     ap (λ u. answer u (Advance name 0) mark) (taken_user_of state name n g
@@ -143,16 +143,16 @@ same_name command name h = by (waits_for command) refl
         ap (λ n. Some n) ((bytes_eq-Decides session name).0 t)
 
 -- how many turns are left once a step of the session is passed
-pub passed_turns : (state : UserState) (name : List ℕ) (command : Command) → waits_for command ≡ Some name → 0 < owed_in state name
+pub passed_turns : (state : UserState) (name : List ℕ) (command : Command) → waits_for command ≡ Some name → 0 < pending_in state name
     → turns_before (with_session_changed name with_step_finished state) command + 1 ≡ turns_before state command
 passed_turns state name command waits some =
-    let less = passed_owed state name some in
+    let less = passed_pending state name some in
     let same = ap (λ u. turns u command) (passed_user state name some) in
-    let then = ap (λ o. option_map_or (owed_in (with_session_changed name with_step_finished state)) o 0) waits in
-    let now = ap (λ o. option_map_or (owed_in state) o 0) waits in
+    let then = ap (λ o. option_map_or (pending_in (with_session_changed name with_step_finished state)) o 0) waits in
+    let now = ap (λ o. option_map_or (pending_in state) o 0) waits in
     omega (arith, less, same, then, now)
 
--- a command to whose session nothing is owed takes steps of its own
+-- a command whose session has no pending steps takes steps of its own
 pub left-taken : (command : Command) (state : UserState) → steps_before state command ≡ 0 → command_left command state ≡ rest_of command
 left-taken command state none = rw none refl
 
@@ -168,20 +168,20 @@ nothing-turns user name = by (value_named name user.sessions)
     by None = refl
     by (Some session) = by_test (can_advance session 0) (λ t. rw t refl) (λ t. rw t refl)
 
--- its own turns are then those that are owed
-pub taken_turns : (state : UserState) (name : List ℕ) (n : ℕ) → Goes state name n → owed_in state name ≡ 0
-    → turns_before (with_session_changed name (with_more_owed n) state) (Advance name 0) ≡ turns_before state (Advance name n)
+-- its own turns are then the pending ones
+pub taken_turns : (state : UserState) (name : List ℕ) (n : ℕ) → Goes state name n → pending_in state name ≡ 0
+    → turns_before (with_session_changed name (with_more_pending n) state) (Advance name 0) ≡ turns_before state (Advance name n)
 unfolding waits_for
 taken_turns state name n g none =
-    let there : live_session (with_session_changed name (with_more_owed n) state) name ≡ Some (with_more_owed n g.held) =
-    ap (λ (o : UserState). live_session o name) (changed-some state name (with_more_owed n) g.held g.there)
-    ∙ named-put_any name state.sessions (with_more_owed n g.held) in
-    let owed : owed_in (with_session_changed name (with_more_owed n) state) name ≡ g.held.owed + n =
-    ap (λ o. option_map_or (λ (h : LiveSession). h.owed) o 0) there ∙ owed-owing n g.held in
-    let was : g.held.owed ≡ 0 = rw g.there at none in
-    let zero_more = nothing-turns (user_of (with_session_changed name (with_more_owed n) state)) name in
+    let there : live_session (with_session_changed name (with_more_pending n) state) name ≡ Some (with_more_pending n g.held) =
+    ap (λ (o : UserState). live_session o name) (changed-some state name (with_more_pending n) g.held g.there)
+    ∙ named-put_any name state.sessions (with_more_pending n g.held) in
+    let pending : pending_in (with_session_changed name (with_more_pending n) state) name ≡ g.held.pending + n =
+    ap (λ o. option_map_or (λ (h : LiveSession). h.pending) o 0) there ∙ pending-added n g.held in
+    let was : g.held.pending ≡ 0 = rw g.there at none in
+    let zero_more = nothing-turns (user_of (with_session_changed name (with_more_pending n) state)) name in
     let own = advance-turns-near (user_of state) name n (settled_session g.held) (named-held state name g.held g.there) g.near in
-    omega (arith, owed, was, zero_more, own, none)
+    omega (arith, pending, was, zero_more, own, none)
 
 -- a MEASURE that takes its turn has its session
 pub measured_there : (state : UserState) (name : List ℕ) → 0 < turns (user_of state) (Measure name)
@@ -199,7 +199,7 @@ measured_turns state name held found =
     let there : live_session (with_session_changed name (with_step Energy) state) name ≡ Some (with_step Energy held) =
     ap (λ (o : UserState). live_session o name) (changed-some state name (with_step Energy) held found)
     ∙ named-put_any name state.sessions (with_step Energy held) in
-    let now = ap (λ o. option_map_or (λ (h : LiveSession). h.owed) o 0) there in
-    let was = ap (λ o. option_map_or (λ (h : LiveSession). h.owed) o 0) found in
+    let now = ap (λ o. option_map_or (λ (h : LiveSession). h.pending) o 0) there in
+    let was = ap (λ o. option_map_or (λ (h : LiveSession). h.pending) o 0) found in
     let same = ap (λ u. turns u (Measure name)) (user_of-changed state name (with_step Energy) (λ h. refl)) in
     omega (arith, now, was, same)

@@ -7,14 +7,14 @@ use Rattle.lj_quota.specs.declared.Used.{Used}
 use Rattle.lj_session.specs.declared.command.Command.{Command}
 use Rattle.lj_session.specs.declared.reply.Reply.{Reply}
 use Rattle.lj_session.specs.declared.state.UserState.TheInside.{Inside}
-use Rattle.lj_session.specs.UserState.{LiveSession, UserState, Performs, Reached, as_session, settled_session, user_of, used_by, live_session, owed_in}
+use Rattle.lj_session.specs.UserState.{LiveSession, UserState, Performs, Reached, as_session, settled_session, user_of, used_by, live_session, pending_in}
 use Rattle.lj_session.specs.UserState.{with_live_session, with_session_changed}
 use Rattle.lj_session.specs.Answers.{answer}
 use Rattle.lj_session.specs.Totals.{state_of_kept, IsState}
 use Rattle.lj_session.proofs.Entries.{put-same, set-put}
 use Rattle.lj_session.specs.declared.refusal.Refusal.TheVariants.{NoSession}
 use Rattle.lj_session.proofs.Performing.{IsAbsent, refused, none}
-use Rattle.lj_session.proofs.Holding.{named-held, named-settled, named-absent, owed-of, changed-some, user_of-kept}
+use Rattle.lj_session.proofs.Holding.{named-held, named-settled, named-absent, pending-of, changed-some, user_of-kept}
 use Rattle.lj_session.proofs.Reaching.{reached-answer, reached-performs, reached-same}
 use Rattle.lj_session.proofs.Totals.{same_used, used-same, sessions-changed, atoms-changed, branches-changed}
 
@@ -41,21 +41,21 @@ pub is_there : (a : Inside) (old : UserState) → state_of_kept a ≡ old → (n
     → value_named name (user_of old).sessions ≡ Some (settled_session held)
 is_there a old view name held h = named-held old name held (looked_up a old view name (Some held) h)
 
--- to which nothing is owed, where nothing is owed to its name
-pub none_owed : (a : Inside) (old : UserState) → state_of_kept a ≡ old → (name : List ℕ) (held : LiveSession)
-    → Some held ≡ value_named name a.sessions.entries → owed_in old name ≡ 0 → held.owed ≡ 0
-none_owed a old view name held h none = owed-of old name held (looked_up a old view name (Some held) h) none
+-- with no pending steps, where there are none at its name
+pub none_pending : (a : Inside) (old : UserState) → state_of_kept a ≡ old → (name : List ℕ) (held : LiveSession)
+    → Some held ≡ value_named name a.sessions.entries → pending_in old name ≡ 0 → held.pending ≡ 0
+none_pending a old view name held h none = pending-of old name held (looked_up a old view name (Some held) h) none
 
--- to which steps are owed, where steps are owed to its name
-pub owes-some : (a : Inside) (old : UserState) → state_of_kept a ≡ old → (name : List ℕ) (held : LiveSession)
-    → Some held ≡ value_named name a.sessions.entries → 0 < owed_in old name → 0 < held.owed
-owes-some a old view name held h some = rw (looked_up a old view name (Some held) h) at some
+-- with pending steps, where there are some at its name
+pub some_pending : (a : Inside) (old : UserState) → state_of_kept a ≡ old → (name : List ℕ) (held : LiveSession)
+    → Some held ≡ value_named name a.sessions.entries → 0 < pending_in old name → 0 < held.pending
+some_pending a old view name held h some = rw (looked_up a old view name (Some held) h) at some
 
 pub is_settled : (a : Inside) (old : UserState) → state_of_kept a ≡ old → (name : List ℕ) (held : LiveSession)
-    → Some held ≡ value_named name a.sessions.entries → owed_in old name ≡ 0
+    → Some held ≡ value_named name a.sessions.entries → pending_in old name ≡ 0
     → value_named name (user_of old).sessions ≡ Some (as_session held)
 is_settled a old view name held h none =
-    let found = looked_up a old view name (Some held) h in named-settled old name held found (owed-of old name held found none)
+    let found = looked_up a old view name (Some held) h in named-settled old name held found (pending-of old name held found none)
 
 -- The session that a name stands for becomes another one, and `next` is held then.
 pub record Writes (a : Inside) (old : UserState) (name : List ℕ) (held new : LiveSession) (next : UserState) : Type 0 where

@@ -16,7 +16,7 @@ use Rattle.lj_session.specs.Users.{User}
 use Rattle.lj_session.specs.Answers.{answer, AnswersAlike}
 use Rattle.lj_session.specs.Turns.{waits_for}
 use Rattle.lj_session.specs.UserState.{LiveSession, UserState, user_of, names, with_session_changed, with_step, next_task, with_posted, IsAwaited, with_tile_in, is_whole_in}
-use Rattle.lj_session.specs.UserState.{with_more_owed, with_step_finished, with_steps_restarted, owed_in, steps_before, turns_before, is_measured}
+use Rattle.lj_session.specs.UserState.{with_more_pending, with_step_finished, with_steps_restarted, pending_in, steps_before, turns_before, is_measured}
 
 -- an owner: the state, the number of its user, and the waiting command, if there is one
 pub record Owner : Type 0 where
@@ -37,12 +37,12 @@ abbrev pub with_state : UserState → Owner → Owner
 with_state state owner = record owner { state = state }
 
 -- a session has a step to make: some are pending, or the waiting command measures it
-abbrev pub is_owing : Owner → List ℕ → Bool
-is_owing owner name = nat_lt 0 (owed_in owner.state name) || is_measured owner.waiting name
+abbrev pub has_pending : Owner → List ℕ → Bool
+has_pending owner name = nat_lt 0 (pending_in owner.state name) || is_measured owner.waiting name
 
 -- some session has a step to make
 abbrev pub is_busy : Owner → Bool
-is_busy owner = is_some (find (is_owing owner) (names owner.state))
+is_busy owner = is_some (find (has_pending owner) (names owner.state))
 
 -- how many turns of its session the waiting command still needs
 abbrev pub turns_left : Owner → ℕ
@@ -55,7 +55,7 @@ is_waited_for waiting name = option_map_or (λ session. bytes_eq session name) (
 -- a command begins its own steps: those of an ADVANCE become pending in its session, and for a MEASURE the energy step
 -- is opened
 unfoldable pub state_taking_up : Command → UserState → UserState
-state_taking_up (Advance name n) state = with_session_changed name (with_more_owed n) state
+state_taking_up (Advance name n) state = with_session_changed name (with_more_pending n) state
 state_taking_up (Measure name) state = with_session_changed name (with_step Energy) state
 state_taking_up _ state = state
 
@@ -159,5 +159,5 @@ WaitsAlike old new = WaitsAlikeFor old.waiting new.waiting (user_in old) (user_i
 
 -- no step is pending in a session whose frame a reply prints
 abbrev pub IsSettled : UserState → Reply → Type 0
-IsSettled state (Dumped name) = owed_in state name ≡ 0
+IsSettled state (Dumped name) = pending_in state name ≡ 0
 IsSettled state _ = Unit {0}

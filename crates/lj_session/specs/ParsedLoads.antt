@@ -29,5 +29,5 @@ held_from mix symbols first last = record {
   };
   passed = 0;
   saved = [];
-  owed = 0;
+  pending = 0;
 }

@@ -32,7 +32,7 @@ pub record LiveSession : Type 0 where
   pub live : Sim
   pub passed : ℕ
   pub saved : List (List ℕ × Simulation)
-  pub owed : ℕ
+  pub pending : ℕ
 
 -- a saved simulation has `count` atoms
 abbrev pub HasCount : ℕ → List ℕ × Simulation → Type 0
@@ -57,7 +57,7 @@ abbrev pub settled_session : LiveSession → Session
 settled_session held = record {
   symbols = held.symbols;
   composition = held.live.composition;
-  sim = steps held.live.composition held.owed held.live.sim;
+  sim = steps held.live.composition held.pending held.live.sim;
   saved = held.saved;
 }
 
@@ -178,20 +178,20 @@ abbrev pub with_saved : LiveSession → List (List ℕ × Simulation) → LiveSe
 with_saved held saved = record held { saved = saved }
 
 -- the session with n more steps pending; if none were, the first of them is open
-abbrev pub with_more_owed : ℕ → LiveSession → LiveSession
-with_more_owed n held =
-    let more = record held { owed = held.owed + n } in
-    if nat_lt 0 n && nat_le held.owed 0 then with_step Force more else more
+abbrev pub with_more_pending : ℕ → LiveSession → LiveSession
+with_more_pending n held =
+    let more = record held { pending = held.pending + n } in
+    if nat_lt 0 n && nat_le held.pending 0 then with_step Force more else more
 
 -- the session one step later, with one fewer step pending and none open
 abbrev pub with_step_taken : LiveSession → LiveSession
 with_step_taken held =
-    record (with_simulation held (next_simulation held.live.composition held.live.sim)) { owed = held.owed - 1 }
+    record (with_simulation held (next_simulation held.live.composition held.live.sim)) { pending = held.pending - 1 }
 
 -- the session one step later, with the next step open if one is pending
 abbrev pub with_step_finished : LiveSession → LiveSession
 with_step_finished held =
-    let next = with_step_taken held in if nat_lt 0 next.owed then with_step Force next else next
+    let next = with_step_taken held in if nat_lt 0 next.pending then with_step Force next else next
 
 -- the session with no step open, and no tile posted
 abbrev pub with_no_step : LiveSession → LiveSession
@@ -199,19 +199,19 @@ with_no_step held = record (with_simulation held held.live.sim) { passed = 0 }
 
 -- the session with its step restarted if one is pending, so that no tile is posted or in, else with none open
 abbrev pub with_step_restarted : LiveSession → LiveSession
-with_step_restarted held = if nat_lt 0 held.owed then with_step Force held else with_no_step held
+with_step_restarted held = if nat_lt 0 held.pending then with_step Force held else with_no_step held
 
 -- the state with the step of each session restarted
 abbrev pub with_steps_restarted : UserState → UserState
 with_steps_restarted state = record state { sessions = map (λ entry. (entry.0, with_step_restarted entry.1)) state.sessions }
 
 -- the number of pending steps of the session of a name, and 0 if there is none
-abbrev pub owed_in : UserState → List ℕ → ℕ
-owed_in state name = option_map_or (λ held. held.owed) (live_session state name) 0
+abbrev pub pending_in : UserState → List ℕ → ℕ
+pending_in state name = option_map_or (λ held. held.pending) (live_session state name) 0
 
 -- the number of pending steps of the session that a command waits for
 abbrev pub steps_before : UserState → Command → ℕ
-steps_before state command = option_map_or (owed_in state) (waits_for command) 0
+steps_before state command = option_map_or (pending_in state) (waits_for command) 0
 
 -- the index, in order of loading, of the session that a command waits for, if there is one
 abbrev pub index_waited_for : UserState → Command → Option ℕ
@@ -229,9 +229,9 @@ is_measured _ name = false
 
 -- the kind of a session's open step: of forces if steps are pending, of energies if the waiting command measures it,
 -- else no step is open
-abbrev pub kind_owed : Option Command → List ℕ → LiveSession → Option Kind
-kind_owed waiting name held =
-    if nat_lt 0 held.owed then Some Force else (if is_measured waiting name then Some Energy else None)
+abbrev pub kind_pending : Option Command → List ℕ → LiveSession → Option Kind
+kind_pending waiting name held =
+    if nat_lt 0 held.pending then Some Force else (if is_measured waiting name then Some Energy else None)
 
 -- a session may advance by n steps after the pending ones
 abbrev pub MayAdvance : ℕ → LiveSession → Type 0
@@ -240,7 +240,7 @@ MayAdvance n held = can_advance (settled_session held) n ≡ true
 -- A step is open in each session that has one to make, and in no other.
 abbrev pub IsAtWork : Option Command → UserState → Type 0
 IsAtWork waiting state = (name : List ℕ) (held : LiveSession) → live_session state name ≡ Some held
-    → kind_of held.live.part ≡ kind_owed waiting name held
+    → kind_of held.live.part ≡ kind_pending waiting name held
 
 -- a whole step of a kind is open
 pub record IsWhole (expected : Kind) (held : LiveSession) : Type 0 where
@@ -267,18 +267,18 @@ OthersKept command old new =
 
 -- no step is pending or open in a session
 pub record IsIdle (held : LiveSession) : Type 0 where
-  pub owed : held.owed ≡ 0
+  pub pending : held.pending ≡ 0
   pub closed : kind_of held.live.part ≡ None
 
 -- the steps of a session are unchanged: those pending, the open one, and which of its tiles are posted and in
 pub record SameSteps (old new : LiveSession) : Type 0 where
   pub live : new.live ≡ old.live
   pub passed : new.passed ≡ old.passed
-  pub owed : new.owed ≡ old.owed
+  pub pending : new.pending ≡ old.pending
 
 -- the session with the steps of a START pending, if it may advance by them
 abbrev pub with_start : ℕ → LiveSession → LiveSession
-with_start n held = if can_advance (settled_session held) n then with_more_owed n held else held
+with_start n held = if can_advance (settled_session held) n then with_more_pending n held else held
 
 -- the steps of its session after a load: none in a new session, and unchanged in one that was there
 abbrev pub StepsAfterLoad : Option LiveSession → LiveSession → Type 0

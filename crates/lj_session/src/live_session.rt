@@ -30,7 +30,7 @@ pub(crate) struct LiveSession {
     sim: Sim,
     passed: usize,
     branches: Branches,
-    owed: u64,
+    pending: u64,
 }
 
 impl Model for LiveSession {
@@ -50,7 +50,7 @@ impl LiveSession {
     pub(crate) fn new(symbols: Vec<Symbol>, sim: Sim, branches: Branches) -> LiveSession
         requires symbols { length symbols.items ≡ length sim.sim.cur }
         requires branches { branches ≡ [] }
-        ensures { result ≡ record { symbols = symbols.items; live = sim; passed = 0; saved = []; owed = 0 } }
+        ensures { result ≡ record { symbols = symbols.items; live = sim; passed = 0; saved = []; pending = 0 } }
     {
         let _most = sim.step();
         LiveSession {
@@ -58,7 +58,7 @@ impl LiveSession {
             sim,
             passed: 0,
             branches,
-            owed: 0,
+            pending: 0,
         }
     }
 
@@ -85,23 +85,23 @@ impl LiveSession {
     }
 
     /// Returns the number of pending steps.
-    pub(crate) fn owed(&self) -> u64
-        ensures { result ≡ self.now.owed }
+    pub(crate) fn pending(&self) -> u64
+        ensures { result ≡ self.now.pending }
     {
-        self.owed
+        self.pending
     }
 
     /// Returns the step number after all pending steps.
-    #[tactic(auto, using(crate::proofs::Owed::target_is))]
+    #[tactic(auto, using(crate::proofs::PendingSteps::target_is))]
     pub(crate) fn target(&self) -> i64
         ensures value { result ≡ (settled_session self.now).sim.step }
         ensures most { unsigned_abs result ≤ MAX_STEP }
     {
-        self.sim.step() + self.sim.dir() * self.owed as i64
+        self.sim.step() + self.sim.dir() * self.pending as i64
     }
 
     /// Returns whether it may advance by `steps` after the pending steps.
-    #[tactic(auto, using(crate::proofs::Owed::dir_is))]
+    #[tactic(auto, using(crate::proofs::PendingSteps::dir_is))]
     pub(crate) fn can_advance(&self, steps: u64) -> bool
         ensures { result ≡ can_advance (settled_session self.now) steps }
     {
@@ -109,14 +109,14 @@ impl LiveSession {
     }
 
     /// Adds pending steps. If none were pending, the first of them is open then.
-    pub(crate) fn owe(&mut self, steps: u64)
+    pub(crate) fn add_pending(&mut self, steps: u64)
         requires { can_advance (settled_session self.old) steps ≡ true }
-        ensures { self.new ≡ states.with_more_owed steps self.old }
+        ensures { self.new ≡ states.with_more_pending steps self.old }
     {
         let _dir = self.sim.dir();
         let _step = self.sim.step();
-        let first = steps > 0 && self.owed == 0;
-        self.owed += steps;
+        let first = steps > 0 && self.pending == 0;
+        self.pending += steps;
         if first {
             self.sim.open_step(Kind::Force);
             self.passed = 0;
@@ -125,7 +125,7 @@ impl LiveSession {
 
     /// Reverses the motion. No step is open then.
     pub(crate) fn reverse(&mut self)
-        requires { self.old.owed ≡ 0 }
+        requires { self.old.pending ≡ 0 }
         ensures value { self.new ≡ with_simulation self.old (motion.reversal self.old.live.sim) }
         ensures count { length self.new.live.sim.cur ≡ length self.old.live.sim.cur }
     {
@@ -161,7 +161,7 @@ impl LiveSession {
     /// # Errors
     /// `NoBranch` if nothing is saved under it. Nothing has changed then.
     pub(crate) fn restore(&mut self, branch: &Name) -> Result<(), NoBranch>
-        requires { self.old.owed ≡ 0 }
+        requires { self.old.pending ≡ 0 }
         ensures found { IsOk result ↔ IsSome (value_named branch.now self.old.saved) }
         ensures restored { let saved = value_named branch.now self.old.saved in
             OnOk result (IfSome saved (λ sim. self.new ≡ with_simulation self.old sim)) }
@@ -206,7 +206,7 @@ impl LiveSession {
     pub(crate) fn restart_step(&mut self)
         ensures { self.new ≡ states.with_step_restarted self.old }
     {
-        if self.owed > 0 {
+        if self.pending > 0 {
             self.open_step(Kind::Force);
         } else {
             self.close_step();
@@ -296,14 +296,14 @@ impl LiveSession {
     /// there is one.
     pub(crate) fn finish_step(&mut self)
         requires whole { IsWhole Force self.old }
-        requires owed { 0 < self.old.owed }
+        requires pending { 0 < self.old.pending }
         ensures { self.new ≡ states.with_step_finished self.old }
     {
         let _dir = self.sim.dir();
         let _step = self.sim.step();
         self.sim.turn();
-        self.owed -= 1;
-        if self.owed > 0 {
+        self.pending -= 1;
+        if self.pending > 0 {
             self.sim.open_step(Kind::Force);
             self.passed = 0;
         }

@@ -10,7 +10,7 @@ ghost use Rattle.lj_session.specs.UserState.{IsAtWork, index_waited_for, turns_b
 ghost use Rattle.lj_session.specs.Owner.{IsAnswered, IsAwaitedIn, IsLastTurn, IsSettled};
 ghost use Rattle.lj_session.specs.Owner.{WaitsAlike};
 ghost use Rattle.lj_session.specs.Owner.{state_begun, command_left};
-ghost use Rattle.lj_session.specs.Owner.{user_in, owner_of_state, is_owing, is_busy, turns_left, is_waited_for};
+ghost use Rattle.lj_session.specs.Owner.{user_in, owner_of_state, has_pending, is_busy, turns_left, is_waited_for};
 ghost use Rattle.lj_session.specs.Owner.{Owner, label_of, next_task_of};
 ghost use Rattle.lj_session.specs.Cursors.{IsPostedTo};
 ghost use Rattle.lj_session.specs.Owner.{with_task_posted, with_task_in, ready_session, owner_turned};
@@ -224,7 +224,7 @@ impl Owner {
         ensures { result ≡ is_busy self.now }
     {
         for i in 0..self.state.len() {
-            if self.owes(self.state.name_at(i)) {
+            if self.has_pending(self.state.name_at(i)) {
                 return true;
             }
         }
@@ -234,7 +234,7 @@ impl Owner {
     /// Returns whether a session has a step to make whose tiles are all in.
     pub fn is_whole(&self, name: &Name) -> bool
         ensures value { result ≡ is_whole_in self.now.state name.now }
-        ensures owes { result ≡ true → is_owing self.now name.now ≡ true }
+        ensures pending { result ≡ true → has_pending self.now name.now ≡ true }
     {
         self.state.is_whole(name)
     }
@@ -243,7 +243,7 @@ impl Owner {
     pub fn ready_session(&self) -> Option<Name>
         ensures first { result ≡ ready_session self.now }
         ensures whole { IfSome result (λ name. is_whole_in self.now.state name ≡ true) }
-        ensures owes { IfSome result (λ name. is_owing self.now name ≡ true) }
+        ensures pending { IfSome result (λ name. has_pending self.now name ≡ true) }
     {
         Some(self.state.first_whole()?.copy())
     }
@@ -267,7 +267,7 @@ impl Owner {
             return None;
         }
         let command = self.waiting.take()?;
-        if self.state.owed(name) == 0 {
+        if self.state.pending(name) == 0 {
             let reply = self.state.measured(name.copy());
             self.state.close_step(name);
             return Some(reply);
@@ -325,10 +325,10 @@ impl Owner {
     }
 
     /// Returns whether a session has a step to make.
-    fn owes(&self, name: &Name) -> bool
-        ensures { result ≡ is_owing self.now name.now }
+    fn has_pending(&self, name: &Name) -> bool
+        ensures { result ≡ has_pending self.now name.now }
     {
-        self.state.owed(name) > 0 || self.is_measured(name)
+        self.state.pending(name) > 0 || self.is_measured(name)
     }
 
     /// Returns whether the waiting command measures this session.
@@ -403,7 +403,7 @@ fn take_up(state: &mut UserState, command: Command) -> Command
     }
     match &command {
         Command::Advance { name, steps } => {
-            state.owe(name, *steps);
+            state.add_pending(name, *steps);
             Command::Advance {
                 name: name.copy(),
                 steps: 0,

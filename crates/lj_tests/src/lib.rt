@@ -5,7 +5,7 @@
 #[cfg(test)]
 mod books;
 #[cfg(test)]
-mod owing;
+mod pending_steps;
 #[cfg(test)]
 mod queues;
 #[cfg(test)]

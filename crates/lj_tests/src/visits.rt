@@ -1,7 +1,7 @@
 //! Visits over a backend that notes its events: the replies to a connection, and the events, in order.
 ghost use Rattle.std.specs.Prelude.{◌≡◌, ◌++◌, ◌∷◌, []};
 
-use crate::owing::ClosingPool;
+use crate::pending_steps::ClosingPool;
 use crate::users::users;
 use arrayvec::{ArrayString, ArrayVec};
 use lj_access::{Denied, Directory, Ticket};

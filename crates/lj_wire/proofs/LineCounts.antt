@@ -19,7 +19,7 @@ use Rattle.lj_session.specs.declared.reply.Reply.{Reply}
 use Rattle.lj_session.specs.declared.reply.Reply.TheVariants.{Dumped, Listed, ListedBranches}
 use Rattle.lj_session.specs.UserState.{LiveSession, settled_session}
 use Rattle.lj_session.specs.Users.{User}
-use Rattle.lj_session.proofs.Owed.{count-meant}
+use Rattle.lj_session.proofs.PendingSteps.{count-meant}
 use Rattle.lj_wire.specs.Texts.{atom_lines, dump_lines, branch_lines, branch_line, reply_lines}
 
 atom_lines-few : (edge : ℕ) (symbols : List (List ℕ)) (places : List Place)

@@ -20,10 +20,10 @@ use Rattle.lj_step.specs.Motion.{Simulation}
 use Rattle.lj_step.specs.Sim.{Sim}
 use Rattle.lj_branch.specs.Named.{value_named}
 use Rattle.lj_session.specs.UserState.{LiveSession, UserState, live_session, live_session_at, names, user_of, as_session, settled_session, as_entry}
-use Rattle.lj_session.specs.UserState.{owed_in}
+use Rattle.lj_session.specs.UserState.{pending_in}
 use Rattle.lj_session.specs.Users.{Session}
-use Rattle.lj_session.proofs.Owed.{count-meant, meant-settled}
-use Rattle.lj_session.proofs.Holding.{owed-of}
+use Rattle.lj_session.proofs.PendingSteps.{count-meant, meant-settled}
+use Rattle.lj_session.proofs.Holding.{pending-of}
 use Rattle.lj_wire.specs.Lines.{blank_and}
 use Rattle.lj_wire.specs.Texts.{line_of, session_line, branch_line, atom_line, atom_lines}
 
@@ -190,17 +190,17 @@ under_name state name i P found holds =
         lost (Some e) h = cc
     there (Some held) is_held is_named holds within = subst P (sym is_named) holds
 
--- where nothing is owed to the session of a name, nothing is owed to the one at the place of the name
+-- where the session of a name has no pending steps, the one at the place of the name has none
 pub settled_at : (state : UserState) (name : List ℕ) (i : ℕ) → Some i ≡ position (bytes_eq name) (names state)
-    → owed_in state name ≡ 0 → ForSome (live_session_at state i) (λ held. held.owed ≡ 0)
+    → pending_in state name ≡ 0 → ForSome (live_session_at state i) (λ held. held.pending ≡ 0)
 settled_at state name i found none held there =
     let at_place : live_session state name ≡ live_session_at state i =
     subst (λ (index : Option ℕ). live_session state name ≡ option_and_then (live_session_at state) index) (sym found)
     (held_under state name) in
-    owed-of state name held (at_place ∙ there) none
+    pending-of state name held (at_place ∙ there) none
 
--- what is true of a session as its present step began is true of the one that is meant, where nothing is owed to it
-pub settled : (entry : Option LiveSession) (P : Option Session → Type 0) → ForSome entry (λ held. held.owed ≡ 0)
+-- what is true of a session as its present step began is true of the one that is meant, where it has no pending steps
+pub settled : (entry : Option LiveSession) (P : Option Session → Type 0) → ForSome entry (λ held. held.pending ≡ 0)
     → IfSome entry (λ held. P (Some (as_session held))) → IfSome entry (λ held. P (Some (settled_session held)))
 settled None P none holds = tt
 settled (Some held) P none holds =

@@ -54,6 +54,6 @@ pub left_goes_on : (state : UserState) (command : Command) → 0 < turns_before 
     → is_ending (items.Command (command_left command state)) ≡ false
 left_goes_on state command h = by_test (nat_lt 0 (steps_before state command))
   where
-    by_test : (owes : Bool) → is_ending (items.Command (cond owes command (rest_of command))) ≡ false
+    by_test : (pending : Bool) → is_ending (items.Command (cond pending command (rest_of command))) ≡ false
     by_test true = (command_goes_on state command h).0
     by_test false = (command_goes_on state command h).1

@@ -37,7 +37,7 @@ pub one_branch : IsWritten (quota 8 16384 1)
 unfolding computed
 one_branch = played (quota 8 16384 1) 15 nothing _ _ refl refl refl
 
--- two started sessions: commands are answered as of after the steps owed; LIST shows the steps that they go to
+-- two started sessions: commands are answered as of after the pending steps; LIST shows the steps that they go to
 pub two_started : IsWritten USUAL
     (codes "LOAD a 256 1 131072 rest 28\n2\ndimer\nAr 0 0 0\nAr 1.5 0 0\n"
     ++ (codes "LOAD b 256 1 131072 rest 28\n2\ndimer\nAr 0 0 0\nAr 1.5 0 0\nSTART a 2\nSTART b 1\nSHOW b 0\nSHOW a 0\n"

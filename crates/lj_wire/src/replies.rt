@@ -403,10 +403,10 @@ fn branches_line(line: &mut Line, state: &UserState, i: usize, name: &Name, k: u
     Some(())
 }
 
-/// Writes line k of the reply to DUMP of the i-th session, which has this name and is owed no step. None past the last line.
+/// Writes line k of the reply to DUMP of the i-th session, which has this name and no pending step. None past the last line.
 fn dump_line(line: &mut Line, state: &UserState, i: usize, name: &Name, k: usize) -> Option<()>
     requires session { i < length state.now.sessions }
-    requires settled { ForSome (live_session_at state.now i) (λ held. held.owed ≡ 0) }
+    requires settled { ForSome (live_session_at state.now i) (λ held. held.pending ≡ 0) }
     ensures text { IfSome (live_session_at state.now i) (λ held.
         option_map (λ _. line.new.items) result
         ≡ slice_get (dump_lines name.now (Some (settled_session held))) k) }

@@ -6,7 +6,7 @@ use Rattle.std.proofs.lemmas.Slice.Eq.{bytes_eq-Decides}
 use Rattle.lj_session.specs.declared.command.Command.{Command as Order}
 use Rattle.lj_session.specs.declared.command.Command.TheVariants.{Measure}
 use Rattle.lj_session.specs.Turns.{turns, waits_for}
-use Rattle.lj_session.specs.UserState.{LiveSession, with_session_changed, live_session, owed_in, steps_before, turns_before, is_whole_in, is_measured}
+use Rattle.lj_session.specs.UserState.{LiveSession, with_session_changed, live_session, pending_in, steps_before, turns_before, is_whole_in, is_measured}
 use Rattle.lj_session.specs.UserState.{is_whole_session, with_step_finished}
 use Rattle.lj_session.specs.Owner.{Owner, user_in, with_state, owner_begun, owner_begun_again, command_left, is_waited_for, owner_turned}
 use Rattle.lj_session.specs.Owner.{IsLastTurn}
@@ -35,7 +35,7 @@ there owner name whole = by (live_session owner.state name) refl
     by (Some held) e = (held, refl)
 
 -- the turn of the energies of a MEASURE is the last before it
-measured_last : (owner : Owner) (name : List ℕ) → is_whole_in owner.state name ≡ true → owed_in owner.state name ≡ 0
+measured_last : (owner : Owner) (name : List ℕ) → is_whole_in owner.state name ≡ true → pending_in owner.state name ≡ 0
     → is_measured owner.waiting name ≡ true → IsLastTurn name owner
 unfolding waits_for
 measured_last owner name whole none = by owner.waiting refl
@@ -47,21 +47,21 @@ measured_last owner name whole none = by owner.waiting refl
         let held = there owner name whole in
         let one = measure-turns-one (user_in owner) name _ (named-held owner.state name held.0 held.1) in
         let turns_are : turns_before owner.state (Measure name) ≡ 1 =
-        (let sum : owed_in owner.state name + turns (user_in owner) (Measure name) ≡ 1 = omega (arith, none, one) in sum) in
+        (let sum : pending_in owner.state name + turns (user_in owner) (Measure name) ≡ 1 = omega (arith, none, one) in sum) in
         record {
           waited = ap (λ w. is_waited_for w name) is ∙ (bytes_eq-Decides name name).1 refl;
           last = ap (λ w. option_map_or (turns_before owner.state) w 0) is ∙ turns_are;
         }
 
 -- a turn that is not the last is of a pending step
-turn_owed : (session : Option (List ℕ)) (owner : Owner) (name : List ℕ) → CanTurn session owner name
-    → ¬ IsLastTurn name owner → 0 < owed_in owner.state name
-turn_owed session owner name can more = by_test (nat_lt 0 (owed_in owner.state name))
-    (λ t. ltb-true 0 (owed_in owner.state name) t)
+turn_pending : (session : Option (List ℕ)) (owner : Owner) (name : List ℕ) → CanTurn session owner name
+    → ¬ IsLastTurn name owner → 0 < pending_in owner.state name
+turn_pending session owner name can more = by_test (nat_lt 0 (pending_in owner.state name))
+    (λ t. ltb-true 0 (pending_in owner.state name) t)
     (λ t.
-    let zero = ltb-false 0 (owed_in owner.state name) t in
-    let none : owed_in owner.state name ≡ 0 = omega (arith, zero) in
-    absurd (more (measured_last owner name can.whole none (ap (λ b. b || is_measured owner.waiting name) (sym t) ∙ can.owes))))
+    let zero = ltb-false 0 (pending_in owner.state name) t in
+    let none : pending_in owner.state name ≡ 0 = omega (arith, zero) in
+    absurd (more (measured_last owner name can.whole none (ap (λ b. b || is_measured owner.waiting name) (sym t) ∙ can.pending))))
 
 module _ (alike : AlikeIsTold) (begins : BegunWaitsAlike) where
   -- a command that is begun will be answered as it would be now
@@ -87,8 +87,8 @@ module _ (alike : AlikeIsTold) (begins : BegunWaitsAlike) where
       passed : Owner
       passed = with_state (with_session_changed name with_step_finished owner.state) owner
 
-      some : 0 < owed_in owner.state name
-      some = turn_owed session owner name can more
+      some : 0 < pending_in owner.state name
+      some = turn_pending session owner name can more
 
       same : user_in passed ≡ user_in owner
       same = passed_user owner.state name some

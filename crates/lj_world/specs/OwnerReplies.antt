@@ -3,7 +3,7 @@ use Rattle.std.specs.Prelude.{◌≡◌, ℕ, ◌<◌, Bool, true, List, Option,
 use Rattle.lj_session.specs.declared.command.Command.{Command as Order}
 use Rattle.lj_session.specs.Begins.{OnRefusal}
 use Rattle.lj_session.specs.UserState.{UserState, turns_before, is_whole_in, IsIdleIn, OthersKept, OtherSessionsKept, StepsFollow}
-use Rattle.lj_session.specs.Owner.{Owner, user_in, is_owing, owner_begun, ready_session, state_turned, owner_turned, IsLastTurn}
+use Rattle.lj_session.specs.Owner.{Owner, user_in, has_pending, owner_begun, ready_session, state_turned, owner_turned, IsLastTurn}
 use Rattle.lj_wire.specs.declared.item.Item.{Item}
 use Rattle.lj_wire.specs.declared.item.Item.TheVariants.{Command, Bad, Last}
 use Rattle.lj_wire.specs.Told.{item_reply, item_text}
@@ -53,7 +53,7 @@ session_to_turn (Some name) owner = Some name
 -- this is the session to turn: it has a pending step, whose results are all in
 pub record CanTurn (session : Option (List ℕ)) (owner : Owner) (name : List ℕ) : Type 0 where
   pub named : session_to_turn session owner ≡ Some name
-  pub owes : is_owing owner name ≡ true
+  pub pending : has_pending owner name ≡ true
   pub whole : is_whole_in owner.state name ≡ true
 
 -- it is not the last turn of the pending command, and the session advances by one step

@@ -95,7 +95,7 @@ pub(crate) fn work_ahead<P: Pool>(
     owner: &mut Owner,
     user: u8,
     pool: &mut P,
-    owes: bool,
+    has_pending: bool,
     slots: &mut TaskSlots,
 ) -> Result<bool, Halt>
     requires idle { owner.old.waiting ≡ None }
@@ -106,7 +106,7 @@ pub(crate) fn work_ahead<P: Pool>(
     ensures halted { IfErr result (λ halt. IsHalted halt (P.seen pool.old) (P.seen pool.new)) }
     ensures own { P.for_others pool.new user ≡ P.for_others pool.old user }
 {
-    if !owes {
+    if !has_pending {
         return Ok(false);
     }
     poll_all(owner, user, pool);

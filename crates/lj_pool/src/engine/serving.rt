@@ -16,7 +16,7 @@ use std::alloc::Global;
 use std::array;
 
 /// Serves a stream of commands from a user's state on, over a pool that owes nothing, and writes the replies to what it reads.
-/// Returns the state, with the steps still owed to its sessions, unless the pool was given up; how serving ended; and the reader.
+/// Returns the state, with the pending steps of its sessions, unless the pool was given up; how serving ended; and the reader.
 /// The pool is asked for no other user.
 ///
 /// Promise: over any pool, what is written is the dialogue of what is read, or a front of it where a write failed, and the state
@@ -67,10 +67,10 @@ pub fn serve_lines<R: Source, W: Sink, P: Pool>(
     let mut line = Line::new();
     let mut slots = array::from_fn(|_| Task::blank());
     let mut item = Item::Bad(Fault::Syntax);
-    let mut owes = true;
+    let mut has_pending = true;
     'items: loop {
-        owes = match work_ahead(&mut owner, user, pool, owes, &mut slots) {
-            Ok(owes) => owes,
+        has_pending = match work_ahead(&mut owner, user, pool, has_pending, &mut slots) {
+            Ok(has_pending) => has_pending,
             Err(halt) => return given_up(owner, halt),
         };
         match lines.next_into(&mut item) {
@@ -79,7 +79,7 @@ pub fn serve_lines<R: Source, W: Sink, P: Pool>(
             Err(ReadFault) => return (Some(owner.into_state()), Served::ReadFault),
         }
         let ending = ending_of(&item);
-        owes = owes || matches!(&item, Item::Command(Command::Start { .. }));
+        has_pending = has_pending || matches!(&item, Item::Command(Command::Start { .. }));
         let reply = match answer(&mut owner, user, pool, &mut item, &mut slots) {
             Ok(reply) => reply,
             Err(halt) => return given_up(owner, halt),

@@ -8,8 +8,8 @@ ghost use Rattle.lj_session.specs.Answers.{answer};
 ghost use Rattle.lj_session.specs.Turns as definition;
 ghost use Rattle.lj_session.specs.UserState as states;
 ghost use Rattle.lj_session.specs.UserState.{IsWhole, MayAdvance, Performs, Reads, with_session_changed, live_session, names};
-ghost use Rattle.lj_session.specs.UserState.{owed_in};
-ghost use Rattle.lj_session.specs.UserState.{with_more_owed, turns_before, user_of};
+ghost use Rattle.lj_session.specs.UserState.{pending_in};
+ghost use Rattle.lj_session.specs.UserState.{with_more_pending, turns_before, user_of};
 
 use crate::command::Command;
 use crate::live_session::LiveSession;
@@ -46,11 +46,11 @@ impl Command {
 
 impl UserState {
     /// Returns the number of pending steps of the session of a name; 0 if there is none.
-    pub(crate) fn owed(&self, name: &Name) -> u64
-        ensures { result ≡ owed_in self.now name.now }
+    pub(crate) fn pending(&self, name: &Name) -> u64
+        ensures { result ≡ pending_in self.now name.now }
     {
         match self.find(name) {
-            Some(session) => session.owed(),
+            Some(session) => session.pending(),
             None => 0,
         }
     }
@@ -60,7 +60,7 @@ impl UserState {
         ensures { result ≡ states.steps_before self.now command.now }
     {
         match command.waits_for() {
-            Some(name) => self.owed(name),
+            Some(name) => self.pending(name),
             None => 0,
         }
     }
@@ -83,7 +83,7 @@ impl UserState {
             return true;
         };
         let session = self.at(i);
-        if session.owed() > 0 {
+        if session.pending() > 0 {
             return false;
         }
         match command {
@@ -94,17 +94,17 @@ impl UserState {
     }
 
     /// Adds pending steps to a session, which may advance by them.
-    pub(crate) fn owe(&mut self, name: &Name, steps: u64)
+    pub(crate) fn add_pending(&mut self, name: &Name, steps: u64)
         requires session { IsSome (live_session self.old name.now) }
         requires near { ForSome (live_session self.old name.now) (MayAdvance steps) }
-        ensures owed { self.new ≡ with_session_changed name.now (with_more_owed steps) self.old }
+        ensures pending { self.new ≡ with_session_changed name.now (with_more_pending steps) self.old }
         ensures user { user_of self.new
             ≡ (answer (user_of self.old) (commands.Advance name.now steps) false).1 }
     {
         let Some(session) = self.sessions.get_mut(name) else {
             return;
         };
-        session.owe(steps);
+        session.add_pending(steps);
     }
 
     /// Adds pending steps to a session. The reply has the step number after all of them.
@@ -119,7 +119,7 @@ impl UserState {
         if !session.can_advance(steps) {
             return Err(Refusal::StepRange);
         }
-        session.owe(steps);
+        session.add_pending(steps);
         let step = session.target();
         Ok(Reply::Started { name, step })
     }
@@ -156,7 +156,7 @@ impl UserState {
     /// Returns the reply to a MEASURE, by the whole energy step of the session.
     pub(crate) fn measured(&self, name: Name) -> Reply
         requires session { IsSome (live_session self.now name) }
-        requires settled { owed_in self.now name ≡ 0 }
+        requires settled { pending_in self.now name ≡ 0 }
         requires whole { ForSome (live_session self.now name) (IsWhole Energy) }
         ensures { Reads self.now (commands.Measure name) (Ok result) }
     {

@@ -2,7 +2,7 @@
 ghost use Rattle.std.specs.Prelude.{◌≡◌, OnErr};
 ghost use Rattle.lj_session.specs.declared.command.Command.TheVariants as commands;
 ghost use Rattle.lj_session.specs.Loads.{admission};
-ghost use Rattle.lj_session.specs.UserState.{Performs, user_of, owed_in};
+ghost use Rattle.lj_session.specs.UserState.{Performs, user_of, pending_in};
 
 use crate::body::LoadBody;
 use crate::command::Load;
@@ -47,7 +47,7 @@ impl UserState {
 
     /// Removes a session. The others keep their order.
     pub(crate) fn unload(&mut self, name: Name) -> Result<Reply, Refusal>
-        requires { owed_in self.old name ≡ 0 }
+        requires { pending_in self.old name ≡ 0 }
         ensures performs { Performs self.old (commands.Unload name) result self.new }
         ensures quota { self.new.quota ≡ self.old.quota }
         ensures unchanged { OnErr result (self.new ≡ self.old) }

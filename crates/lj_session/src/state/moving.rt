@@ -1,7 +1,7 @@
 //! REVERSE and TUG.
 ghost use Rattle.std.specs.Prelude.{◌≡◌, OnErr};
 ghost use Rattle.lj_session.specs.declared.command.Command.TheVariants as commands;
-ghost use Rattle.lj_session.specs.UserState.{Performs, owed_in};
+ghost use Rattle.lj_session.specs.UserState.{Performs, pending_in};
 
 use crate::refusal::Refusal;
 use crate::reply::Reply;
@@ -12,7 +12,7 @@ use lj_step::Displacement;
 impl UserState {
     /// Reverses the motion of a session.
     pub(crate) fn reverse(&mut self, name: Name) -> Result<Reply, Refusal>
-        requires { owed_in self.old name ≡ 0 }
+        requires { pending_in self.old name ≡ 0 }
         ensures performs { Performs self.old (commands.Reverse name) result self.new }
         ensures quota { self.new.quota ≡ self.old.quota }
         ensures unchanged { OnErr result (self.new ≡ self.old) }
@@ -27,7 +27,7 @@ impl UserState {
 
     /// Adds a displacement per step to an atom of a session.
     pub(crate) fn tug(&mut self, name: Name, atom: u64, by: Displacement) -> Result<Reply, Refusal>
-        requires { owed_in self.old name ≡ 0 }
+        requires { pending_in self.old name ≡ 0 }
         ensures performs { Performs self.old (commands.Tug name atom by.x by.y by.z) result self.new }
         ensures quota { self.new.quota ≡ self.old.quota }
         ensures unchanged { OnErr result (self.new ≡ self.old) }

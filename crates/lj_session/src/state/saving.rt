@@ -1,7 +1,7 @@
 //! BRANCH, RESTORE and FORGET.
 ghost use Rattle.std.specs.Prelude.{◌≡◌, OnErr};
 ghost use Rattle.lj_session.specs.declared.command.Command.TheVariants as commands;
-ghost use Rattle.lj_session.specs.UserState.{Performs, owed_in};
+ghost use Rattle.lj_session.specs.UserState.{Performs, pending_in};
 
 use crate::refusal::Refusal;
 use crate::reply::Reply;
@@ -12,7 +12,7 @@ use lj_quota::may_branch;
 impl UserState {
     /// Saves the simulation of a session under a new name.
     pub(crate) fn branch(&mut self, name: Name, branch: Name) -> Result<Reply, Refusal>
-        requires { owed_in self.old name ≡ 0 }
+        requires { pending_in self.old name ≡ 0 }
         ensures performs { Performs self.old (commands.Branch name branch) result self.new }
         ensures quota { self.new.quota ≡ self.old.quota }
         ensures unchanged { OnErr result (self.new ≡ self.old) }
@@ -32,7 +32,7 @@ impl UserState {
 
     /// Restores the simulation saved in a session under a name.
     pub(crate) fn restore(&mut self, name: Name, branch: Name) -> Result<Reply, Refusal>
-        requires { owed_in self.old name ≡ 0 }
+        requires { pending_in self.old name ≡ 0 }
         ensures performs { Performs self.old (commands.Restore name branch) result self.new }
         ensures quota { self.new.quota ≡ self.old.quota }
         ensures unchanged { OnErr result (self.new ≡ self.old) }

@@ -2,7 +2,7 @@
 ghost use Rattle.std.specs.Prelude.{◌≡◌, Bool, position};
 ghost use Rattle.std.specs.Str.{bytes_eq};
 ghost use Rattle.lj_session.specs.declared.command.Command.TheVariants as commands;
-ghost use Rattle.lj_session.specs.UserState.{Reads, names, owed_in};
+ghost use Rattle.lj_session.specs.UserState.{Reads, names, pending_in};
 
 use crate::refusal::Refusal;
 use crate::reply::Reply;
@@ -13,7 +13,7 @@ impl UserState {
     /// Shows the place of an atom of a session. The index is that of the session.
     pub(crate) fn show(&self, name: Name, index: Option<usize>, atom: u64) -> Result<Reply, Refusal>
         requires index { index ≡ position (bytes_eq name) (names self.now) }
-        requires owed { owed_in self.now name ≡ 0 }
+        requires pending { pending_in self.now name ≡ 0 }
         ensures { Reads self.now (commands.Show name atom) result }
     {
         let Some(session) = self.found(&name, index) else {

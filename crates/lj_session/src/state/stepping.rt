@@ -6,7 +6,7 @@ ghost use Rattle.std.specs.Option.{ForSome, option_copied, option_map};
 ghost use Rattle.std.specs.Str.{bytes_eq};
 ghost use Rattle.lj_tile.specs.declared.task_name.Kind.TheVariants.{Force};
 ghost use Rattle.lj_step.specs.OpenSteps.{tile_number_of};
-ghost use Rattle.lj_session.specs.UserState.{IsWhole, IsAwaited, user_of, live_session, names, owed_in, with_session_changed};
+ghost use Rattle.lj_session.specs.UserState.{IsWhole, IsAwaited, user_of, live_session, names, pending_in, with_session_changed};
 ghost use Rattle.lj_session.specs.UserState.{LiveSession, IsNextTile, first_with_task, live_session_at, with_step, with_posted};
 ghost use Rattle.lj_session.specs.UserState.{with_tile_in, with_no_step, with_step_finished, with_steps_restarted, is_whole_in};
 ghost use Rattle.lj_session.specs.UserState as states;
@@ -172,7 +172,7 @@ impl UserState {
     /// is open if there is one.
     pub(crate) fn finish_step(&mut self, name: &Name)
         requires session { IsSome (live_session self.old name.now) }
-        requires owed { 0 < owed_in self.old name.now }
+        requires pending { 0 < pending_in self.old name.now }
         requires whole { ForSome (live_session self.old name.now) (IsWhole Force) }
         ensures passed { self.new ≡ with_session_changed name.now with_step_finished self.old }
         ensures user { user_of self.new ≡ user_of self.old }

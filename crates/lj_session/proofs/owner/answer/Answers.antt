@@ -7,14 +7,14 @@ use Rattle.lj_session.proofs.AtWork.{at_work-performed, steps-performed}
 use Rattle.lj_session.proofs.Others.{refused-unchanged, settled-performed}
 use Rattle.lj_session.proofs.owner.answer.Goals as goal
 
-none_owed : (state : UserState) (command : Command) → turns_before state command ≡ 0 → steps_before state command ≡ 0
-none_owed state command none = omega (arith, none)
+none_pending : (state : UserState) (command : Command) → turns_before state command ≡ 0 → steps_before state command ≡ 0
+none_pending state command none = omega (arith, none)
 
 pub returns-clause-settled : goal.returns-clause-settled
 returns-clause-settled c =
     subst (IsSettled c.perform_from.new.self) (sym c.replied.ensures)
     (settled-performed c.args.state.now c.perform_from.new.self c.args.command.now c.perform_from.result c.perform_from.ensures.performs
-    (none_owed c.args.state.now c.args.command.now c.requires.at_once))
+    (none_pending c.args.state.now c.args.command.now c.requires.at_once))
 
 pub returns-clause-at_work : goal.returns-clause-at_work
 returns-clause-at_work c =

@@ -5,10 +5,10 @@ use Rattle.lj_tile.specs.declared.task_name.Kind.TheVariants.{Energy}
 use Rattle.lj_session.specs.Turns.{turns, waits_for}
 use Rattle.std.specs.Prelude.{IsSome, true}
 use Rattle.lj_session.specs.Answers.{answer, can_advance, session_named}
-use Rattle.lj_session.specs.UserState.{LiveSession, UserState, IsAtWork, user_of, live_session, owed_in, with_more_owed, with_step, settled_session, steps_before, turns_before}
+use Rattle.lj_session.specs.UserState.{LiveSession, UserState, IsAtWork, user_of, live_session, pending_in, with_more_pending, with_step, settled_session, steps_before, turns_before}
 use Rattle.lj_session.specs.Owner.{rest_of, state_taking_up}
-use Rattle.lj_session.proofs.AtWork.{at_work-changed, at_work-measured, at_work-waits, kind-owing}
-use Rattle.lj_session.proofs.Holding.{owed-of}
+use Rattle.lj_session.proofs.AtWork.{at_work-changed, at_work-measured, at_work-waits, kind-added}
+use Rattle.lj_session.proofs.Holding.{pending-of}
 use Rattle.lj_session.proofs.Others.{others-changed}
 use Rattle.lj_session.proofs.Turning.{no-turns}
 use Rattle.lj_session.proofs.Waiting.{Goes, goes, taken_alike, taken_turns, measured_there, measured_turns, left-taken, begun-taken}
@@ -21,7 +21,7 @@ returns-then-steps_before-gt0-clause-at_work c =
     at_work-waits c.args.command c.args.state.now
     (subst (λ n. 0 < n) c.steps_before.ensures c.if-steps_before-gt0.true) c.requires.at_work
 
--- nothing is owed to the session
+-- the session has no pending steps
 none_of : (m k : ℕ) → m ≤ 0 → m ≡ k → k ≡ 0
 none_of m k few is = omega (arith, few, is)
 
@@ -36,10 +36,10 @@ goes_of : (state : UserState) (command : Command) (name : List ℕ) (n : ℕ) �
 goes_of state command name n some none which =
     goes state name n (subst (λ (k : Command). 0 < turns (user_of state) k) which (own_some state command some none))
 
-none-owed : (state : UserState) (command : Command) (name : List ℕ) (n : ℕ) → command ≡ Advance name n
-    → steps_before state command ≡ 0 → owed_in state name ≡ 0
+none-pending : (state : UserState) (command : Command) (name : List ℕ) (n : ℕ) → command ≡ Advance name n
+    → steps_before state command ≡ 0 → pending_in state name ≡ 0
 unfolding waits_for
-none-owed state command name n is none = rw is at none
+none-pending state command name n is none = rw is at none
 
 is_there : (state : UserState) (name : List ℕ) {n : ℕ} → Goes state name n → IsSome (live_session state name)
 is_there state name g = rw g.there refl
@@ -51,12 +51,12 @@ near_of state name n g held e = subst (λ (h : LiveSession). can_advance (settle
     same : (a b : LiveSession) → Some a ≡ Some b → a ≡ b
     same a b k = cc
 
-pub owe-requires-clause-session : goal.owe-requires-clause-session
-owe-requires-clause-session c = is_there c.args.state.now c.in-Advance.name (goes_of c.args.state.now c.args.command c.in-Advance.name c.in-Advance.steps c.requires.waits
+pub add_pending-requires-clause-session : goal.add_pending-requires-clause-session
+add_pending-requires-clause-session c = is_there c.args.state.now c.in-Advance.name (goes_of c.args.state.now c.args.command c.in-Advance.name c.in-Advance.steps c.requires.waits
     (none_of c.steps_before.result _ c.if-steps_before-gt0.false c.steps_before.ensures) c.in-Advance.is)
 
-pub owe-requires-clause-near : goal.owe-requires-clause-near
-owe-requires-clause-near c = λ held e. near_of c.args.state.now c.in-Advance.name c.in-Advance.steps (goes_of c.args.state.now c.args.command c.in-Advance.name c.in-Advance.steps c.requires.waits
+pub add_pending-requires-clause-near : goal.add_pending-requires-clause-near
+add_pending-requires-clause-near c = λ held e. near_of c.args.state.now c.in-Advance.name c.in-Advance.steps (goes_of c.args.state.now c.args.command c.in-Advance.name c.in-Advance.steps c.requires.waits
     (none_of c.steps_before.result _ c.if-steps_before-gt0.false c.steps_before.ensures) c.in-Advance.is) held e
 
 pub returns-in-Advance-clause-left : goal.returns-in-Advance-clause-left
@@ -68,14 +68,14 @@ returns-in-Advance-clause-left c =
 pub returns-in-Advance-clause-begun : goal.returns-in-Advance-clause-begun
 unfolding state_taking_up
 returns-in-Advance-clause-begun c =
-    c.owe.ensures.owed ∙ sym (ap (λ k. state_taking_up k c.args.state.now) c.in-Advance.is)
+    c.add_pending.ensures.pending ∙ sym (ap (λ k. state_taking_up k c.args.state.now) c.in-Advance.is)
     ∙ sym (begun-taken c.args.command c.args.state.now (none_of c.steps_before.result _ c.if-steps_before-gt0.false c.steps_before.ensures))
 
 pub returns-in-Advance-clause-alike : goal.returns-in-Advance-clause-alike
 returns-in-Advance-clause-alike c = λ mark.
     let old = c.args.state.now in
-    ap (λ n. answer (user_of c.owe.new.self) (Advance n 0) mark) c.copy.ensures
-    ∙ ap (λ (o : UserState). answer (user_of o) (Advance c.in-Advance.name 0) mark) c.owe.ensures.owed
+    ap (λ n. answer (user_of c.add_pending.new.self) (Advance n 0) mark) c.copy.ensures
+    ∙ ap (λ (o : UserState). answer (user_of o) (Advance c.in-Advance.name 0) mark) c.add_pending.ensures.pending
     ∙ taken_alike old c.in-Advance.name c.in-Advance.steps (goes_of c.args.state.now c.args.command c.in-Advance.name c.in-Advance.steps c.requires.waits
     (none_of c.steps_before.result _ c.if-steps_before-gt0.false c.steps_before.ensures) c.in-Advance.is) mark
     ∙ ap (λ k. answer (user_of old) k mark) (sym c.in-Advance.is)
@@ -84,25 +84,25 @@ pub returns-in-Advance-clause-at_work : goal.returns-in-Advance-clause-at_work
 returns-in-Advance-clause-at_work c =
     let old = c.args.state.now in
     let name = c.in-Advance.name in
-    subst (λ (o : UserState). IsAtWork None o) (sym c.owe.ensures.owed)
-    (at_work-changed None old name (with_more_owed c.in-Advance.steps)
-    (λ held e. kind-owing None name c.in-Advance.steps held refl (c.requires.at_work name held e)) c.requires.at_work)
+    subst (λ (o : UserState). IsAtWork None o) (sym c.add_pending.ensures.pending)
+    (at_work-changed None old name (with_more_pending c.in-Advance.steps)
+    (λ held e. kind-added None name c.in-Advance.steps held refl (c.requires.at_work name held e)) c.requires.at_work)
 
 pub returns-in-Advance-clause-turns : goal.returns-in-Advance-clause-turns
 returns-in-Advance-clause-turns c =
     let old = c.args.state.now in
     let none = none_of c.steps_before.result _ c.if-steps_before-gt0.false c.steps_before.ensures in
-    let owed = none-owed old c.args.command c.in-Advance.name c.in-Advance.steps c.in-Advance.is none in
-    ap (λ n. turns_before c.owe.new.self (Advance n 0)) c.copy.ensures
-    ∙ ap (λ (o : UserState). turns_before o (Advance c.in-Advance.name 0)) c.owe.ensures.owed
+    let pending = none-pending old c.args.command c.in-Advance.name c.in-Advance.steps c.in-Advance.is none in
+    ap (λ n. turns_before c.add_pending.new.self (Advance n 0)) c.copy.ensures
+    ∙ ap (λ (o : UserState). turns_before o (Advance c.in-Advance.name 0)) c.add_pending.ensures.pending
     ∙ taken_turns old c.in-Advance.name c.in-Advance.steps (goes_of old c.args.command c.in-Advance.name c.in-Advance.steps
-    c.requires.waits none c.in-Advance.is) owed
+    c.requires.waits none c.in-Advance.is) pending
     ∙ ap (turns_before old) (sym c.in-Advance.is)
 
 pub returns-in-Advance-clause-others : goal.returns-in-Advance-clause-others
 returns-in-Advance-clause-others c = λ other apart.
-    ap (λ (o : UserState). live_session o other) c.owe.ensures.owed
-    ∙ others-changed c.args.state.now c.in-Advance.name (with_more_owed c.in-Advance.steps) other
+    ap (λ (o : UserState). live_session o other) c.add_pending.ensures.pending
+    ∙ others-changed c.args.state.now c.in-Advance.name (with_more_pending c.in-Advance.steps) other
     (λ same. apart (ap session_named c.in-Advance.is ∙ same))
 
 measured_of : (state : UserState) (command : Command) (name : List ℕ) → 0 < turns_before state command
@@ -111,7 +111,7 @@ measured_of state command name some none which =
     measured_there state name (subst (λ (k : Command). 0 < turns (user_of state) k) which (own_some state command some none))
 
 none-measured : (state : UserState) (command : Command) (name : List ℕ) → command ≡ Measure name → steps_before state command ≡ 0
-    → owed_in state name ≡ 0
+    → pending_in state name ≡ 0
 unfolding waits_for
 none-measured state command name is none = rw is at none
 
@@ -136,7 +136,7 @@ returns-in-Measure-clause-at_work c =
     subst (λ n. IsAtWork (Some (Measure n)) c.open_step.new.self) (sym c.copy-in-Measure.ensures)
     (subst (λ (o : UserState). IsAtWork (Some (Measure c.in-Measure.name)) o) (sym c.open_step.ensures.opened)
     (at_work-measured old c.in-Measure.name held.0 held.1
-    (owed-of old c.in-Measure.name held.0 held.1 (none-measured old c.args.command c.in-Measure.name c.in-Measure.is none))
+    (pending-of old c.in-Measure.name held.0 held.1 (none-measured old c.args.command c.in-Measure.name c.in-Measure.is none))
     c.requires.at_work))
 
 pub returns-in-Measure-clause-turns : goal.returns-in-Measure-clause-turns

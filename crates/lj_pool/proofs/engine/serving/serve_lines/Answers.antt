@@ -6,7 +6,7 @@ use Rattle.lj_pool.specs.Served.{HasCause, Serves}
 use Rattle.lj_pool.proofs.Dialogues.{serving-ceases, serving-fails, serving-stops, serving-halts, serving-breaks}
 use Rattle.lj_pool.proofs.Dialogues.{serving-more, serving-ends, ceases_open, fails_open}
 use Rattle.lj_pool.proofs.Ending.{halted_on}
-use Rattle.lj_pool.proofs.Handing.{entered_serving, entered_gathers, ahead_idle, ahead_serving, ahead_owes, back_few, given, hands_back}
+use Rattle.lj_pool.proofs.Handing.{entered_serving, entered_gathers, ahead_idle, ahead_serving, ahead_pending, back_few, given, hands_back}
 use Rattle.lj_pool.proofs.ItemEnds.{halt_cause, has_cause, item_cause, no_item_ends}
 use Rattle.lj_pool.proofs.engine.serving.serve_lines.Goals as goal
 
@@ -34,7 +34,7 @@ returns-in-Err-clause-dialogue g c =
     (serving-stops c.args.state c.args.lines.now c.items.lines (g.W.Sink.contents c.args.writer.now)
     (g.W.Sink.contents c.items.writer) (g.P.Pool.seen c.args.pool.now) (g.P.Pool.seen c.work_ahead.new.pool)
     c.work_ahead.new.owner.state s c.in-Err.halt (g.P.Pool.seen c.work_ahead.new.pool) c.in-Err.ensures.many
-    (ahead_owes c.items.invariant.idle c.work_ahead.ensures.goes_on))
+    (ahead_pending c.items.invariant.idle c.work_ahead.ensures.goes_on))
 
 pub returns-in-Err-clause-cause : goal.returns-in-Err-clause-cause
 returns-in-Err-clause-cause g c =
@@ -197,7 +197,7 @@ items-preserved g c =
           c.work_ahead.new.owner.state s c.next_into.new.self c.next_into.new.item item
           c.in-Ok-answer.reply c.answer.new.owner.state answered.answered (g.W.Sink.contents c.put_reply.new.writer)
           written (g.P.Pool.seen c.answer.new.pool) answered.finished.counted answered.finished.handed
-          (sym c.ending_of-ending.ensures ∙ c.in_default-ending.is) answered.owes;
+          (sym c.ending_of-ending.ensures ∙ c.in_default-ending.is) answered.pending;
       gathers = answered.finished.gathers;
       idle = answered.finished.idle;
       number = c.answer.ensures.same.number ∙ c.work_ahead.ensures.goes_on.number ∙ c.items.invariant.number;

@@ -3,7 +3,7 @@ use Rattle.std.specs.List.{AllByRecursion}
 use Rattle.lj_branch.specs.Named.{value_named}
 use Rattle.lj_session.specs.UserState.{LiveSession, HasCount}
 use Rattle.lj_session.proofs.Counts.{counts-named, count-restored}
-use Rattle.lj_session.proofs.Reach.{none_owed_near}
+use Rattle.lj_session.proofs.Reach.{none_pending_near}
 use Rattle.lj_session.proofs.live_session.LiveSession.restore.Goals as goal
 
 pub restore_into-restored-requires : goal.restore_into-restored-requires
@@ -22,8 +22,8 @@ invariant_of-self c =
     record {
       symbols = c.self.invariant.symbols ∙ sym same;
       saved = subst (λ m. AllByRecursion (HasCount m) c.self.inside.branches) (sym same) c.self.invariant.saved;
-      near = none_owed_near c.restore_into-restored.new.sim.sim.step c.restore_into-restored.new.sim.sim.dir c.self.inside.owed
-          (subst (λ (h : LiveSession). h.owed ≡ 0) (sym c.self.view_is) c.requires)
+      near = none_pending_near c.restore_into-restored.new.sim.sim.step c.restore_into-restored.new.sim.sim.dir c.self.inside.pending
+          (subst (λ (h : LiveSession). h.pending ≡ 0) (sym c.self.view_is) c.requires)
           (subst (λ z. unsigned_abs z ≤ 10 ^ 12) c.step-most.ensures.value c.step-most.ensures.most);
       few = c.self.invariant.few;
     }

@@ -1,10 +1,10 @@
 use Rattle.std.proofs.Common.{◌≡◌, Option, ◌∙◌, ap, refl, subst, sym}
 use Rattle.lj_step.specs.OpenSteps.{tile_number_of}
-use Rattle.lj_session.specs.UserState.{LiveSession, UserState, IsAtWork, owed_in, with_session_changed, with_tile_in}
+use Rattle.lj_session.specs.UserState.{LiveSession, UserState, IsAtWork, pending_in, with_session_changed, with_tile_in}
 use Rattle.lj_session.specs.declared.command.Command.{Command}
 use Rattle.lj_session.specs.KeptOwners.{IsOwner}
 use Rattle.lj_session.proofs.AtWork.{at_work-taken}
-use Rattle.lj_session.proofs.Owing.{either-way, owed-changed, turns-kept, turns-some}
+use Rattle.lj_session.proofs.OwnerSteps.{either-way, pending-changed, turns-kept, turns-some}
 use Rattle.lj_session.proofs.owner.Owner.accept_from.Goals as goal
 
 pub invariant_of-self : goal.invariant_of-self
@@ -25,7 +25,7 @@ invariant_of-self c = either-way c.accept_from.result c.accept_from.ensures.take
       at_work = subst (λ (owned : UserState). IsAtWork waiting owned) (sym is)
           (at_work-taken waiting old c.name.result.now.label.session (tile_number_of c.args.done.now) c.self.invariant.at_work);
       some = turns-some waiting old c.accept_from.new.self (λ command w. turns-kept old c.accept_from.new.self command c.accept_from.ensures.user
-          (λ other waits. ap (λ (owned : UserState). owed_in owned other) is ∙ owed-changed old c.name.result.now.label.session tile (λ held. refl) other))
+          (λ other waits. ap (λ (owned : UserState). pending_in owned other) is ∙ pending-changed old c.name.result.now.label.session tile (λ held. refl) other))
           c.self.invariant.some;
     }
 

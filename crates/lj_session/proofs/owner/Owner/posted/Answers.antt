@@ -1,9 +1,9 @@
 use Rattle.std.proofs.Common.{◌≡◌, ◌∙◌, ap, subst, sym}
 use Rattle.lj_session.specs.KeptOwners.{owner_of_kept}
 use Rattle.lj_session.specs.Owner.{Owner, state_changed_in, with_state, with_task_posted}
-use Rattle.lj_session.specs.UserState.{UserState, IsAtWork, owed_in, with_posted}
-use Rattle.lj_session.proofs.AtWork.{at_work-posted, owed-posted}
-use Rattle.lj_session.proofs.Owing.{owed-changed, turns-kept, turns-some}
+use Rattle.lj_session.specs.UserState.{UserState, IsAtWork, pending_in, with_posted}
+use Rattle.lj_session.proofs.AtWork.{at_work-posted, pending-posted}
+use Rattle.lj_session.proofs.OwnerSteps.{pending-changed, turns-kept, turns-some}
 use Rattle.lj_session.proofs.owner.Owner.posted.Goals as goal
 
 pub invariant_of-self : goal.invariant_of-self
@@ -15,8 +15,8 @@ invariant_of-self c =
       at_work = subst (λ (state : UserState). IsAtWork waiting state) (sym posted)
           (at_work-posted waiting old next.name c.self.invariant.at_work);
       some = turns-some waiting old c.post.new.self (λ command is. turns-kept old c.post.new.self command c.post.ensures.user
-          (λ name waits. ap (λ (state : UserState). owed_in state name) posted
-          ∙ owed-changed old next.name with_posted owed-posted name)) c.self.invariant.some;
+          (λ name waits. ap (λ (state : UserState). pending_in state name) posted
+          ∙ pending-changed old next.name with_posted pending-posted name)) c.self.invariant.some;
     }
 
 pub returns-in-Some-clause-noted : goal.returns-in-Some-clause-noted

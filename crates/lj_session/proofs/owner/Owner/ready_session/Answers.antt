@@ -1,10 +1,10 @@
 use Rattle.std.proofs.Common.{◌≡◌, true, List, ℕ, Some, ◌∙◌, ap, sym, subst}
 use Rattle.std.specs.Option.{option_copied}
 use Rattle.lj_session.specs.KeptOwners.{owner_of_kept}
-use Rattle.lj_session.specs.Owner.{Owner, is_owing}
+use Rattle.lj_session.specs.Owner.{Owner, has_pending}
 use Rattle.lj_session.specs.UserState.{is_whole_in, names}
 use Rattle.lj_session.proofs.Firsts.{find-passes}
-use Rattle.lj_session.proofs.Owing.{whole-owes}
+use Rattle.lj_session.proofs.OwnerSteps.{whole-pending}
 use Rattle.lj_session.proofs.owner.Owner.ready_session.Goals as goal
 
 -- the session that is found is whole
@@ -15,6 +15,6 @@ whole c = find-passes (is_whole_in c.self.inside.state) (names c.self.inside.sta
 pub returns-clause-whole : goal.returns-clause-whole
 returns-clause-whole c = subst (λ (owner : Owner). is_whole_in owner.state c.copy.result ≡ true) c.self.view_is (whole c)
 
-pub returns-clause-owes : goal.returns-clause-owes
-returns-clause-owes c = subst (λ (owner : Owner). is_owing owner c.copy.result ≡ true) c.self.view_is
-    (whole-owes (owner_of_kept c.self.inside) c.copy.result (whole c) c.self.invariant.at_work)
+pub returns-clause-pending : goal.returns-clause-pending
+returns-clause-pending c = subst (λ (owner : Owner). has_pending owner c.copy.result ≡ true) c.self.view_is
+    (whole-pending (owner_of_kept c.self.inside) c.copy.result (whole c) c.self.invariant.at_work)

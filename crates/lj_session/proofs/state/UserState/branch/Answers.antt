@@ -12,7 +12,7 @@ use Rattle.lj_session.proofs.Performing as performing
 use Rattle.lj_session.proofs.Outcomes as outcomes
 use Rattle.lj_session.proofs.Outcomes.{read-step}
 use Rattle.lj_session.proofs.Results.{performs-refused, performs-starved, on_err, none-of, not-saved, is_some-counted}
-use Rattle.lj_session.proofs.Writing.{writes, is_settled, none_owed, unchanged, totals_saved, absent, still}
+use Rattle.lj_session.proofs.Writing.{writes, is_settled, none_pending, unchanged, totals_saved, absent, still}
 use Rattle.lj_session.proofs.Writing.{reached_as, done_at}
 use Rattle.lj_session.proofs.state.UserState.branch.Goals.{In-Some, After-may_branch, After-save}
 use Rattle.lj_session.proofs.state.UserState.branch.Goals as goal
@@ -105,7 +105,7 @@ invariant_of-self-2 c =
           ∙ length-new c.args.branch held.saved held.live.sim (none-of (value_named c.args.branch held.saved) new));
       reached = reached_as wrote _ _ _
           (outcomes.branch c.args.self.now c.args.name held wrote.found
-          (none_owed c.self.inside c.args.self.now c.self.view_is c.args.name held c.in-Some.ensures.value c.requires)
+          (none_pending c.self.inside c.args.self.now c.self.view_is c.args.name held c.in-Some.ensures.value c.requires)
           c.args.branch new (one-room c.self.inside c.args.self.now c.self.view_is c.self.invariant.counted (λ used. used.branches) (λ quota. quota.branches)
           (c.in_ok-may_branch.ensures.may.0 refl))) saved;
     }
@@ -118,7 +118,7 @@ returns-clause-performs c =
     let saved = c.in_ok-save.ensures.saved ∙ ap (λ b. with_saved held (with_value b held.live.sim held.saved)) c.copy.ensures in
     done_at wrote _ (reply.Branched c.args.name c.args.branch) _ _ _
     (outcomes.branch c.args.self.now c.args.name held wrote.found
-    (none_owed c.self.inside c.args.self.now c.self.view_is c.args.name held c.in-Some.ensures.value c.requires) c.args.branch new
+    (none_pending c.self.inside c.args.self.now c.self.view_is c.args.name held c.in-Some.ensures.value c.requires) c.args.branch new
     (one-room c.self.inside c.args.self.now c.self.view_is c.self.invariant.counted (λ used. used.branches) (λ quota. quota.branches)
     (c.in_ok-may_branch.ensures.may.0 refl)))
     (read-step c.step-step.result c.step-step.ensures.most

@@ -1,11 +1,11 @@
 use Rattle.std.proofs.Common.{◌≡◌, ◌<◌, ap, ◌∙◌}
 use Rattle.lj_session.specs.UserState.{LiveSession, settled_session, with_step_finished}
-use Rattle.lj_session.proofs.Owed.{meant-passed, count-passed, saved-passed}
-use Rattle.lj_session.proofs.Writing.{writes, owes-some, changed_by, user_kept, reached_kept, totals_as}
+use Rattle.lj_session.proofs.PendingSteps.{meant-passed, count-passed, saved-passed}
+use Rattle.lj_session.proofs.Writing.{writes, some_pending, changed_by, user_kept, reached_kept, totals_as}
 use Rattle.lj_session.proofs.state.UserState.finish_step.Goals as goal
 
 -- the session that is meant stays
-meant : (new held : LiveSession) → new ≡ with_step_finished held → 0 < held.owed → settled_session new ≡ settled_session held
+meant : (new held : LiveSession) → new ≡ with_step_finished held → 0 < held.pending → settled_session new ≡ settled_session held
 meant new held is some = ap settled_session is ∙ meant-passed held some
 
 pub invariant_of-self-2 : goal.invariant_of-self-2
@@ -13,8 +13,8 @@ invariant_of-self-2 c =
     let held = c.in-Some.session.now in
     let wrote = writes c.args.name.now c.self.invariant c.self.view_is c.in-Some.ensures.value (c.get_mut.follows.holds c.finish_step.new.self).0 in record {
       counted = totals_as wrote _ c.finish_step.ensures (count-passed held) (saved-passed held);
-      reached = reached_kept wrote (meant _ held c.finish_step.ensures (owes-some c.self.inside c.args.self.now c.self.view_is
-          c.args.name.now held c.in-Some.ensures.value c.requires.owed));
+      reached = reached_kept wrote (meant _ held c.finish_step.ensures (some_pending c.self.inside c.args.self.now c.self.view_is
+          c.args.name.now held c.in-Some.ensures.value c.requires.pending));
     }
 
 pub returns-clause-passed : goal.returns-clause-passed
@@ -24,4 +24,4 @@ returns-clause-passed c =
 pub returns-clause-user : goal.returns-clause-user
 returns-clause-user c =
     user_kept (writes c.args.name.now c.self.invariant c.self.view_is c.in-Some.ensures.value (c.get_mut.follows.holds c.finish_step.new.self).0) (meant _ c.in-Some.session.now c.finish_step.ensures
-    (owes-some c.self.inside c.args.self.now c.self.view_is c.args.name.now c.in-Some.session.now c.in-Some.ensures.value c.requires.owed))
+    (some_pending c.self.inside c.args.self.now c.self.view_is c.args.name.now c.in-Some.session.now c.in-Some.ensures.value c.requires.pending))

@@ -1,7 +1,7 @@
 use Rattle.std.proofs.Common.{length, ◌∷◌, [], ap, ◌∙◌}
 use Rattle.lj_step.specs.Sim.{Sim}
 use Rattle.lj_step.specs.Motion.{momentum, kinetic, potential}
-use Rattle.lj_session.proofs.Holding.{named-settled, owed-of}
+use Rattle.lj_session.proofs.Holding.{named-settled, pending-of}
 use Rattle.lj_session.proofs.Performing as performing
 use Rattle.lj_session.proofs.Outcomes.{read-step, read-potential, measured}
 use Rattle.lj_session.specs.UserState.{as_session, user_of}
@@ -13,7 +13,7 @@ returns c = λ mark.
     let held = c.session.result.now in
     let live = c.sim-sim.ensures in
     performing.measure-done (user_of old) c.args.name mark (as_session held)
-    (named-settled old c.args.name held c.session.ensures (owed-of old c.args.name held c.session.ensures c.requires.settled))
+    (named-settled old c.args.name held c.session.ensures (pending-of old c.args.name held c.session.ensures c.requires.settled))
     ∙ measured (user_of old) c.args.name _ _ _ _ _ _ _ _ _ _
     (read-step c.step.result c.step.ensures.most ∙ (c.step.ensures.value ∙ ap (λ (l : Sim). l.sim.step) live))
     (c.count.ensures.value ∙ ap (λ (l : Sim). length l.sim.cur) live)

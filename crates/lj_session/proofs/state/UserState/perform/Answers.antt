@@ -36,9 +36,9 @@ pub show-requires-clause-index : goal.show-requires-clause-index
 unfolding waits_for
 show-requires-clause-index c = c.requires.index ∙ ap (index_waited_for c.args.self.now) c.in-Show.is
 
-pub show-requires-clause-owed : goal.show-requires-clause-owed
+pub show-requires-clause-pending : goal.show-requires-clause-pending
 unfolding waits_for
-show-requires-clause-owed c = none-before c.args.self.now c.args.command c.in-Show.name (rw c.in-Show.is refl) c.requires.at_once
+show-requires-clause-pending c = none-before c.args.self.now c.args.command c.in-Show.name (rw c.in-Show.is refl) c.requires.at_once
 
 pub advance_at_once-requires-clause-index : goal.advance_at_once-requires-clause-index
 unfolding waits_for

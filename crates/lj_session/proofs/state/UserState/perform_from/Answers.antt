@@ -8,7 +8,7 @@ pub show-requires-clause-index : goal.show-requires-clause-index
 unfolding waits_for
 show-requires-clause-index c = rw c.copy.ensures (c.requires.index ∙ ap (index_waited_for c.args.self.now) c.in-Show.is)
 
-pub show-requires-clause-owed : goal.show-requires-clause-owed
+pub show-requires-clause-pending : goal.show-requires-clause-pending
 unfolding waits_for
-show-requires-clause-owed c =
+show-requires-clause-pending c =
     rw c.copy.ensures (none-before c.args.self.now c.args.command.now c.in-Show.name (rw c.in-Show.is refl) c.requires.at_once)

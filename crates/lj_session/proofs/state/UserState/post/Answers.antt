@@ -5,7 +5,7 @@ use Rattle.lj_session.specs.Users.{Session}
 use Rattle.lj_session.specs.UserState.{LiveSession, UserState, as_session, with_session_changed, live_session_at, live_session, names, settled_session, with_posted}
 use Rattle.lj_session.proofs.Entries.{set_at-name}
 use Rattle.lj_session.proofs.NextTiles.{next-held, next-name}
-use Rattle.lj_session.proofs.Owed.{meant-posted}
+use Rattle.lj_session.proofs.PendingSteps.{meant-posted}
 use Rattle.lj_session.proofs.Tiles.{posted-session}
 use Rattle.lj_session.proofs.Writing.{Writes, writes, changed_by, user_kept, totals_kept, reached_kept}
 use Rattle.lj_session.proofs.state.UserState.post.Goals.{After-post}

@@ -7,7 +7,7 @@ use Rattle.lj_session.proofs.Performing as performing
 use Rattle.lj_session.proofs.Outcomes as outcomes
 use Rattle.lj_session.proofs.Outcomes.{read-step}
 use Rattle.lj_session.proofs.Results.{performs-refused, on_err, none-if, some-with}
-use Rattle.lj_session.proofs.Writing.{writes, is_settled, none_owed, unchanged, totals_kept, absent, still}
+use Rattle.lj_session.proofs.Writing.{writes, is_settled, none_pending, unchanged, totals_kept, absent, still}
 use Rattle.lj_session.proofs.Writing.{reached_as, done_at}
 use Rattle.lj_session.proofs.state.UserState.restore.Goals as goal
 
@@ -44,7 +44,7 @@ invariant_of-self-2 c =
       counted = totals_kept wrote c.in_ok-restore.ensures.count (ap (λ (h : LiveSession). length h.saved) saved.2);
       reached = reached_as wrote _ _ _
           (outcomes.restore c.args.self.now c.args.name held wrote.found
-          (none_owed c.self.inside c.args.self.now c.self.view_is c.args.name held c.in-Some.ensures.value c.requires)
+          (none_pending c.self.inside c.args.self.now c.self.view_is c.args.name held c.in-Some.ensures.value c.requires)
           c.args.branch saved.0 saved.1) saved.2;
     }
 
@@ -57,7 +57,7 @@ returns-clause-performs c =
     (c.in_ok-restore.ensures.found.0 refl) c.in_ok-restore.ensures.restored in
     done_at wrote _ (reply.Restored c.args.name c.args.branch) _ _ _
     (outcomes.restore c.args.self.now c.args.name held wrote.found
-    (none_owed c.self.inside c.args.self.now c.self.view_is c.args.name held c.in-Some.ensures.value c.requires) c.args.branch saved.0 saved.1)
+    (none_pending c.self.inside c.args.self.now c.self.view_is c.args.name held c.in-Some.ensures.value c.requires) c.args.branch saved.0 saved.1)
     (read-step c.step-step.result c.step-step.ensures.most
     ∙ (c.step-step.ensures.value ∙ ap (λ (l : Sim). l.sim.step) c.sim.ensures
     ∙ ap (λ (h : LiveSession). h.live.sim.step) saved.2)) saved.2

@@ -4,7 +4,7 @@ use Rattle.lj_session.specs.declared.reply.Reply.TheVariants as reply
 use Rattle.lj_session.specs.UserState.{LiveSession}
 use Rattle.lj_session.proofs.Outcomes as outcomes
 use Rattle.lj_session.proofs.Outcomes.{read-step}
-use Rattle.lj_session.proofs.Writing.{writes, none_owed, totals_kept, reached_as, done_at, absent}
+use Rattle.lj_session.proofs.Writing.{writes, none_pending, totals_kept, reached_as, done_at, absent}
 use Rattle.lj_session.proofs.state.UserState.reverse.Goals as goal
 
 pub returns-in_default-clause-performs : goal.returns-in_default-clause-performs
@@ -17,7 +17,7 @@ invariant_of-self-2 c =
     let wrote = writes c.args.name c.self.invariant c.self.view_is c.in-Some.ensures.value (c.get_mut.follows.holds c.reverse.new.self).0 in record {
       counted = totals_kept wrote c.reverse.ensures.count (ap (λ (h : LiveSession). length h.saved) c.reverse.ensures.value);
       reached = reached_as wrote _ _ _ (outcomes.reverse c.args.self.now c.args.name held wrote.found
-          (none_owed c.self.inside c.args.self.now c.self.view_is c.args.name held c.in-Some.ensures.value c.requires))
+          (none_pending c.self.inside c.args.self.now c.self.view_is c.args.name held c.in-Some.ensures.value c.requires))
           c.reverse.ensures.value;
     }
 
@@ -26,7 +26,7 @@ returns-clause-performs c =
     let wrote = writes c.args.name c.self.invariant c.self.view_is c.in-Some.ensures.value (c.get_mut.follows.holds c.reverse.new.self).0 in
     done_at wrote _ (reply.Reversed c.args.name) _ _ _
     (outcomes.reverse c.args.self.now c.args.name c.in-Some.session.now wrote.found
-    (none_owed c.self.inside c.args.self.now c.self.view_is c.args.name c.in-Some.session.now c.in-Some.ensures.value c.requires))
+    (none_pending c.self.inside c.args.self.now c.self.view_is c.args.name c.in-Some.session.now c.in-Some.ensures.value c.requires))
     (read-step c.step-step.result c.step-step.ensures.most
     ∙ (c.step-step.ensures.value ∙ ap (λ (l : Sim). l.sim.step) c.sim.ensures
     ∙ ap (λ (h : LiveSession). h.live.sim.step) c.reverse.ensures.value)) c.reverse.ensures.value

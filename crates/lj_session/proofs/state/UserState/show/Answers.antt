@@ -2,7 +2,7 @@ use Rattle.std.proofs.Common.{◌≡◌, Some, length, sym, ap, ◌∙◌, arith
 use Rattle.lj_step.specs.Sim.{Sim}
 use Rattle.lj_step.specs.Motion.{place_at}
 use Rattle.lj_branch.specs.Named.{value_named}
-use Rattle.lj_session.proofs.Holding.{named-settled, named-absent, owed-of}
+use Rattle.lj_session.proofs.Holding.{named-settled, named-absent, pending-of}
 use Rattle.lj_session.proofs.Performing as performing
 use Rattle.lj_session.proofs.Outcomes as outcomes
 use Rattle.lj_session.proofs.Outcomes.{read-step, shown}
@@ -10,12 +10,12 @@ use Rattle.lj_session.specs.UserState.{as_session, user_of}
 use Rattle.lj_session.proofs.state.UserState.show.Goals.{After-count}
 use Rattle.lj_session.proofs.state.UserState.show.Goals as goal
 
--- the session, to which nothing is owed
+-- the session, with no pending steps
 settled : (c : After-count) → value_named c.args.name (user_of c.args.self.now).sessions ≡ Some (as_session c.in-Some.session.now)
 settled c =
     let found = sym c.in-Some.ensures in
     named-settled c.args.self.now c.args.name c.in-Some.session.now found
-    (owed-of c.args.self.now c.args.name c.in-Some.session.now found c.requires.owed)
+    (pending-of c.args.self.now c.args.name c.in-Some.session.now found c.requires.pending)
 
 -- its count of atoms
 count : (c : After-count) → c.count.result ≡ length c.in-Some.session.now.live.sim.cur

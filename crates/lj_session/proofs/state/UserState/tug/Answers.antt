@@ -5,7 +5,7 @@ use Rattle.lj_session.specs.UserState.{LiveSession, as_session, user_of}
 use Rattle.lj_session.proofs.Performing as performing
 use Rattle.lj_session.proofs.Outcomes as outcomes
 use Rattle.lj_session.proofs.Outcomes.{read-step}
-use Rattle.lj_session.proofs.Writing.{writes, is_settled, none_owed, unchanged, absent, still, totals_as}
+use Rattle.lj_session.proofs.Writing.{writes, is_settled, none_pending, unchanged, absent, still, totals_as}
 use Rattle.lj_session.proofs.Writing.{reached_as, done_at}
 use Rattle.lj_session.proofs.state.UserState.tug.Goals as goal
 
@@ -40,7 +40,7 @@ invariant_of-self-2 c =
       counted = totals_as wrote _ c.tug.ensures refl refl;
       reached = reached_as wrote _ _ _
           (outcomes.tug c.args.self.now c.args.name held wrote.found
-          (none_owed c.self.inside c.args.self.now c.self.view_is c.args.name held c.in-Some.ensures.value c.requires)
+          (none_pending c.self.inside c.args.self.now c.self.view_is c.args.name held c.in-Some.ensures.value c.requires)
           c.args.atom c.args.by.x c.args.by.y c.args.by.z
           (outcomes.there c.args.atom (length held.live.sim.cur)
           (let n = c.count.ensures.value ∙ ap (λ (l : Sim). length l.sim.cur)
@@ -53,7 +53,7 @@ returns-clause-performs c =
     let wrote = writes c.args.name c.self.invariant c.self.view_is c.in-Some.ensures.value (c.get_mut.follows.holds c.tug.new.self).0 in
     done_at wrote _ (reply.Tugged c.args.name c.args.atom) _ _ _
     (outcomes.tug c.args.self.now c.args.name held wrote.found
-    (none_owed c.self.inside c.args.self.now c.self.view_is c.args.name held c.in-Some.ensures.value c.requires) c.args.atom c.args.by.x c.args.by.y c.args.by.z
+    (none_pending c.self.inside c.args.self.now c.self.view_is c.args.name held c.in-Some.ensures.value c.requires) c.args.atom c.args.by.x c.args.by.y c.args.by.z
     (outcomes.there c.args.atom (length held.live.sim.cur)
     (let n = c.count.ensures.value ∙ ap (λ (l : Sim). length l.sim.cur)
     c.sim.ensures in let t = c.if-atom-count.false in omega (arith, n, t))))

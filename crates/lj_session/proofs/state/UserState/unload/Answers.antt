@@ -2,7 +2,7 @@ use Rattle.std.proofs.Common.{◌≡◌, Some, None, Ok, length, refl, sym, ap, 
 use Rattle.lj_branch.specs.Named.{value_named, without_value}
 use Rattle.lj_step.specs.Sim.{Sim}
 use Rattle.lj_session.proofs.Holding.{taken-of}
-use Rattle.lj_session.proofs.Writing.{absent, looked_up, none_owed}
+use Rattle.lj_session.proofs.Writing.{absent, looked_up, none_pending}
 use Rattle.lj_session.proofs.Outcomes as outcomes
 use Rattle.lj_session.proofs.Outcomes.{written-to}
 use Rattle.lj_session.proofs.Totals.{used-less, atoms-within, saved-within}
@@ -54,7 +54,7 @@ unloaded c =
     let old = c.args.self.now in
     let held = c.in-Some.session in
     written-to old _ _ _ _ (outcomes.unload old c.args.name held (found c)
-    (none_owed c.self.inside old c.self.view_is c.args.name held c.in-Some.ensures.value c.requires) (gone c))
+    (none_pending c.self.inside old c.self.view_is c.args.name held c.in-Some.ensures.value c.requires) (gone c))
     (taken-of c.self.inside old c.self.view_is c.args.name _ c.in-Some.ensures.entries)
 
 pub invariant_of-self-2 : goal.invariant_of-self-2

@@ -1,4 +1,4 @@
--- An upper bound of the steps owed to a session after some items: those owed before, and those of each START granted since then;
+-- An upper bound of the pending steps of a session after some items: those before, and those of each START granted since then;
 -- 0 once an item has waited for the session.
 use Rattle.std.specs.Prelude.{◌+◌, ◌≤◌, ℕ, Bool, List, [], ◌∷◌, if◌then◌else◌, Some}
 use Rattle.std.specs.Str.{bytes_eq}
@@ -7,13 +7,13 @@ use Rattle.lj_session.specs.declared.command.Command.{Command}
 use Rattle.lj_session.specs.declared.command.Command.TheVariants.{Start}
 use Rattle.lj_session.specs.Users.{User}
 use Rattle.lj_session.specs.Turns.{advance_turns}
-use Rattle.lj_session.specs.UserState.{UserState, owed_in, user_of}
+use Rattle.lj_session.specs.UserState.{UserState, pending_in, user_of}
 use Rattle.lj_session.specs.Owner.{is_waited_for}
 use Rattle.lj_wire.specs.declared.item.Item.{Item}
 use Rattle.lj_wire.specs.declared.item.Item.TheVariants.{Command as Ordered, Bad, Last}
 use Rattle.lj_wire.specs.Told.{item_text, first_mark, other_marks}
 
--- the number of steps that a command adds to those owed to a session: those of its START, if the session may make them
+-- the number of steps that a command adds to the pending ones of a session: those of its START, if the session may make them
 unfoldable pub steps_started : User → Command → List ℕ → ℕ
 steps_started user (Start session n) name =
     if bytes_eq session name then advance_turns (value_named session user.sessions) n else 0
@@ -33,13 +33,13 @@ most_after_all user (item ∷ items) marks name n =
     most_after_all (item_text user item (first_mark marks)).1 items (other_marks marks) name (most_after user item name n)
 
 -- the bound for a session of the state after items
-abbrev pub most_owed : UserState → List Item → List Bool → List ℕ → ℕ
-most_owed state items marks name = most_after_all (user_of state) items marks name (owed_in state name)
+abbrev pub most_pending : UserState → List Item → List Bool → List ℕ → ℕ
+most_pending state items marks name = most_after_all (user_of state) items marks name (pending_in state name)
 
--- After an item no session is owed more steps than its bound.
-abbrev pub OwesAfter : UserState → Item → UserState → Type 0
-OwesAfter old item new = (name : List ℕ) → owed_in new name ≤ most_after (user_of old) item name (owed_in old name)
+-- After an item no session has more pending steps than its bound.
+abbrev pub HasPendingAfter : UserState → Item → UserState → Type 0
+HasPendingAfter old item new = (name : List ℕ) → pending_in new name ≤ most_after (user_of old) item name (pending_in old name)
 
--- After items no session is owed more steps than its bound.
-abbrev pub OwesAfterAll : UserState → List Item → List Bool → UserState → Type 0
-OwesAfterAll old items marks new = (name : List ℕ) → owed_in new name ≤ most_owed old items marks name
+-- After items no session has more pending steps than its bound.
+abbrev pub HasPendingAfterAll : UserState → List Item → List Bool → UserState → Type 0
+HasPendingAfterAll old items marks new = (name : List ℕ) → pending_in new name ≤ most_pending old items marks name

@@ -136,7 +136,7 @@ const SHOWN: &str = "OK SHOW a 1 0 589 0 0\n";
 
 /// The first stream needs no result, so it is answered whole over a pool that is closed from the start, too.
 #[test]
-fn what_is_owed_is_done_for_the_next_stream(rt: HostRuntime) {
+fn pending_steps_are_made_for_the_next_stream(rt: HostRuntime) {
     for calls in [0, 1, u64::MAX] {
         let first = serve_new(rt.alloc(), STARTED, calls);
         assert_eq!(rt; first.output.as_slice(), STARTED_OUTPUT.as_bytes());

@@ -1,4 +1,4 @@
--- The owner's steps: what is owed where one session changes, and what its whole step is.
+-- The owner's steps: which are pending where one session changes, and what its whole step is.
 use Rattle.std.proofs.Common.{◌≡◌, ◌≢◌, ℕ, ◌<◌, true, false, nat_lt, List, Option, Some, None, Result, Ok, Err, refl, sym, ◌∙◌, ap, subst, arith}
 use Rattle.std.proofs.Common.{◌+◌}
 use Rattle.std.proofs.lemmas.Bool.{ltb-true, ltb-false, true≢false}
@@ -10,57 +10,57 @@ use Rattle.lj_tile.specs.declared.task_name.Kind.{Kind}
 use Rattle.lj_session.specs.declared.command.Command.{Command}
 use Rattle.lj_session.specs.Users.{User}
 use Rattle.lj_session.specs.Turns.{turns, waits_for}
-use Rattle.lj_session.specs.UserState.{LiveSession, UserState, IsAtWork, user_of, live_session, owed_in, with_live_session, with_session_changed, with_step_finished, is_whole_in, is_measured, steps_before, turns_before}
-use Rattle.lj_session.specs.Owner.{Owner, is_owing, is_waited_for}
+use Rattle.lj_session.specs.UserState.{LiveSession, UserState, IsAtWork, user_of, live_session, pending_in, with_live_session, with_session_changed, with_step_finished, is_whole_in, is_measured, steps_before, turns_before}
+use Rattle.lj_session.specs.Owner.{Owner, has_pending, is_waited_for}
 use Rattle.lj_session.proofs.Entries.{by_test, named-put_any, named-put_other}
 use Rattle.lj_session.proofs.Holding.{changed-none, changed-some}
 use Rattle.lj_session.proofs.Others.{others-changed}
 use Rattle.lj_session.proofs.AtWork.{at_work-changed, kind-none, kind-passed}
-use Rattle.lj_session.proofs.Passing.{Open, opens, energies, measures, owed-held}
+use Rattle.lj_session.proofs.Passing.{Open, opens, energies, measures, pending-held}
 
 -- either way of a result
 pub either-way : {A B P X Y : Type 0} (r : Result A B) → OnOk r X → OnErr r Y → (X → P) → (Y → P) → P
 either-way (Ok a) x y good bad = good x
 either-way (Err b) x y good bad = bad y
 
--- what is owed to a session that stays
-pub owed-changed : (state : UserState) (name : List ℕ) (change : LiveSession → LiveSession) → ((held : LiveSession) → (change held).owed ≡ held.owed)
-    → (other : List ℕ) → owed_in (with_session_changed name change state) other ≡ owed_in state other
-owed-changed state name change same other = by (live_session state name) refl
+-- the number of pending steps of a session, where it stays
+pub pending-changed : (state : UserState) (name : List ℕ) (change : LiveSession → LiveSession) → ((held : LiveSession) → (change held).pending ≡ held.pending)
+    → (other : List ℕ) → pending_in (with_session_changed name change state) other ≡ pending_in state other
+pending-changed state name change same other = by (live_session state name) refl
   where
-    owed : Option LiveSession → ℕ
-    owed o = option_map_or (λ (h : LiveSession). h.owed) o 0
+    pending : Option LiveSession → ℕ
+    pending o = option_map_or (λ (h : LiveSession). h.pending) o 0
 
-    by : (o : Option LiveSession) → live_session state name ≡ o → owed_in (with_session_changed name change state) other ≡ owed_in state other
-    by None e = ap (λ (x : UserState). owed_in x other) (changed-none state name change e)
-    by (Some held) e = ap (λ (x : UserState). owed_in x other) (changed-some state name change held e) ∙ by_test (bytes_eq name other)
+    by : (o : Option LiveSession) → live_session state name ≡ o → pending_in (with_session_changed name change state) other ≡ pending_in state other
+    by None e = ap (λ (x : UserState). pending_in x other) (changed-none state name change e)
+    by (Some held) e = ap (λ (x : UserState). pending_in x other) (changed-some state name change held e) ∙ by_test (bytes_eq name other)
         (λ t. let is = (bytes_eq-Decides name other).0 t in
-        ap (λ (n : List ℕ). owed_in (with_live_session name (change held) state) n) (sym is)
-        ∙ ap owed (named-put_any name state.sessions (change held)) ∙ same held ∙ sym (ap owed e) ∙ ap (owed_in state) is)
-        (λ t. ap owed (named-put_other name other (λ is. true≢false (sym ((bytes_eq-Decides name other).1 is) ∙ t))
+        ap (λ (n : List ℕ). pending_in (with_live_session name (change held) state) n) (sym is)
+        ∙ ap pending (named-put_any name state.sessions (change held)) ∙ same held ∙ sym (ap pending e) ∙ ap (pending_in state) is)
+        (λ t. ap pending (named-put_other name other (λ is. true≢false (sym ((bytes_eq-Decides name other).1 is) ∙ t))
         state.sessions (change held)))
 
 -- and to another session than the one that changes
-pub owed-apart : (state : UserState) (name other : List ℕ) (change : LiveSession → LiveSession) → name ≢ other
-    → owed_in (with_session_changed name change state) other ≡ owed_in state other
-owed-apart state name other change apart = ap (λ o. option_map_or (λ (h : LiveSession). h.owed) o 0)
+pub pending-apart : (state : UserState) (name other : List ℕ) (change : LiveSession → LiveSession) → name ≢ other
+    → pending_in (with_session_changed name change state) other ≡ pending_in state other
+pending-apart state name other change apart = ap (λ o. option_map_or (λ (h : LiveSession). h.pending) o 0)
     (others-changed state name change other (λ e. apart (same_Some name other e)))
   where
     same_Some : (a b : List ℕ) → Some a ≡ Some b → a ≡ b
     same_Some a b e = cc
 
--- how many turns come before a command where the user, and what is owed to its session, stay
+-- how many turns come before a command where the user, and the pending steps of its session, stay
 pub turns-kept : (old new : UserState) (command : Command) → user_of new ≡ user_of old
-    → ((name : List ℕ) → waits_for command ≡ Some name → owed_in new name ≡ owed_in old name)
+    → ((name : List ℕ) → waits_for command ≡ Some name → pending_in new name ≡ pending_in old name)
     → turns_before new command ≡ turns_before old command
-turns-kept old new command user owed =
+turns-kept old new command user pending =
     ap (λ n. n + turns (user_of new) command) (by (waits_for command) refl)
     ∙ ap (λ (u : User). steps_before old command + turns u command) user
   where
     by : (o : Option (List ℕ)) → waits_for command ≡ o → steps_before new command ≡ steps_before old command
-    by None e = ap (λ o. option_map_or (owed_in new) o 0) e ∙ sym (ap (λ o. option_map_or (owed_in old) o 0) e)
+    by None e = ap (λ o. option_map_or (pending_in new) o 0) e ∙ sym (ap (λ o. option_map_or (pending_in old) o 0) e)
     by (Some name) e =
-        ap (λ o. option_map_or (owed_in new) o 0) e ∙ owed name e ∙ sym (ap (λ o. option_map_or (owed_in old) o 0) e)
+        ap (λ o. option_map_or (pending_in new) o 0) e ∙ pending name e ∙ sym (ap (λ o. option_map_or (pending_in old) o 0) e)
 
 pub turns-some : (waiting : Option Command) (old new : UserState)
     → ((command : Command) → waiting ≡ Some command → turns_before new command ≡ turns_before old command)
@@ -68,24 +68,24 @@ pub turns-some : (waiting : Option Command) (old new : UserState)
 turns-some None old new same some = some
 turns-some (Some command) old new same some = subst (λ n. 0 < n) (sym (same command refl)) some
 
--- a session with a whole step owes it
-pub whole-owes : (owner : Owner) (name : List ℕ) → is_whole_in owner.state name ≡ true → IsAtWork owner.waiting owner.state
-    → is_owing owner name ≡ true
-whole-owes owner name whole work = by_test (nat_lt 0 (owed_in owner.state name)) (λ t. rw t refl) measured
+-- a session with a whole step has it pending
+pub whole-pending : (owner : Owner) (name : List ℕ) → is_whole_in owner.state name ≡ true → IsAtWork owner.waiting owner.state
+    → has_pending owner name ≡ true
+whole-pending owner name whole work = by_test (nat_lt 0 (pending_in owner.state name)) (λ t. rw t refl) measured
   where
     o : Open owner.waiting owner.state name
     o = opens owner.waiting owner.state name whole work
 
-    measured : nat_lt 0 (owed_in owner.state name) ≡ false → is_owing owner name ≡ true
+    measured : nat_lt 0 (pending_in owner.state name) ≡ false → has_pending owner name ≡ true
     measured t = by_test (is_measured owner.waiting name) (λ m. rw (t, m) refl)
-        (λ m. absurd (none_some o.kind (sym (kind-none owner.waiting name o.held none m) ∙ o.owes)))
+        (λ m. absurd (none_some o.kind (sym (kind-none owner.waiting name o.held none m) ∙ o.pending)))
       where
         none_some : (kind : Kind) → None ≡ Some kind → ⊥
         none_some kind e = cc
 
-        none : o.held.owed ≡ 0
-        none = sym (owed-held owner.state name o.held o.there)
-            ∙ (let z = ltb-false 0 (owed_in owner.state name) t in let n : owed_in owner.state name ≡ 0 = omega (arith, z) in n)
+        none : o.held.pending ≡ 0
+        none = sym (pending-held owner.state name o.held o.there)
+            ∙ (let z = ltb-false 0 (pending_in owner.state name) t in let n : pending_in owner.state name ≡ 0 = omega (arith, z) in n)
 
 -- what is measured is waited for
 measured-waited : (waiting : Option Command) (name : List ℕ) → is_measured waiting name ≡ true → is_waited_for waiting name ≡ true
@@ -99,13 +99,13 @@ unwaited-quiet waiting name not = by_test (is_measured waiting name)
     (λ t. absurd (true≢false (sym (measured-waited waiting name t) ∙ not)))
     (λ t. t)
 
--- the whole step of a session that nothing waits for is one that is owed
-pub unwaited-owed : (waiting : Option Command) (state : UserState) (name : List ℕ) → is_waited_for waiting name ≡ false
-    → is_whole_in state name ≡ true → IsAtWork waiting state → 0 < owed_in state name
-unwaited-owed waiting state name not whole work = by_test (nat_lt 0 (owed_in state name))
-    (ltb-true 0 (owed_in state name))
-    (λ t. let z = ltb-false 0 (owed_in state name) t in
-    let none : owed_in state name ≡ 0 = omega (arith, z) in
+-- the whole step of a session that nothing waits for is a pending one
+pub unwaited-pending : (waiting : Option Command) (state : UserState) (name : List ℕ) → is_waited_for waiting name ≡ false
+    → is_whole_in state name ≡ true → IsAtWork waiting state → 0 < pending_in state name
+unwaited-pending waiting state name not whole work = by_test (nat_lt 0 (pending_in state name))
+    (ltb-true 0 (pending_in state name))
+    (λ t. let z = ltb-false 0 (pending_in state name) t in
+    let none : pending_in state name ≡ 0 = omega (arith, z) in
     absurd (true≢false (sym (energies waiting state name whole work none).measured ∙ unwaited-quiet waiting name not)))
 
 pub unwaited-work : (waiting : Option Command) (state : UserState) (name : List ℕ) → is_waited_for waiting name ≡ false
