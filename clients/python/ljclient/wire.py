@@ -73,7 +73,7 @@ class Wire:
         self._partial = b""
         self._unsplit = 0
         self._keeps_whole = False
-        self._owed: Deque[str] = deque()
+        self._unanswered: Deque[str] = deque()
         self._at_end = ""
         self._torn = False
         self._closed = ""
@@ -88,12 +88,12 @@ class Wire:
     @property
     def is_idle(self) -> bool:
         """Whether each command that was asked has been answered."""
-        return not self._owed and not self._torn
+        return not self._unanswered and not self._torn
 
     @property
     def unanswered(self) -> List[str]:
         """The command lines that were asked, and are not answered yet."""
-        return list(self._owed)
+        return list(self._unanswered)
 
     def catch_up(self) -> None:
         """Waits until each command that was asked is answered. These replies are passed over."""
@@ -111,7 +111,7 @@ class Wire:
         self._begin()
         answers: List[Union[Reply, Refused]] = []
         for line, body in commands:
-            while self._owed and (len(self._owed) >= MAX_UNDER_WAY or len(self._outgoing) > MAX_OUTGOING):
+            while self._unanswered and (len(self._unanswered) >= MAX_UNDER_WAY or len(self._outgoing) > MAX_OUTGOING):
                 answers.append(self._next_answer())
                 if self.closed:
                     break
@@ -149,7 +149,7 @@ class Wire:
         with contextlib.nullcontext() if self.listener is None else held():
             self._torn = True
             self._lines = deque(itertools.islice(self._lines, len(lines), None))
-            self._owed.clear()
+            self._unanswered.clear()
             self._torn = False
             if self.listener is not None:
                 for line, row in zip(lines, text.split(b"\n")):
@@ -158,7 +158,7 @@ class Wire:
 
     def pass_over(self) -> None:
         """Waits for the replies that nobody came for, since an interrupt was quicker."""
-        while self._owed and not self._closed and not self._torn:
+        while self._unanswered and not self._closed and not self._torn:
             self._next_answer()
 
     def close(self, why: str = "the connection was closed") -> None:
@@ -166,8 +166,8 @@ class Wire:
         if not self._closed:
             self._closed = why
             if self.listener is not None:
-                self.listener.unanswered(list(self._owed))
-            self._owed.clear()
+                self.listener.unanswered(list(self._unanswered))
+            self._unanswered.clear()
             self._bodies.clear()
             self._selector.close()
             self._transport.close()
@@ -177,7 +177,7 @@ class Wire:
             raise Closed(self._closed)
         if self._torn:
             raise self._given_up(ConnectionLost("an interrupt came while bytes were on their way"))
-        while self._owed and not self._closed:
+        while self._unanswered and not self._closed:
             self._next_answer()
         if self._closed:
             raise Closed(self._closed)
@@ -196,13 +196,13 @@ class Wire:
         """Puts the bytes of some commands among what is to be sent."""
         self._torn = True
         self._outgoing += data
-        self._owed.extend(lines)
+        self._unanswered.extend(lines)
         self.asked += len(lines)
         self._torn = False
 
     def _granted(self, answers: List[Union[Reply, Refused]]) -> List[Reply]:
         """These answers, and those to all that still awaits its reply. The first refusal is raised when all are there."""
-        while self._owed and not self.closed:
+        while self._unanswered and not self.closed:
             answers.append(self._next_answer())
         replies = []
         for answer in answers:
@@ -223,11 +223,11 @@ class Wire:
         count = self._lines_after(words)
         self._await_lines(1 + count)
         with contextlib.nullcontext() if self.listener is None else held():
-            body = self._bodies.pop(self.asked - len(self._owed), b"")
+            body = self._bodies.pop(self.asked - len(self._unanswered), b"")
             self._torn = True
             first = self._lines.popleft()
             lines = [self._lines.popleft() for _ in range(count)]
-            command = self._owed.popleft()
+            command = self._unanswered.popleft()
             self._torn = False
             if self.listener is not None:
                 self.listener.answered(Answer(command.encode(), body, first, lines))
@@ -257,7 +257,7 @@ class Wire:
                 return None
             self._torn = True
             text, self._partial, self._unsplit = self._partial[len(head) + 1 :], b"", 0
-            self._owed.popleft()
+            self._unanswered.popleft()
             self._torn = False
             return words[1:], text
         finally:
@@ -274,12 +274,12 @@ class Wire:
     def _words(self, line: bytes) -> List[str]:
         """The words of a reply's first line, which is one to the first command that awaits its reply."""
         words = self._text(line).split(" ")
-        asked = self._owed[0].split()[:1]
+        asked = self._unanswered[0].split()[:1]
         if words[0] == "OK" and words[1:2] == asked:
             return words
         if words[0] == "ERR" and len(words) in (3, 5) and words[1].isdigit() and words[-1].isdigit() == (len(words) == 5):
             return words
-        raise self._given_up(BadReply(f"{line[:80]!r} is no reply to `{shown(self._owed[0])}`"))
+        raise self._given_up(BadReply(f"{line[:80]!r} is no reply to `{shown(self._unanswered[0])}`"))
 
     def _lines_after(self, words: List[str]) -> int:
         """How many lines a reply has after its first."""
@@ -303,7 +303,7 @@ class Wire:
         """Sends and receives until so many lines are there."""
         self._gather(count)
         if len(self._lines) < count:
-            raise self._given_up(not_answered(ConnectionLost, self._transport.last_words() or self._at_end, self._owed[0]))
+            raise self._given_up(not_answered(ConnectionLost, self._transport.last_words() or self._at_end, self._unanswered[0]))
 
     def _gather(self, count: int) -> None:
         """Sends and receives until so many lines are there, or no more will come."""
@@ -321,7 +321,7 @@ class Wire:
         if not went:
             self._watch_sink(bool(self._outgoing))
             if not self._has_heard(seconds):
-                raise self._given_up(not_answered(TimedOut, f"nothing was heard for {self.timeout:g} s", self._owed[0]))
+                raise self._given_up(not_answered(TimedOut, f"nothing was heard for {self.timeout:g} s", self._unanswered[0]))
         return self._receive() or went
 
     def _has_heard(self, seconds: float) -> bool:
@@ -333,7 +333,7 @@ class Wire:
             if self._selector.select(min(left, TICK_SECONDS)):
                 return True
             if self.on_wait:
-                self.on_wait(self._owed[0], time.monotonic() - start)
+                self.on_wait(self._unanswered[0], time.monotonic() - start)
         return bool(self._selector.select(0))
 
     def _watch_sink(self, wanted: bool) -> None:
