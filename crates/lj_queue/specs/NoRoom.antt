@@ -3,8 +3,8 @@ use Rattle.std.specs.Prelude.{◌≡◌, ◌-◌, ◌^◌, ⊤, ℕ, Option, con
 use Rattle.lj_tile.specs.Task.{Task}
 use Rattle.lj_pool.specs.declared.pool.NotPosted.{NotPosted}
 use Rattle.lj_pool.specs.declared.pool.NotPosted.TheVariants.{Closed, Full}
-use Rattle.lj_queue.specs.declared.no_room.NoRoom.{NoRoom as Cause}
-use Rattle.lj_queue.specs.declared.no_room.NoRoom.TheVariants.{NoBox, PassSpent, QueueFull}
+use Rattle.lj_queue.specs.declared.no_room.FullCause.{FullCause}
+use Rattle.lj_queue.specs.declared.no_room.FullCause.TheVariants.{NoBox, PassSpent, QueueFull}
 use Rattle.lj_queue.specs.declared.no_room.PostFault.{PostFault}
 use Rattle.lj_queue.specs.declared.no_room.PostFault.TheVariants.{NoRoom, Closed as PoolClosed}
 
@@ -14,7 +14,7 @@ boxes_in place = cond (is_some place) 1 0
 
 -- There was this cause for one who had so many boxes, and whose pass had pushed so many tasks: no box, a pass that has pushed all that
 -- it may, or a queue that handed a task back at the next push.
-abbrev pub IsCause : Cause → ℕ → ℕ → Type 0
+abbrev pub IsCause : FullCause → ℕ → ℕ → Type 0
 IsCause NoBox boxes pushed = boxes ≡ 0
 IsCause PassSpent boxes pushed = pushed ≡ 2 ^ 64 - 1
 IsCause (QueueFull refused) boxes pushed = refused.pushed ≡ pushed

@@ -8,7 +8,7 @@ use thiserror::Error;
 
 /// Why there was no room for a task.
 #[derive(Clone, Copy, PartialEq, Eq, Debug, Error)]
-pub(crate) enum NoRoom {
+pub(crate) enum FullCause {
     /// No box was spare.
     #[error("no box is spare for the task")]
     NoBox,
@@ -25,7 +25,7 @@ pub(crate) enum NoRoom {
 pub(crate) enum PostFault {
     /// There was no room for it.
     #[error("{0}")]
-    NoRoom(NoRoom),
+    NoRoom(FullCause),
     /// The pool is closed.
     #[error("the pool is closed")]
     Closed,

@@ -5,7 +5,7 @@ ghost use Rattle.lj_queue.specs.NoRoom.{IsCause};
 ghost use Rattle.lj_queue.specs.PoolPass.{IsCounted, with_push, with_pop, pass_of};
 
 use crate::kept_boxes::KeptBoxes;
-use crate::no_room::NoRoom;
+use crate::no_room::FullCause;
 use crate::open_task::OpenTask;
 use crate::result_list::ResultList;
 use crate::rule::{OpenTasks, Popped, Pushed, TaskPass};
@@ -42,7 +42,7 @@ pub(crate) struct RefusedPush {
 #[derive(Drop)]
 pub(crate) struct NotPushed {
     pub(crate) ticket: OpenTask,
-    pub(crate) cause: NoRoom,
+    pub(crate) cause: FullCause,
 }
 
 impl From<NotPushed> for OpenTask {
@@ -107,7 +107,7 @@ impl<L: PoolIdentity> CountedPass<L> {
         if self.pushed == u64::MAX {
             return Err(NotPushed {
                 ticket,
-                cause: NoRoom::PassSpent,
+                cause: FullCause::PassSpent,
             });
         }
         let Err(ticket) = queue.push_as::<Pushed, R>(rt, &mut self.pass, ticket) else {
@@ -119,7 +119,7 @@ impl<L: PoolIdentity> CountedPass<L> {
         };
         Err(NotPushed {
             ticket,
-            cause: NoRoom::QueueFull(refused),
+            cause: FullCause::QueueFull(refused),
         })
     }
 

@@ -8,7 +8,7 @@ ghost use Rattle.lj_queue.specs.ResultList.{Fetches, empty_list};
 ghost use Rattle.lj_queue.specs.PoolPass.{AreUntouched, IsRootPass, with_post, with_push, with_pop};
 
 use crate::mailboxes::Mailboxes;
-use crate::no_room::{NoRoom, PostFault};
+use crate::no_room::{FullCause, PostFault};
 use crate::open_task::OpenTask;
 use crate::pass::{CountedPass, NotPushed, PoolIdentity, PoolPass};
 use crate::poster::Poster;
@@ -200,14 +200,19 @@ impl<L: PoolIdentity> QueuePool<L> {
     }
 
     /// Posts a task in the next box of the poster or a spare one. Fails where there is no room.
-    fn try_post<R: Wait>(&self, rt: &R, poster: &mut Poster<L>, task: &Task) -> Result<(), NoRoom>
+    fn try_post<R: Wait>(
+        &self,
+        rt: &R,
+        poster: &mut Poster<L>,
+        task: &Task,
+    ) -> Result<(), FullCause>
         ensures pushed { OnOk result (poster.new ≡ record (with_post poster.old task.now) { next = poster.new.next }) }
         ensures nothing { OnErr result (poster.new ≡ record poster.old { next = poster.new.next }) }
         ensures box_kept { OnErr result (boxes_in poster.old.next ≤ boxes_in poster.new.next) }
         ensures cause { IfErr result (λ cause. IsCause cause (boxes_in poster.old.next) (length poster.old.pass.pushed)) }
     {
         if !self.fill(rt, task, &mut poster.next) {
-            return Err(NoRoom::NoBox);
+            return Err(FullCause::NoBox);
         }
         self.push_next(rt, poster)
     }
@@ -231,14 +236,14 @@ impl<L: PoolIdentity> QueuePool<L> {
     }
 
     /// Pushes the task in the next box of the poster. If there is no room, the box stays.
-    fn push_next<R: Wait>(&self, rt: &R, poster: &mut Poster<L>) -> Result<(), NoRoom>
+    fn push_next<R: Wait>(&self, rt: &R, poster: &mut Poster<L>) -> Result<(), FullCause>
         ensures pushed { OnOk result (IsSomeAnd poster.old.next
             (λ task. poster.new ≡ record (with_post poster.old task) { next = poster.new.next })) }
         ensures stays { OnErr result (poster.new ≡ poster.old) }
         ensures cause { IfErr result (λ cause. IsCause cause (boxes_in poster.old.next) (length poster.old.pass.pushed)) }
     {
         let Some(task) = poster.next.take() else {
-            return Err(NoRoom::NoBox);
+            return Err(FullCause::NoBox);
         };
         let ticket = OpenTask {
             end: poster.end,
