@@ -86,8 +86,8 @@ class Tables(unittest.TestCase):
 )
 def test_a_line_with_a_file(line: Any, load: Any) -> None:
     """What it becomes, and the file that it names."""
-    told = present(loading.from_file(line))
-    assert (loading.line_of(told, b"12345"), told.path) == load
+    found = present(loading.from_file(line))
+    assert (loading.line_of(found, b"12345"), found.path) == load
 
 
 @pytest.mark.parametrize(

@@ -476,8 +476,8 @@ def test_replies_that_are_on_their_way_when_a_new_connection_begins(server: Any,
             argon.advance(10**6, piece=10000)
         assert argon.step == 10000
         argon.drop()
-    told = [line for line in without_checks(path) if line[0] in ">c"]
-    assert told[-4:] == ["> ADVANCE argon 10000", "connection", "> ADVANCE argon 0", "> DROP argon"]
+    lines = [line for line in without_checks(path) if line[0] in ">c"]
+    assert lines[-4:] == ["> ADVANCE argon 10000", "connection", "> ADVANCE argon 0", "> DROP argon"]
     assert is_the_same(path) == []
 
 

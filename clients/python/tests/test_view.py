@@ -100,8 +100,8 @@ def test_what_is_no_message(view: Any) -> None:
     for first, data in ((0x82, b"abcd"), (0x80, b"abcd"), (0x81, b"\xff"), (0x83, b"")):
         with Stream(view) as stream:
             stream.send(first, data)
-            told = stream.receive()
-            assert told is None or told[0] == 0x88
+            answer = stream.receive()
+            assert answer is None or answer[0] == 0x88
             assert stream.receive() is None
     with view.page() as page:
         assert page.ask("frame", steps=1)["step"] == 1
