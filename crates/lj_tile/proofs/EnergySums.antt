@@ -23,7 +23,7 @@ use Rattle.lj_tile.specs.Pairs.{row_pairs}
 use Rattle.lj_tile.specs.Energies.{pair_energy, list_energy, lists_energy, chosen_row, rows_energy}
 use Rattle.lj_tile.proofs.Splits.{in_none, in_firsts, in_seconds, RowSplit, SplitRow}
 use Rattle.lj_tile.proofs.SumLemmas.{sum_past, abs_add}
-use Rattle.lj_tile.proofs.RowSums.{pairs_to, pairs_more, pairs_same, pairs_zero, pair_first, pair_second, whole_row, none_behind}
+use Rattle.lj_tile.proofs.RowPairs.{pairs_to, pairs_more, pairs_same, pairs_zero, pair_first, pair_second, whole_row, none_behind}
 use Rattle.lj_tile.proofs.RowSums.{is_in_set, is_not_in, IsOfOne, IsSilentRow, of_one, of_other, of_none}
 
 joined : (x y z : ℤ) → x +ℤ (y +ℤ z) ≡ (x +ℤ y) +ℤ z

@@ -12,6 +12,7 @@ pub mod ListLemmas
 pub mod PairSums
 pub mod LaneLemmas
 pub mod LanePushes
+pub mod RowPairs
 pub mod RowSums
 pub mod EnergySums
 pub mod RowSets

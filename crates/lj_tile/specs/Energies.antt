@@ -3,6 +3,9 @@ use Rattle.std.specs.Prelude.{ℕ, ℤ, pos, ◌+ℤ◌, Bool, neg_ℤ, List, []
 use Rattle.lj_ring.specs.Ring.{int_sum_below}
 use Rattle.lj_ring.specs.declared.coordinates.Place.{Place}
 use Rattle.lj_ring.specs.declared.mixes.Class.{Class}
+use Rattle.lj_ring.specs.declared.mixes.Species.{Species}
+use Rattle.lj_ring.specs.declared.mixes.Species.TheVariants.{First, Second}
+use Rattle.lj_ring.specs.Mix.{class_of}
 use Rattle.lj_tile.specs.Pushes.{energy}
 use Rattle.lj_tile.specs.Species.{is_in}
 use Rattle.lj_tile.specs.Tiles.{place_at}
@@ -26,6 +29,11 @@ list_energy k a b (pair ∷ pairs) = pair_energy k a b pair +ℤ list_energy k a
 -- the sum of the energies of two lists, each of one class
 abbrev pub lists_energy : Task → (k l : Class) → (ps qs : List ℕ) → ℤ
 lists_energy w k l ps qs = list_energy k w.a.places w.b.places ps +ℤ list_energy l w.a.places w.b.places qs
+
+-- the sum of the energies of two lists of pairs whose first atoms are of one species, with atoms of the first species in the first
+-- list and of the second in the other
+abbrev pub energy_with_both : Task → Species → (firsts seconds : List ℕ) → ℤ
+energy_with_both w own firsts seconds = lists_energy w (class_of w.mix own First) (class_of w.mix own Second) firsts seconds
 
 -- the energy of a row that is in a set, and 0 of any other row
 abbrev pub chosen_row : Task → ℕ → ℕ → ℤ

@@ -3,7 +3,6 @@ ghost use Rattle.std.specs.Prelude.{◌≡◌, ◌≤◌, ◌<◌, ◌+◌, ◌*
 ghost use Rattle.std.specs.Prelude.{unsigned_abs, nat_lt, take, replicate};
 ghost use Rattle.std.specs.Int.{bit_at};
 ghost use Rattle.lj_ring.specs.Ring.{IsOnRing};
-ghost use Rattle.lj_ring.specs.Mix.{class_of};
 ghost use Rattle.lj_tile.specs.Pushes.{no_push, sum_of_pushes};
 ghost use Rattle.lj_tile.specs.Species as species;
 ghost use Rattle.lj_tile.specs.Species.{is_in};
@@ -12,7 +11,7 @@ ghost use Rattle.lj_tile.specs.Task.{task_force, task_second, task_energy, are_i
 ghost use Rattle.lj_tile.specs.Rows.{sum_on_first, sum_on_second, energy_row, IsSilent};
 ghost use Rattle.lj_tile.specs.Pairs.{row_pairs, scale_between, AreColumnsOf, AreFewPairs, AreOnRing, AreRowsOf};
 ghost use Rattle.lj_tile.specs.Pairs.{HaveRow, HaveRows, HaveTotals, IsPushOnRing};
-ghost use Rattle.lj_tile.specs.Energies.{list_energy, lists_energy, rows_energy};
+ghost use Rattle.lj_tile.specs.Energies.{energy_with_both, list_energy, rows_energy};
 ghost use Rattle.lj_ring.specs.declared.mixes.Species.TheVariants as variants;
 
 use crate::blocks::BLOCK;
@@ -386,10 +385,8 @@ fn energy_of_rows(
     requires seconds { AreFewPairs task.now.a.places task.now.b.places of_seconds.old }
     ensures firsts { AreFewPairs task.now.a.places task.now.b.places of_firsts.new }
     ensures seconds { AreFewPairs task.now.a.places task.now.b.places of_seconds.new }
-    ensures value { let with_first = class_of task.now.mix own variants.First in
-        let with_second = class_of task.now.mix own variants.Second in
-        result +ℤ lists_energy task.now with_first with_second of_firsts.new of_seconds.new
-        ≡ lists_energy task.now with_first with_second of_firsts.old of_seconds.old +ℤ rows_energy task.now rows BLOCK }
+    ensures value { result +ℤ energy_with_both task.now own of_firsts.new of_seconds.new
+        ≡ energy_with_both task.now own of_firsts.old of_seconds.old +ℤ rows_energy task.now rows BLOCK }
     ensures size { unsigned_abs result ≤ BLOCK * 2 ^ 53 }
 {
     let mut t = 0;
@@ -424,10 +421,8 @@ fn energy_of_row(
     requires seconds { AreFewPairs task.now.a.places task.now.b.places of_seconds.old }
     ensures firsts { AreFewPairs task.now.a.places task.now.b.places of_firsts.new }
     ensures seconds { AreFewPairs task.now.a.places task.now.b.places of_seconds.new }
-    ensures value { let with_first = class_of task.now.mix own variants.First in
-        let with_second = class_of task.now.mix own variants.Second in
-        result +ℤ lists_energy task.now with_first with_second of_firsts.new of_seconds.new
-        ≡ lists_energy task.now with_first with_second of_firsts.old of_seconds.old +ℤ energy_row task.now t }
+    ensures value { result +ℤ energy_with_both task.now own of_firsts.new of_seconds.new
+        ≡ energy_with_both task.now own of_firsts.old of_seconds.old +ℤ energy_row task.now t }
     ensures size { unsigned_abs result ≤ 2 ^ 53 }
 {
     let here = &task.first().places()[t];

@@ -1,5 +1,5 @@
 use Rattle.std.proofs.Common.{arith}
-use Rattle.lj_tile.proofs.RowSums.{row_within}
+use Rattle.lj_tile.proofs.RowPairs.{row_within}
 use Rattle.lj_tile.proofs.sums.add_pairs.Goals as goal
 
 pub append-requires-clause-row : goal.append-requires-clause-row

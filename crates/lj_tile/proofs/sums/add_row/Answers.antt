@@ -1,7 +1,7 @@
 use Rattle.std.proofs.Common.{◌-◌, bit_and, arith}
 use Rattle.lj_ring.specs.Mix.{can_interact}
 use Rattle.lj_tile.proofs.Splits.{SplitRow, row_split, part_within}
-use Rattle.lj_tile.proofs.RowSums.{row_added, none_came}
+use Rattle.lj_tile.proofs.RowPairs.{row_added, none_came}
 use Rattle.lj_tile.proofs.sums.add_row.Goals.{After-class-with_second}
 use Rattle.lj_tile.proofs.sums.add_row.Goals as goal
 

@@ -1,5 +1,5 @@
 use Rattle.std.proofs.Common.{arith}
-use Rattle.lj_tile.proofs.RowSums.{row_within}
+use Rattle.lj_tile.proofs.RowPairs.{row_within}
 use Rattle.lj_tile.proofs.sums.energy_of_pairs.Goals as goal
 
 pub returns-then-len-lt-FULL-clause-pairs : goal.returns-then-len-lt-FULL-clause-pairs

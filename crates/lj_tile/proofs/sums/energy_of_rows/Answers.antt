@@ -1,9 +1,7 @@
 use Rattle.std.proofs.Common.{◌≤◌, ◌+◌, ◌*◌, ◌^◌, ◌≡◌, ◌+ℤ◌, ℕ, ℤ, pos, unsigned_abs, to_z, sym, ap, ◌∙◌, w64, arith}
 use Rattle.std.specs.Int.{trailing_zeros}
 use Rattle.std.proofs.Math.IntN.{+ℤ_idr, +ℤ_idl}
-use Rattle.lj_ring.specs.Mix.{class_of}
-use Rattle.lj_ring.specs.declared.mixes.Species.TheVariants.{First, Second}
-use Rattle.lj_tile.specs.Energies.{lists_energy}
+use Rattle.lj_tile.specs.Energies.{energy_with_both}
 use Rattle.lj_tile.proofs.SumLemmas.{HasNext, next_set, from_next, from_empty, from_all, sum_fits, sum_is, sum_size}
 use Rattle.lj_tile.proofs.EnergySums.{rows_energy_past, rows_energy_next}
 use Rattle.lj_tile.proofs.sums.energy_of_rows.Goals.{In-loop-rest}
@@ -25,8 +23,7 @@ loop-rest-init c = record {
   firsts = c.requires.firsts;
   seconds = c.requires.seconds;
   value =
-      turned (lists_energy c.args.task.now (class_of c.args.task.now.mix c.args.own First)
-      (class_of c.args.task.now.mix c.args.own Second) c.args.of_firsts.now c.args.of_seconds.now);
+      turned (energy_with_both c.args.task.now c.args.own c.args.of_firsts.now c.args.of_seconds.now);
   size = omega arith;
 }
 
@@ -54,8 +51,6 @@ loop-rest-smaller c =
 pub loop-rest-preserved : goal.loop-rest-preserved
 loop-rest-preserved c =
     let w = c.args.task.now in
-    let with_first = class_of w.mix c.args.own First in
-    let with_second = class_of w.mix c.args.own Second in
     let found = next (goal.at.loop-rest-preserved c).In-loop-rest in
     let row : ℕ = c.loop-rest.t + trailing_zeros w64 c.loop-rest.rest in
     let before : unsigned_abs (to_z w64 c.loop-rest.sum-bits) ≤ row * 2 ^ 53 = omega (arith, c.loop-rest.invariant.size) in
@@ -67,11 +62,11 @@ loop-rest-preserved c =
       seconds = c.energy_of_row-sum.ensures.seconds;
       value =
           rows_energy_next w c.args.rows row _ c.energy_of_row-sum.result
-          (lists_energy w with_first with_second c.args.of_firsts.now c.args.of_seconds.now)
-          (lists_energy w with_first with_second c.loop-rest.of_firsts c.loop-rest.of_seconds)
-          (lists_energy w with_first with_second c.energy_of_row-sum.new.of_firsts c.energy_of_row-sum.new.of_seconds) found.set
+          (energy_with_both w c.args.own c.args.of_firsts.now c.args.of_seconds.now)
+          (energy_with_both w c.args.own c.loop-rest.of_firsts c.loop-rest.of_seconds)
+          (energy_with_both w c.args.own c.energy_of_row-sum.new.of_firsts c.energy_of_row-sum.new.of_seconds) found.set
           (c.loop-rest.invariant.value
-          ∙ ap (λ z. lists_energy w with_first with_second c.args.of_firsts.now c.args.of_seconds.now +ℤ z)
+          ∙ ap (λ z. energy_with_both w c.args.own c.args.of_firsts.now c.args.of_seconds.now +ℤ z)
           (rows_energy_past w c.args.rows c.loop-rest.t row (omega arith) found.before)) c.energy_of_row-sum.ensures.value;
       size = sum_size _ c.energy_of_row-sum.result row (2 ^ 53) before c.energy_of_row-sum.ensures.size;
     }
@@ -79,9 +74,7 @@ loop-rest-preserved c =
 pub returns-clause-value : goal.returns-clause-value
 returns-clause-value c =
     let w = c.args.task.now in
-    let with_first = class_of w.mix c.args.own First in
-    let with_second = class_of w.mix c.args.own Second in
     c.loop-rest.invariant.value
-    ∙ ap (λ z. lists_energy w with_first with_second c.args.of_firsts.now c.args.of_seconds.now +ℤ z)
+    ∙ ap (λ z. energy_with_both w c.args.own c.args.of_firsts.now c.args.of_seconds.now +ℤ z)
     (rows_energy_past w c.args.rows c.loop-rest.t 64 c.loop-rest.invariant.within (λ k least less.
     from_empty c.args.rows c.loop-rest.t c.loop-rest.rest c.loop-rest.invariant.bits c.loop-rest-test.false k least))

@@ -1,8 +1,6 @@
 use Rattle.std.proofs.Common.{◌≡◌, ◌≤◌, ◌-◌, ◌*◌, ◌^◌, ◌+ℤ◌, unsigned_abs}
-use Rattle.lj_ring.specs.Mix.{class_of}
-use Rattle.lj_ring.specs.declared.mixes.Species.TheVariants.{First, Second}
 use Rattle.lj_tile.specs.Pairs.{AreFewPairs}
-use Rattle.lj_tile.specs.Energies.{lists_energy, rows_energy}
+use Rattle.lj_tile.specs.Energies.{energy_with_both, rows_energy}
 use Rattle.lj_tile.proofs.SumLemmas.{IsFrom}
 use Rattle.lj_tile.proofs.sums.energy_of_rows.Given as goal
 
@@ -12,9 +10,8 @@ invariant-loop-rest l = record {
   bits : IsFrom l.rows l.t l.rest;
   firsts : AreFewPairs l.task.a.places l.task.b.places l.of_firsts;
   seconds : AreFewPairs l.task.a.places l.task.b.places l.of_seconds;
-  value : l.sum +ℤ lists_energy l.task (class_of l.task.mix l.own First) (class_of l.task.mix l.own Second) l.of_firsts l.of_seconds
-      ≡ lists_energy l.task (class_of l.task.mix l.own First) (class_of l.task.mix l.own Second) l.fn.of_firsts l.fn.of_seconds
-      +ℤ rows_energy l.task l.rows l.t;
+  value : l.sum +ℤ energy_with_both l.task l.own l.of_firsts l.of_seconds
+      ≡ energy_with_both l.task l.own l.fn.of_firsts l.fn.of_seconds +ℤ rows_energy l.task l.rows l.t;
   size : unsigned_abs l.sum ≤ l.t * 2 ^ 53;
 }
 
