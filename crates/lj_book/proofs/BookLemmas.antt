@@ -85,19 +85,19 @@ waits_marked (Some (Done work)) = refl
 
 -- where an entry takes the place of a task without its result, it is still a book
 module _ {P K : Type 0} (slab : Slab (BookEntry P K)) (key_states : List KeyState) (posted given fetched withdrawn : ℕ)
-    (held : IsBook slab key_states posted given fetched withdrawn) where
+    (kept : IsBook slab key_states posted given fetched withdrawn) where
   pub put_book : (new : Slab (BookEntry P K)) (key : ℕ) (entry : BookEntry P K) → is_waiting (get slab key) ≡ true
       → Updates slab new key (Some entry) → slab_len new ≡ slab_len slab → new.capacity ≡ slab.capacity
       → IsBook new (slice_set key_states key (key_state_of (Some entry))) posted given fetched withdrawn
   put_book new key entry waits updates len capacity =
       let changed = sum_changed weight refl slab.slots new.slots key updates.others in
-      changed_book slab key_states held.marked new key (Some entry) (key_state_of (Some entry))
+      changed_book slab key_states kept.marked new key (Some entry) (key_state_of (Some entry))
       (key_within key_states key (λ vacant.
-      let not : true ≡ false = sym waits ∙ waits_marked (get slab key) ∙ ap state_waits (sym (held.marked key) ∙ vacant) in cc))
-      updates refl held.keys held.room capacity posted given fetched withdrawn
-      (omega (arith, held.balance, len))
-      (omega (arith, held.given_or_waiting, changed, ap one_if waits, ap weight updates.changed, one_at_most (is_waiting (Some entry))))
-      (omega (arith, held.most, len))
+      let not : true ≡ false = sym waits ∙ waits_marked (get slab key) ∙ ap state_waits (sym (kept.marked key) ∙ vacant) in cc))
+      updates refl kept.keys kept.room capacity posted given fetched withdrawn
+      (omega (arith, kept.balance, len))
+      (omega (arith, kept.given_or_waiting, changed, ap one_if waits, ap weight updates.changed, one_at_most (is_waiting (Some entry))))
+      (omega (arith, kept.most, len))
 
 -- how many entries pass a test, where one changes
 module _ {P K : Type 0} (old new : BookOf P K) (key : ℕ) (was slot : Option (BookEntry P K)) (there : entry_at old key ≡ was)

@@ -25,52 +25,52 @@ module _ (old new : BookOf Numbered Slip) (key : ℕ) (was slot : Option (BookEn
   ]
 
 -- the book with these entries and counts
-abbrev pub with_held : BookOf Numbered Slip → BoxBook → BoxBook
-with_held held book = record { held = held; spare = book.spare; made = book.made }
+abbrev pub with_inner : BookOf Numbered Slip → BoxBook → BoxBook
+with_inner inner book = record { inner = inner; spare = book.spare; made = book.made }
 
 module _ (old : BoxBook) (new : BookOf Numbered Slip) where
-  pub posts_box : (work : Task) (key : ℕ) → Posts old.held new (record { number = old.held.posted; work = work }) key
-      → PostsBox old (with_held new old) work key
+  pub posts_box : (work : Task) (key : ℕ) → Posts old.inner new (record { number = old.inner.posted; work = work }) key
+      → PostsBox old (with_inner new old) work key
   posts_box work key p = record {
     posts = p;
     spare = refl;
     made = refl;
-    boxes = omega (arith, entries_put old.held new key _ _ p.was p.puts);
+    boxes = omega (arith, entries_put old.inner new key _ _ p.was p.puts);
   }
 
-  pub takes_box : (lent : LentTask) → LetsOut old.held new lent.key (numbered_of lent) (slip_of lent) → TakesBox old (with_held new old) lent
+  pub takes_box : (lent : LentTask) → LetsOut old.inner new lent.key (numbered_of lent) (slip_of lent) → TakesBox old (with_inner new old) lent
   takes_box lent t = record {
     takes = t;
     spare = refl;
     made = refl;
-    boxes = omega (arith, entries_put old.held new lent.key _ _ t.was t.puts);
+    boxes = omega (arith, entries_put old.inner new lent.key _ _ t.was t.puts);
   }
 
   -- what is stored for a lent task that is out is its slip
-  kept_is : (lent : LentTask) (kept : Slip) → IsOut old lent → entry_at old.held lent.key ≡ Some (Out kept) → kept ≡ slip_of lent
+  kept_is : (lent : LentTask) (kept : Slip) → IsOut old lent → entry_at old.inner lent.key ≡ Some (Out kept) → kept ≡ slip_of lent
   kept_is lent kept out was = let same : Some (Out kept) ≡ Some (Out (slip_of lent)) = sym was ∙ out in cc
 
-  pub hands_back_box : (lent : LentTask) (kept : Slip) → IsOut old lent → Reopens old.held new lent.key kept (numbered_of lent)
-      → HandsBackBox old (with_held new old) lent
+  pub hands_back_box : (lent : LentTask) (kept : Slip) → IsOut old lent → Reopens old.inner new lent.key kept (numbered_of lent)
+      → HandsBackBox old (with_inner new old) lent
   hands_back_box lent kept out h = record {
-    hands_back = subst (λ slip. Reopens old.held new lent.key slip (numbered_of lent)) (kept_is lent kept out h.was) h;
+    hands_back = subst (λ slip. Reopens old.inner new lent.key slip (numbered_of lent)) (kept_is lent kept out h.was) h;
     spare = refl;
     made = refl;
-    boxes = omega (arith, entries_put old.held new lent.key _ _ h.was h.puts);
+    boxes = omega (arith, entries_put old.inner new lent.key _ _ h.was h.puts);
   }
 
-  pub gives_box : (lent : LentTask) (kept : Slip) → IsOut old lent → Finishes old.held new lent.key kept lent.work
-      → GivesBox old (with_held new old) lent
+  pub gives_box : (lent : LentTask) (kept : Slip) → IsOut old lent → Finishes old.inner new lent.key kept lent.work
+      → GivesBox old (with_inner new old) lent
   gives_box lent kept out g = record {
-    gives = subst (λ slip. Finishes old.held new lent.key slip lent.work) (kept_is lent kept out g.was) g;
+    gives = subst (λ slip. Finishes old.inner new lent.key slip lent.work) (kept_is lent kept out g.was) g;
     spare = refl;
     made = refl;
-    boxes = omega (arith, entries_put old.held new lent.key _ _ g.was g.puts);
+    boxes = omega (arith, entries_put old.inner new lent.key _ _ g.was g.puts);
   }
 
   pub fetches_box : (user pick : ℕ) (result : Option Task)
-      → IfSome result (λ done. (key : ℕ) × Fetches old.held new done key × IsPick (IsDoneAt user old.held) pick key)
-      → IfSome result (λ done. (key : ℕ) × FetchesBox old (with_held new old) done key × IsPick (IsDoneAt user old.held) pick key)
+      → IfSome result (λ done. (key : ℕ) × Fetches old.inner new done key × IsPick (IsDoneAt user old.inner) pick key)
+      → IfSome result (λ done. (key : ℕ) × FetchesBox old (with_inner new old) done key × IsPick (IsDoneAt user old.inner) pick key)
   fetches_box user pick None f = tt
   fetches_box user pick (Some done) f = (
     f.0,
@@ -78,7 +78,7 @@ module _ (old : BoxBook) (new : BookOf Numbered Slip) where
       fetches = f.1;
       spare = refl;
       made = refl;
-      boxes = omega (arith, entries_put old.held new f.0 _ _ f.1.was f.1.puts);
+      boxes = omega (arith, entries_put old.inner new f.0 _ _ f.1.was f.1.puts);
     },
     f.2,
   )
@@ -87,9 +87,9 @@ module _ (old : BoxBook) (new : BookOf Numbered Slip) where
 pub fetched : (old new : BookOf Numbered Slip) (spare : Vec Task Global) (made user pick : ℕ) (result : Option Task)
     → IfSome result (λ done. (key : ℕ) × Fetches old new done key × IsPick (IsDoneAt user old) pick key)
     → IfNone result (new ≡ old) → IsBoxBook old spare made → IsBoxBook new spare made
-fetched old new spare made user pick None f same held = subst (λ h. IsBoxBook h spare made) (sym same) held
-fetched old new spare made user pick (Some done) f same held = record {
-  few = omega (arith, held.few, entries_put old new f.0 _ _ f.1.was f.1.puts);
-  places = held.places;
-  older = older_put old new f.0 _ _ f.1.was f.1.puts held.older (omega (arith, f.1.posted)) tt;
+fetched old new spare made user pick None f same kept = subst (λ h. IsBoxBook h spare made) (sym same) kept
+fetched old new spare made user pick (Some done) f same kept = record {
+  few = omega (arith, kept.few, entries_put old new f.0 _ _ f.1.was f.1.puts);
+  places = kept.places;
+  older = older_put old new f.0 _ _ f.1.was f.1.puts kept.older (omega (arith, f.1.posted)) tt;
 }

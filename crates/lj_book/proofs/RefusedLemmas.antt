@@ -10,22 +10,22 @@ none_there : (slot : Option ℕ) (number : ℕ) → slot ≡ None → slot ≢ S
 none_there slot number none some = let e : None ≡ Some number = sym none ∙ some in cc
 
 -- where a slot changes, and its number is not the one, the one has still left
-module _ (old new : BoxBook) (key : ℕ) (slot : Option (BookEntry Numbered Slip)) (puts : Puts old.held new.held key slot)
-    (grows : old.held.posted ≤ new.held.posted) where
+module _ (old new : BoxBook) (key : ℕ) (slot : Option (BookEntry Numbered Slip)) (puts : Puts old.inner new.inner key slot)
+    (grows : old.inner.posted ≤ new.inner.posted) where
   pub left_put : (lent : LentTask) → HasLeft old lent → (lent.key ≡ key → number_at slot ≢ Some lent.number) → HasLeft new lent
   left_put lent left other = record {
     number = omega (arith, left.number, grows);
     gone = elim (cases_eq lent.key key) [
-      | inl same ↦ λ some. other same (sym (ap number_at (ap (entry_at new.held) same ∙ puts.changed)) ∙ some)
+      | inl same ↦ λ some. other same (sym (ap number_at (ap (entry_at new.inner) same ∙ puts.changed)) ∙ some)
       | inr apart ↦ λ some. left.gone (sym (ap number_at (puts.others lent.key apart)) ∙ some)
     ];
   }
 
 -- what was there had another number
-was_other : (old : BoxBook) (lent : LentTask) (key number : ℕ) → HasLeft old lent → number_at (entry_at old.held key) ≡ Some number
+was_other : (old : BoxBook) (lent : LentTask) (key number : ℕ) → HasLeft old lent → number_at (entry_at old.inner key) ≡ Some number
     → lent.key ≡ key → Some number ≢ Some lent.number
 was_other old lent key number left there same some =
-    left.gone (ap (λ k. number_at (entry_at old.held k)) same ∙ there ∙ some)
+    left.gone (ap (λ k. number_at (entry_at old.inner k)) same ∙ there ∙ some)
 
 -- a slot after a withdrawal has no number that it had not before
 left_slot : (mine : Option (BookEntry Numbered Slip) → Bool) (slot : Option (BookEntry Numbered Slip)) (passes : Bool) (number : ℕ)
@@ -37,7 +37,7 @@ left_slot mine slot false number apart some = apart some
 pub change_keeps : (old new : BoxBook) (lent : LentTask) → Changes old new → HasLeft old lent → HasLeft new lent
 change_keeps old new lent (Posting work key p) left =
     left_put old new key _ p.posts.puts (omega (arith, p.posts.posted)) lent left
-    (λ same some. let e : old.held.posted ≡ lent.number = cc in omega (arith, left.number, e))
+    (λ same some. let e : old.inner.posted ≡ lent.number = cc in omega (arith, left.number, e))
 change_keeps old new lent (Taking its t) left =
     left_put old new its.key _ t.takes.puts (omega (arith, t.takes.counts.posted)) lent left
     (was_other old lent its.key its.number left (ap number_at t.takes.was))
@@ -50,12 +50,12 @@ change_keeps old new lent (Fetching work key f) left =
     left_put old new key None f.fetches.puts (omega (arith, f.fetches.posted)) lent left (λ same. none_there None lent.number refl)
 change_keeps old new lent (Withdrawing user w) left = record {
   number = omega (arith, left.number, w.withdraws.posted);
-  gone = λ some. left_slot (is_slot_of user) (entry_at old.held lent.key) (is_slot_of user (entry_at old.held lent.key)) lent.number
+  gone = λ some. left_slot (is_slot_of user) (entry_at old.inner lent.key) (is_slot_of user (entry_at old.inner lent.key)) lent.number
       left.gone (sym (ap number_at (w.withdraws.slots lent.key)) ∙ some);
 }
 change_keeps old new lent (Stocking same) left = record {
-  number = omega (arith, left.number, ap (λ (held : BookOf Numbered Slip). held.posted) same);
-  gone = λ some. left.gone (sym (ap (λ held. number_at (entry_at held lent.key)) same) ∙ some);
+  number = omega (arith, left.number, ap (λ (inner : BookOf Numbered Slip). inner.posted) same);
+  gone = λ some. left.gone (sym (ap (λ inner. number_at (entry_at inner lent.key)) same) ∙ some);
 }
 
 -- so do any number of calls
@@ -64,14 +64,14 @@ run_keeps zero old new lent same left = subst (λ book. HasLeft book lent) (sym 
 run_keeps (suc calls) old new lent run left = run_keeps calls run.0 new lent run.2 (change_keeps old run.0 lent run.1 left)
 
 -- what is out has a number below the count of posts
-out_below : (old : BoxBook) (lent : LentTask) → AreOlder old.held → IsOut old lent → lent.number < old.held.posted
-out_below old lent older out = subst (IsBelow old.held.posted) out (older lent.key)
+out_below : (old : BoxBook) (lent : LentTask) → AreOlder old.inner → IsOut old lent → lent.number < old.inner.posted
+out_below old lent older out = subst (IsBelow old.inner.posted) out (older lent.key)
 
 -- a user is that user
 same_user : (user : ℕ) → nat_eq user user ≡ true
 same_user user = grind arith
 
-pub withdrawn_left : (old new : BoxBook) (lent : LentTask) → AreOlder old.held → IsOut old lent → WithdrawsBox (user_of lent.work) old new
+pub withdrawn_left : (old new : BoxBook) (lent : LentTask) → AreOlder old.inner → IsOut old lent → WithdrawsBox (user_of lent.work) old new
     → HasLeft new lent
 withdrawn_left old new lent older out w = record {
   number = omega (arith, out_below old lent older out, w.withdraws.posted);
@@ -80,7 +80,7 @@ withdrawn_left old new lent older out w = record {
       ∙ ap (λ passes. number_at (cond passes None (Some (Out (slip_of lent))))) (same_user (user_of lent.work)));
 }
 
-pub given_left : (old new : BoxBook) (lent : LentTask) → AreOlder old.held → GivesBox old new lent → HasLeft new lent
+pub given_left : (old new : BoxBook) (lent : LentTask) → AreOlder old.inner → GivesBox old new lent → HasLeft new lent
 given_left old new lent older g = record {
   number = omega (arith, out_below old lent older g.gives.was, g.gives.posted);
   gone = none_there _ lent.number (ap number_at g.gives.puts.changed);

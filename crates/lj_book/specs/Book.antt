@@ -29,15 +29,15 @@ user_of work = work.name.label.user
 module _ {P K : Type 0} where
   -- the entry under a key
   abbrev pub entry_at : BookOf P K → ℕ → Option (BookEntry P K)
-  entry_at held key = slice_index_or held.slots key None
+  entry_at inner key = slice_index_or inner.slots key None
 
   -- the number of entries
   abbrev pub entry_count : BookOf P K → ℕ
-  entry_count held = count_by is_some held.slots
+  entry_count inner = count_by is_some inner.slots
 
   -- there is room for one more entry, and one more post can be counted
   abbrev pub HasRoom : BookOf P K → Type 0
-  HasRoom held = (entry_count held < MAX_ENTRIES) × (held.posted < 2 ^ 64 - 1)
+  HasRoom inner = (entry_count inner < MAX_ENTRIES) × (inner.posted < 2 ^ 64 - 1)
 
   -- the state of the entry under a key
   abbrev pub key_state_of : Option (BookEntry P K) → KeyState
@@ -55,11 +55,11 @@ module _ {P K : Type 0} where
 
   -- the entry under the key is open
   abbrev pub IsOpenAt : BookOf P K → ℕ → Type 0
-  IsOpenAt held key = key_state_of (entry_at held key) ≡ ToTake
+  IsOpenAt inner key = key_state_of (entry_at inner key) ≡ ToTake
 
   -- the entry under the key is a result of this user
   abbrev pub IsDoneAt : ℕ → BookOf P K → ℕ → Type 0
-  IsDoneAt user held key = key_state_of (entry_at held key) ≡ ToFetch user
+  IsDoneAt user inner key = key_state_of (entry_at inner key) ≡ ToFetch user
 
   -- this is the entry under the key, and every other key has its old one
   pub record Puts (old new : BookOf P K) (key : ℕ) (slot : Option (BookEntry P K)) : Type 0 where

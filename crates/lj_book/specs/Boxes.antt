@@ -19,8 +19,8 @@ box_count_by in_open in_kept slots = count_by (has_box_by in_open in_kept) slots
 
 -- By value each entry holds a box, and of MAX_ENTRIES + 1 boxes one more is always spare, to change an entry. All fit
 -- in the list of spare boxes.
-pub record HasBoxes (held : BookOf Task Task) (spare : Vec Task Global) : Type 0 where
-  pub boxes : vec_len spare + entry_count held ≡ MAX_ENTRIES + 1
+pub record HasBoxes (inner : BookOf Task Task) (spare : Vec Task Global) : Type 0 where
+  pub boxes : vec_len spare + entry_count inner ≡ MAX_ENTRIES + 1
   pub one : 0 < vec_len spare
   pub places : MAX_ENTRIES + 1 ≤ vec_capacity spare
 
@@ -58,7 +58,7 @@ slip_of lent = slip_for (numbered_of lent)
 
 -- entries and counts, how many boxes are spare, and how many were made
 pub record BoxBook : Type 0 where
-  pub held : BookOf Numbered Slip
+  pub inner : BookOf Numbered Slip
   pub spare : ℕ
   pub made : ℕ
 
@@ -73,15 +73,15 @@ box_count = box_count_by (λ opened. true) (λ kept. false)
 -- how many boxes the book accounts for: the spare ones, and one for each entry, in it or out with its task; the others
 -- are lent
 abbrev pub boxes : BoxBook → ℕ
-boxes book = book.spare + entry_count book.held
+boxes book = book.spare + entry_count book.inner
 
 -- how many boxes are in the book, spare or in entries
 abbrev pub boxes_inside : BoxBook → ℕ
-boxes_inside book = book.spare + box_count book.held.slots
+boxes_inside book = book.spare + box_count book.inner.slots
 
 -- the lent task is out under its key, with the number of its post
 abbrev pub IsOut : BoxBook → LentTask → Type 0
-IsOut book lent = entry_at book.held lent.key ≡ Some (Out (slip_of lent))
+IsOut book lent = entry_at book.inner lent.key ≡ Some (Out (slip_of lent))
 
 -- the number of the entry, if it has one, is below this one
 abbrev pub IsBelow : ℕ → Option (BookEntry Numbered Slip) → Type 0
@@ -92,13 +92,13 @@ IsBelow posted (Some (Done work)) = Unit {0}
 
 -- each number in the book is below the count of posts, so that each post has its own number
 abbrev pub AreOlder : BookOf Numbered Slip → Type 0
-AreOlder held = (k : ℕ) → IsBelow held.posted (entry_at held k)
+AreOlder inner = (k : ℕ) → IsBelow inner.posted (entry_at inner k)
 
 -- The spare boxes and the entries are at most the boxes that were made. All boxes fit in the list of spare ones.
-pub record IsBoxBook (held : BookOf Numbered Slip) (spare : Vec Task Global) (made : ℕ) : Type 0 where
-  pub few : vec_len spare + entry_count held ≤ made
+pub record IsBoxBook (inner : BookOf Numbered Slip) (spare : Vec Task Global) (made : ℕ) : Type 0 where
+  pub few : vec_len spare + entry_count inner ≤ made
   pub places : made ≤ vec_capacity spare
-  pub older : AreOlder held
+  pub older : AreOlder inner
 
 -- the entry is one of this user
 abbrev pub is_slot_of : ℕ → Option (BookEntry Numbered Slip) → Bool
@@ -107,49 +107,49 @@ is_slot_of = is_of_by (λ opened. user_of opened.work) (λ kept. kept.user)
 -- a book without entries, whose boxes are all spare
 abbrev pub empty_box_book : ℕ → BoxBook
 empty_box_book made = record {
-  held = record { slots = []; posted = 0; given = 0; fetched = 0; withdrawn = 0 };
+  inner = record { slots = []; posted = 0; given = 0; fetched = 0; withdrawn = 0 };
   spare = made;
   made = made;
 }
 
 -- the task is open in its box, with the number of this post, under a key that was vacant
 pub record PostsBox (old new : BoxBook) (work : Task) (key : ℕ) : Type 0 where
-  pub posts : Posts old.held new.held (record { number = old.held.posted; work = work }) key
+  pub posts : Posts old.inner new.inner (record { number = old.inner.posted; work = work }) key
   pub spare : new.spare ≡ old.spare
   pub made : new.made ≡ old.made
   pub boxes : boxes new ≡ boxes old + 1
 
 -- the task that stood open is out, and its box with it
 pub record TakesBox (old new : BoxBook) (lent : LentTask) : Type 0 where
-  pub takes : LetsOut old.held new.held lent.key (numbered_of lent) (slip_of lent)
+  pub takes : LetsOut old.inner new.inner lent.key (numbered_of lent) (slip_of lent)
   pub spare : new.spare ≡ old.spare
   pub made : new.made ≡ old.made
   pub boxes : boxes new ≡ boxes old
 
 -- the task that was out is open again, in its box
 pub record HandsBackBox (old new : BoxBook) (lent : LentTask) : Type 0 where
-  pub hands_back : Reopens old.held new.held lent.key (slip_of lent) (numbered_of lent)
+  pub hands_back : Reopens old.inner new.inner lent.key (slip_of lent) (numbered_of lent)
   pub spare : new.spare ≡ old.spare
   pub made : new.made ≡ old.made
   pub boxes : boxes new ≡ boxes old
 
 -- the task that was out has its result, in its box
 pub record GivesBox (old new : BoxBook) (lent : LentTask) : Type 0 where
-  pub gives : Finishes old.held new.held lent.key (slip_of lent) lent.work
+  pub gives : Finishes old.inner new.inner lent.key (slip_of lent) lent.work
   pub spare : new.spare ≡ old.spare
   pub made : new.made ≡ old.made
   pub boxes : boxes new ≡ boxes old
 
 -- the result has left the book in its box
 pub record FetchesBox (old new : BoxBook) (work : Task) (key : ℕ) : Type 0 where
-  pub fetches : Fetches old.held new.held work key
+  pub fetches : Fetches old.inner new.inner work key
   pub spare : new.spare ≡ old.spare
   pub made : new.made ≡ old.made
   pub boxes : boxes new + 1 ≡ boxes old
 
 -- every entry of the user has left the book; the boxes in them are spare, and those of tasks that are out are lent
 pub record WithdrawsBox (user : ℕ) (old new : BoxBook) : Type 0 where
-  pub withdraws : Removes (is_slot_of user) old.held new.held
+  pub withdraws : Removes (is_slot_of user) old.inner new.inner
   pub made : new.made ≡ old.made
   pub inside : boxes_inside new ≡ boxes_inside old
   pub boxes : boxes new ≤ boxes old

@@ -13,8 +13,8 @@ number_at (Some (Done work)) = None
 
 -- the lent task is no longer under its key, and later posts have greater numbers
 pub record HasLeft (book : BoxBook) (lent : LentTask) : Type 0 where
-  pub number : lent.number < book.held.posted
-  pub gone : number_at (entry_at book.held lent.key) ≢ Some lent.number
+  pub number : lent.number < book.inner.posted
+  pub gone : number_at (entry_at book.inner lent.key) ≢ Some lent.number
 
 -- one call changes the book
 pub data Changes (old new : BoxBook) : Type 0 where
@@ -24,7 +24,7 @@ pub data Changes (old new : BoxBook) : Type 0 where
   Handing_back : (lent : LentTask) → HandsBackBox old new lent → Changes old new
   Fetching : (work : Task) (key : ℕ) → FetchesBox old new work key → Changes old new
   Withdrawing : (user : ℕ) → WithdrawsBox user old new → Changes old new
-  Stocking : new.held ≡ old.held → Changes old new
+  Stocking : new.inner ≡ old.inner → Changes old new
 
 -- this many calls change the book, one after the other
 abbrev pub Runs : ℕ → BoxBook → BoxBook → Type 0

@@ -22,7 +22,7 @@ pub type Key = usize;
 /// and `fetch` copy them.
 #[derive(Drop)]
 pub struct Book {
-    held: BookOf<TaskBox, TaskBox>,
+    inner: BookOf<TaskBox, TaskBox>,
     spare: Vec<TaskBox>,
 }
 
@@ -32,9 +32,9 @@ impl Model for Book {
 
     ghost Value = { Book };
 
-    ghost view = { λ b. b.held };
+    ghost view = { λ b. b.inner };
 
-    ghost invariant = { λ b. HasBoxes b.held b.spare };
+    ghost invariant = { λ b. HasBoxes b.inner b.spare };
 }
 
 impl Book {
@@ -46,9 +46,9 @@ impl Book {
         ensures { IfOk result (λ book.
             book ≡ record { slots = []; posted = 0; given = 0; fetched = 0; withdrawn = 0 }) }
     {
-        let held = BookOf::new(alloc)?;
+        let inner = BookOf::new(alloc)?;
         let spare = boxes(alloc, MAX_ENTRIES + 1)?;
-        Ok(Book { held, spare })
+        Ok(Book { inner, spare })
     }
 
     /// Posts a copy of a task, which is then open.
@@ -60,12 +60,12 @@ impl Book {
         ensures posts { OnOk result ((key : ℕ) × Posts self.old self.new task.now key) }
         ensures unchanged { OnErr result (self.new ≡ self.old) }
     {
-        if !self.held.has_room() {
+        if !self.inner.has_room() {
             return Err(NoRoom);
         }
         let mut opened = spare_box(&mut self.spare);
         opened.copy_from(task);
-        self.held.post(opened);
+        self.inner.post(opened);
         Ok(())
     }
 
@@ -97,11 +97,11 @@ impl Book {
         ensures unchanged { IfNone result (self.new ≡ self.old) }
         ensures same_out { IfNone result (out.new ≡ out.old) }
     {
-        let key = self.held.find_open(pick)?;
-        out.copy_from(self.held.open_at(key).task());
+        let key = self.inner.find_open(pick)?;
+        out.copy_from(self.inner.open_at(key).task());
         let mut kept = spare_box(&mut self.spare);
         kept.copy_from(out);
-        let opened = self.held.let_out(key, kept);
+        let opened = self.inner.let_out(key, kept);
         self.spare.push_reserved(opened);
         Some(key)
     }
@@ -134,7 +134,7 @@ impl Book {
             return Err(NotOut);
         }
         let given = spare_box(&mut self.spare).filled(done);
-        let kept = self.held.finish(key, given);
+        let kept = self.inner.finish(key, given);
         self.spare.push_reserved(kept);
         Ok(())
     }
@@ -172,7 +172,7 @@ impl Book {
         }
         let mut opened = spare_box(&mut self.spare);
         opened.copy_from(task);
-        let kept = self.held.reopen(key, opened);
+        let kept = self.inner.reopen(key, opened);
         self.spare.push_reserved(kept);
         Ok(())
     }
@@ -186,7 +186,7 @@ impl Book {
         ensures unchanged { result ≡ false → self.new ≡ self.old }
         ensures same_out { result ≡ false → out.new ≡ out.old }
     {
-        let Some(done) = self.held.fetch(user, pick) else {
+        let Some(done) = self.inner.fetch(user, pick) else {
             return false;
         };
         out.copy_from(&done.done());
@@ -217,15 +217,15 @@ impl Book {
     pub fn withdraw(&mut self, user: u8)
         ensures { Withdraws user self.old self.new }
     {
-        let Book { held, spare } = self;
-        held.withdraw(user, spare);
+        let Book { inner, spare } = self;
+        inner.withdraw(user, spare);
     }
 
     /// Returns whether this very task is out under the key.
     fn is_out(&self, key: Key, task: &Task) -> bool
         ensures { IsTrue result ↔ (entry_at self.now key ≡ Some (BookEntry.Out task.now)) }
     {
-        match self.held.kept_at(key) {
+        match self.inner.kept_at(key) {
             Some(kept) => kept.task().is(task),
             None => false,
         }
@@ -243,6 +243,6 @@ impl Book {
         ensures balance { result.posted ≡ result.fetched + result.withdrawn + result.entries }
         ensures given_posted { result.given ≤ result.posted }
     {
-        self.held.counts()
+        self.inner.counts()
     }
 }

@@ -20,7 +20,7 @@ use std::marker::Model;
 /// withdrawn, even if its key is in use again.
 #[derive(Drop)]
 pub struct BoxBook {
-    held: BookOf<Numbered, Slip>,
+    inner: BookOf<Numbered, Slip>,
     spare: Vec<TaskBox>,
     made: usize,
 }
@@ -31,9 +31,9 @@ impl Model for BoxBook {
 
     ghost Value = { BoxBook };
 
-    ghost view = { λ b. record { held = b.held; spare = vec_len b.spare; made = b.made } };
+    ghost view = { λ b. record { inner = b.inner; spare = vec_len b.spare; made = b.made } };
 
-    ghost invariant = { λ b. IsBoxBook b.held b.spare b.made };
+    ghost invariant = { λ b. IsBoxBook b.inner b.spare b.made };
 }
 
 impl BoxBook {
@@ -44,9 +44,9 @@ impl BoxBook {
     pub fn new(alloc: Global, made: usize) -> Result<BoxBook, AllocError>
         ensures { IfOk result (λ book. book ≡ empty_box_book made) }
     {
-        let held = BookOf::new(alloc)?;
+        let inner = BookOf::new(alloc)?;
         let spare = boxes(alloc, made)?;
-        Ok(BoxBook { held, spare, made })
+        Ok(BoxBook { inner, spare, made })
     }
 
     /// Lends a spare box.
@@ -88,7 +88,7 @@ impl BoxBook {
     /// Promise: exactly where the book has room and has lent a box, the task is open in its box, under a number that no
     /// post had; else the box is handed back, and the book is as before.
     pub fn post_box(&mut self, task: TaskBox) -> Result<(), TaskBox>
-        ensures room { IsOk result ↔ (HasRoom self.old.held × (boxes_of self.old < self.old.made)) }
+        ensures room { IsOk result ↔ (HasRoom self.old.inner × (boxes_of self.old < self.old.made)) }
         ensures posts { OnOk result ((key : ℕ) × PostsBox self.old self.new task key) }
         ensures handed_back { IfErr result (λ refused. refused ≡ task) }
         ensures unchanged { OnErr result (self.new ≡ self.old) }
@@ -96,8 +96,8 @@ impl BoxBook {
         if !self.has_room() {
             return Err(task);
         }
-        let number = self.held.posted();
-        self.held.post(Numbered::new(number, task));
+        let number = self.inner.posted();
+        self.inner.post(Numbered::new(number, task));
         Ok(())
     }
 
@@ -107,13 +107,13 @@ impl BoxBook {
     /// out; none exactly where none is open.
     pub fn take_box(&mut self, pick: usize) -> Option<LentTask>
         ensures some { IfSome result (λ lent. TakesBox self.old self.new lent) }
-        ensures picked { IfSome result (λ lent. IsPick (IsOpenAt self.old.held) pick lent.key) }
-        ensures none { IfNone result ((k : ℕ) → ¬ IsOpenAt self.old.held k) }
+        ensures picked { IfSome result (λ lent. IsPick (IsOpenAt self.old.inner) pick lent.key) }
+        ensures none { IfNone result ((k : ℕ) → ¬ IsOpenAt self.old.inner k) }
         ensures unchanged { IfNone result (self.new ≡ self.old) }
     {
-        let key = self.held.find_open(pick)?;
-        let slip = self.held.open_at(key).slip();
-        let Numbered { number, task, .. } = self.held.let_out(key, slip);
+        let key = self.inner.find_open(pick)?;
+        let slip = self.inner.open_at(key).slip();
+        let Numbered { number, task, .. } = self.inner.let_out(key, slip);
         Some(Lent {
             key,
             number,
@@ -137,7 +137,7 @@ impl BoxBook {
         if !self.is_out(lent.key, lent.number, lent.done().task()) {
             return Err(lent.boxed);
         }
-        self.held.finish(lent.key, lent.boxed);
+        self.inner.finish(lent.key, lent.boxed);
         Ok(())
     }
 
@@ -154,7 +154,7 @@ impl BoxBook {
         if !self.is_out(lent.key, lent.number, lent.task()) {
             return Err(lent.boxed);
         }
-        self.held
+        self.inner
             .reopen(lent.key, Numbered::new(lent.number, lent.boxed));
         Ok(())
     }
@@ -165,11 +165,11 @@ impl BoxBook {
     /// exactly where the user has none.
     pub fn fetch_box(&mut self, user: u8, pick: usize) -> Option<DoneBox>
         ensures some { IfSome result (λ done. (key : ℕ) × FetchesBox self.old self.new done key
-            × IsPick (IsDoneAt user self.old.held) pick key) }
-        ensures none { IfNone result ((k : ℕ) → ¬ IsDoneAt user self.old.held k) }
+            × IsPick (IsDoneAt user self.old.inner) pick key) }
+        ensures none { IfNone result ((k : ℕ) → ¬ IsDoneAt user self.old.inner k) }
         ensures unchanged { IfNone result (self.new ≡ self.old) }
     {
-        self.held.fetch(user, pick)
+        self.inner.fetch(user, pick)
     }
 
     /// Removes every entry of the user, also those of tasks that are out. The boxes in them are spare then.
@@ -178,29 +178,29 @@ impl BoxBook {
     pub fn withdraw(&mut self, user: u8)
         ensures { WithdrawsBox user self.old self.new }
     {
-        let BoxBook { held, spare, .. } = self;
-        held.withdraw(user, spare);
+        let BoxBook { inner, spare, .. } = self;
+        inner.withdraw(user, spare);
     }
 
     /// Returns whether a box that was lent can be posted.
     fn has_room(&self) -> bool
-        ensures { IsTrue result ↔ (HasRoom self.now.held × (boxes_of self.now < self.now.made)) }
+        ensures { IsTrue result ↔ (HasRoom self.now.inner × (boxes_of self.now < self.now.made)) }
     {
-        self.held.has_room() && self.is_any_lent()
+        self.inner.has_room() && self.is_any_lent()
     }
 
     /// Returns whether a box is lent that is not out with the task of an entry.
     fn is_any_lent(&self) -> bool
         ensures { IsTrue result ↔ (boxes_of self.now < self.now.made) }
     {
-        self.spare.len() + self.held.len() < self.made
+        self.spare.len() + self.inner.len() < self.made
     }
 
     /// Returns whether a task of the same user is out under the key with this number.
     fn is_out(&self, key: usize, number: u64, task: &Task) -> bool
         ensures { IsTrue result ↔ IsOut self.now (record { key = key; number = number; work = task.now }) }
     {
-        match self.held.kept_at(key) {
+        match self.inner.kept_at(key) {
             Some(kept) => kept.number == number && kept.user == task.name().label.user,
             None => false,
         }
@@ -208,30 +208,30 @@ impl BoxBook {
 
     /// Shows that each number in the book is below the count of posts, so no two posts have the same number.
     pub fn numbers_are_older(&self)
-        ensures { AreOlder self.now.held }
+        ensures { AreOlder self.now.inner }
     {
-        let _held = &self.held;
+        let _inner = &self.inner;
     }
 
     /// Shows that the spare boxes and the entries are together at most the boxes that were made; the other boxes are lent.
     pub fn boxes_are_few(&self)
         ensures { boxes_of self.now ≤ self.now.made }
     {
-        let _held = &self.held;
+        let _inner = &self.inner;
     }
 
     /// Returns the counts. Each posted task has been fetched or withdrawn, or is still in the book.
     ///
     /// Promise: the posted tasks are those fetched, those withdrawn and those in the book; no more were given than posted.
     pub fn counts(&self) -> Counts
-        ensures posted { result.posted ≡ self.now.held.posted }
-        ensures given { result.given ≡ self.now.held.given }
-        ensures fetched { result.fetched ≡ self.now.held.fetched }
-        ensures withdrawn { result.withdrawn ≡ self.now.held.withdrawn }
-        ensures entries { result.entries ≡ entry_count self.now.held }
+        ensures posted { result.posted ≡ self.now.inner.posted }
+        ensures given { result.given ≡ self.now.inner.given }
+        ensures fetched { result.fetched ≡ self.now.inner.fetched }
+        ensures withdrawn { result.withdrawn ≡ self.now.inner.withdrawn }
+        ensures entries { result.entries ≡ entry_count self.now.inner }
         ensures balance { result.posted ≡ result.fetched + result.withdrawn + result.entries }
         ensures given_posted { result.given ≤ result.posted }
     {
-        self.held.counts()
+        self.inner.counts()
     }
 }

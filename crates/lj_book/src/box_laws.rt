@@ -7,9 +7,9 @@ ghost use Rattle.lj_book.specs.Refused.{HasLeft, Runs};
 /// Promise: a box whose task was withdrawn while it was out, or whose result was given, is refused from then on, whatever
 /// is posted, taken, given, handed back, fetched or withdrawn later.
 pub fn boxes_that_left_are_refused()
-    ensures withdrawn { (old new : BoxBook) (lent : LentTask) → AreOlder old.held → IsOut old lent
+    ensures withdrawn { (old new : BoxBook) (lent : LentTask) → AreOlder old.inner → IsOut old lent
         → WithdrawsBox (user_of lent.work) old new → HasLeft new lent }
-    ensures given { (old new : BoxBook) (lent : LentTask) → AreOlder old.held → GivesBox old new lent → HasLeft new lent }
+    ensures given { (old new : BoxBook) (lent : LentTask) → AreOlder old.inner → GivesBox old new lent → HasLeft new lent }
     ensures stays { (calls : ℕ) (old new : BoxBook) (lent : LentTask) → Runs calls old new → HasLeft old lent
         → HasLeft new lent }
     ensures refused { (book : BoxBook) (lent : LentTask) → HasLeft book lent → ¬ IsOut book lent }

@@ -91,52 +91,52 @@ measures (Some session) h = refl
 
 -- A command waits for a session of the user, and takes turns of its own or may wait for others.
 abbrev Waits : UserState → (List ℕ → Type 0) → Order → Type 0
-Waits owned Others command = IsSomeAnd (waits_for command)
-    (λ name. IsSome (value_named name (user_of owned).sessions) × ((0 < turns (user_of owned) command) ⊎ Others name))
+Waits present Others command = IsSomeAnd (waits_for command)
+    (λ name. IsSome (value_named name (user_of present).sessions) × ((0 < turns (user_of present) command) ⊎ Others name))
 
-own_there : (owned : UserState) (Others : List ℕ → Type 0) (command : Order) → 0 < turns (user_of owned) command → Waits owned Others command
+own_there : (present : UserState) (Others : List ℕ → Type 0) (command : Order) → 0 < turns (user_of present) command → Waits present Others command
 unfolding turns waits_for
-own_there owned Others (Advance name n) more = (advances n (value_named name (user_of owned).sessions) more, inl more)
-own_there owned Others (Measure name) more = (measures (value_named name (user_of owned).sessions) more, inl more)
-own_there owned Others command more = absurd (omega (arith, more))
+own_there present Others (Advance name n) more = (advances n (value_named name (user_of present).sessions) more, inl more)
+own_there present Others (Measure name) more = (measures (value_named name (user_of present).sessions) more, inl more)
+own_there present Others command more = absurd (omega (arith, more))
 
 -- so does one before which turns come
-waits_there : (owned : UserState) (Others : List ℕ → Type 0) → ((name : List ℕ) → 0 < pending_in owned name → Others name)
-    → (command : Order) → 0 < turns_before owned command → Waits owned Others command
-waits_there owned Others may command some = by_test (nat_lt 0 (steps_before owned command))
-    (λ t. for_steps (waits_for command) refl (ltb-true 0 (steps_before owned command) t))
-    (λ t. let none = ltb-false 0 (steps_before owned command) t in own_there owned Others command (omega (arith, some, none)))
+waits_there : (present : UserState) (Others : List ℕ → Type 0) → ((name : List ℕ) → 0 < pending_in present name → Others name)
+    → (command : Order) → 0 < turns_before present command → Waits present Others command
+waits_there present Others may command some = by_test (nat_lt 0 (steps_before present command))
+    (λ t. for_steps (waits_for command) refl (ltb-true 0 (steps_before present command) t))
+    (λ t. let none = ltb-false 0 (steps_before present command) t in own_there present Others command (omega (arith, some, none)))
   where
-    there : (name : List ℕ) → 0 < pending_in owned name → (o : Option LiveSession) → live_session owned name ≡ o
-        → IsSome (value_named name (user_of owned).sessions)
+    there : (name : List ℕ) → 0 < pending_in present name → (o : Option LiveSession) → live_session present name ≡ o
+        → IsSome (value_named name (user_of present).sessions)
     there name more None e = absurd (let none = rw e at more in omega (arith, none))
-    there name more (Some held) e = ap is_some (named-held owned name held e)
+    there name more (Some held) e = ap is_some (named-held present name held e)
 
-    for_steps : (o : Option (List ℕ)) → waits_for command ≡ o → 0 < steps_before owned command → Waits owned Others command
-    for_steps None e more = absurd (let none = ap (λ o. option_map_or (pending_in owned) o 0) e in omega (arith, none, more))
+    for_steps : (o : Option (List ℕ)) → waits_for command ≡ o → 0 < steps_before present command → Waits present Others command
+    for_steps None e more = absurd (let none = ap (λ o. option_map_or (pending_in present) o 0) e in omega (arith, none, more))
     for_steps (Some name) e more =
-        let pending : 0 < pending_in owned name = subst (λ o. 0 < option_map_or (pending_in owned) o 0) e more in
-        subst (λ o. IsSomeAnd o (λ name. IsSome (value_named name (user_of owned).sessions)
-        × ((0 < turns (user_of owned) command) ⊎ Others name))) (sym e)
-        (there name pending (live_session owned name) refl, inr (may name pending))
+        let pending : 0 < pending_in present name = subst (λ o. 0 < option_map_or (pending_in present) o 0) e more in
+        subst (λ o. IsSomeAnd o (λ name. IsSome (value_named name (user_of present).sessions)
+        × ((0 < turns (user_of present) command) ⊎ Others name))) (sym e)
+        (there name pending (live_session present name) refl, inr (may name pending))
 
 -- a load takes no turns, and none come before it
-lost_before : (owned : UserState) (found item : Item) → IsLost found item → item_before owned item ≡ 0
+lost_before : (present : UserState) (found item : Item) → IsLost found item → item_before present item ≡ 0
 unfolding turns waits_for
-lost_before owned found item l = ap (item_before owned) l.item_is
+lost_before present found item l = ap (item_before present) l.item_is
 
-may_wait : (start : UserState) (before : List Item) (marks : List Bool) (owned : UserState) (found item : Item)
-    → HasPendingAfterAll start before marks owned → IsHandedOut found item → 0 < item_before owned item
-    → MayWait start before marks (user_of owned) found
-may_wait start before marks owned found item pending (inl same) some = of found (subst (λ i. 0 < item_before owned i) same some)
+may_wait : (start : UserState) (before : List Item) (marks : List Bool) (present : UserState) (found item : Item)
+    → HasPendingAfterAll start before marks present → IsHandedOut found item → 0 < item_before present item
+    → MayWait start before marks (user_of present) found
+may_wait start before marks present found item pending (inl same) some = of found (subst (λ i. 0 < item_before present i) same some)
   where
-    of : (item : Item) → 0 < item_before owned item → MayWait start before marks (user_of owned) item
-    of (Command command) more = waits_there owned (λ name. 0 < most_pending start before marks name)
+    of : (item : Item) → 0 < item_before present item → MayWait start before marks (user_of present) item
+    of (Command command) more = waits_there present (λ name. 0 < most_pending start before marks name)
         (λ name some. let few = pending name in omega (arith, few, some)) command more
     of (Bad fault) more = absurd (omega (arith, more))
     of (Last fault) more = absurd (omega (arith, more))
-may_wait start before marks owned found item pending (inr l) some =
-    let none = lost_before owned found item l in absurd (omega (arith, none, some))
+may_wait start before marks present found item pending (inr l) some =
+    let none = lost_before present found item l in absurd (omega (arith, none, some))
 
 -- the most steps that may be pending after one item more
 most-more : (user : User) (items : List Item) (marks : List Bool) (item : Item) (mark : Bool) (name : List ℕ) (n : ℕ)
@@ -173,17 +173,17 @@ most_alike user found item name n (inl same) = ap (λ i. most_after user i name 
 most_alike user found item name n (inr l) = let both = most_lost user found item name n l in both.0 ∙ sym both.1
 
 -- no more steps are pending than may be, after one item more
-pending-within : (start : UserState) (items : List Item) (marks : List Bool) (owned : UserState) (found item : Item) (mark : Bool)
-    (last : UserState) → HasPendingAfterAll start items marks owned → user_of owned ≡ last_user (user_of start) items marks
-    → length marks ≡ length items → IsHandedOut found item → HasPendingAfter owned item last
+pending-within : (start : UserState) (items : List Item) (marks : List Bool) (present : UserState) (found item : Item) (mark : Bool)
+    (last : UserState) → HasPendingAfterAll start items marks present → user_of present ≡ last_user (user_of start) items marks
+    → length marks ≡ length items → IsHandedOut found item → HasPendingAfter present item last
     → HasPendingAfterAll start (items ++ found ∷ []) (marks ++ mark ∷ []) last
-pending-within start items marks owned found item mark last before same many handed after name =
+pending-within start items marks present found item mark last before same many handed after name =
     subst (λ n. pending_in last name ≤ n)
     (sym (most-more (user_of start) items marks found mark name (pending_in start name) many)) (subst
     (λ u. pending_in last name ≤ most_after u found name (most_pending start items marks name)) same
     (let few = after name in
-    let alike = most_alike (user_of owned) found item name (pending_in owned name) handed in
-    let more = most-monotone (user_of owned) found name (pending_in owned name) (most_pending start items marks name) (before name) in
+    let alike = most_alike (user_of present) found item name (pending_in present name) handed in
+    let more = most-monotone (user_of present) found name (pending_in present name) (most_pending start items marks name) (before name) in
     omega (arith, few, alike, more)))
 
 -- what is handed out for an item takes the same tiles
@@ -262,16 +262,16 @@ serving-start start first was old none is_open = record {
   errors = refl;
 }
 
-module _ (start : UserState) (first now : LineReader) (was is : Option (List ℕ)) (old new : Seen) (owned : UserState)
-    (s : Serving start first now was is old new owned) where
+module _ (start : UserState) (first now : LineReader) (was is : Option (List ℕ)) (old new : Seen) (present : UserState)
+    (s : Serving start first now was is old new present) where
   abbrev user : User
   user = user_of start
 
   -- the work goes on
-  pub serving-goes : (next : UserState) (newer : Seen) → user_of next ≡ user_of owned
-      → CountsRise (tiles_to_come owned - tiles_to_come next) new newer
-      → HandedWithin (tiles_to_come owned) (tiles_to_come next) new newer
-      → ((name : List ℕ) → pending_in next name ≤ pending_in owned name)
+  pub serving-goes : (next : UserState) (newer : Seen) → user_of next ≡ user_of present
+      → CountsRise (tiles_to_come present - tiles_to_come next) new newer
+      → HandedWithin (tiles_to_come present) (tiles_to_come next) new newer
+      → ((name : List ℕ) → pending_in next name ≤ pending_in present name)
       → Serving start first now was is old newer next
   serving-goes next newer same risen handed fewer = record {
     read = s.read;
@@ -285,8 +285,8 @@ module _ (start : UserState) (first now : LineReader) (was is : Option (List ℕ
     are_marks = s.are_marks;
     written_is = s.written_is;
     next_is = same ∙ s.next_is;
-    counted = rises_more (tiles user s.items s.marks + tiles_pending start - tiles_to_come owned)
-        (tiles_to_come owned - tiles_to_come next)
+    counted = rises_more (tiles user s.items s.marks + tiles_pending start - tiles_to_come present)
+        (tiles_to_come present - tiles_to_come next)
         (tiles user s.items s.marks + tiles_pending start - tiles_to_come next) s.counted risen (omega arith);
     handed = let before = s.handed in omega (arith, before, handed);
     pending = λ name. let before = s.pending name in let few = fewer name in omega (arith, before, few);
@@ -312,7 +312,7 @@ module _ (start : UserState) (first now : LineReader) (was is : Option (List ℕ
 
   -- before the next item the pool is given up
   pub serving-stops : (halt : Halt) (newer : Seen) → MAX_AHEAD < length newer.owed
-      → ((task : Task) → Contains newer.owed task → 0 < pending_in owned task.name.label.session)
+      → ((task : Task) → Contains newer.owed task → 0 < pending_in present task.name.label.session)
       → Serves (served_of halt) start first.left now.left was is old newer None
   serving-stops halt newer many pending =
       record { read = s.read; written = s.written; taken = s.taken; appends = s.appends; is_served = gives_up halt short }
@@ -321,7 +321,7 @@ module _ (start : UserState) (first now : LineReader) (was is : Option (List ℕ
       short = inr (record {
         count = now.items;
         left = [];
-        between = user_of owned;
+        between = user_of present;
         progress = record {
           items = s.items;
           marks = s.marks;
@@ -339,7 +339,7 @@ module _ (start : UserState) (first now : LineReader) (was is : Option (List ℕ
       })
 
   -- the state is handed back
-  module _ (back : UserState) (same : user_of back ≡ user_of owned) (few : tiles_to_come owned ≤ tiles_pending back) where
+  module _ (back : UserState) (same : user_of back ≡ user_of present) (few : tiles_to_come present ≤ tiles_pending back) where
     serving-part : (ending : Served) → ((items : List Item) → NoneEnds items → EndsAs ending items) → (part : List ℕ)
         → IsPart now.items part → AnswersAll ending start (s.read ++ part) s.written old new back
     serving-part ending none part p = record {
@@ -354,7 +354,7 @@ module _ (start : UserState) (first now : LineReader) (was is : Option (List ℕ
         next_is = same ∙ s.next_is;
       };
       ending = none s.items (Takes-none_ends 0 s.read s.items [] s.takes);
-      counted = rises_more (tiles user s.items s.marks + tiles_pending start - tiles_to_come owned) 0
+      counted = rises_more (tiles user s.items s.marks + tiles_pending start - tiles_to_come present) 0
           (tiles user s.items s.marks + tiles_pending start - tiles_pending back) s.counted (rises_none new new 0 refl refl (omega arith))
           (omega (arith, few));
     }
@@ -382,7 +382,7 @@ module _ (start : UserState) (first now : LineReader) (was is : Option (List ℕ
     is_next : IsItem (0 + length s.items) h.front h.found
     is_next = subst (λ n. IsItem n h.front h.found) number_is h.is_item
 
-    reaches : Reaches user (s.read ++ h.front) s.written (user_of owned) h.found
+    reaches : Reaches user (s.read ++ h.front) s.written (user_of present) h.found
     reaches = record {
       count = now.items;
       left = h.front;
@@ -402,23 +402,23 @@ module _ (start : UserState) (first now : LineReader) (was is : Option (List ℕ
     }
 
     -- it waits, and the pool is given up
-    stops : (newer : Seen) → 0 < item_before owned item
-        → FallsShort (tiles_to_come owned + item_tiles (user_of owned) item) new newer
+    stops : (newer : Seen) → 0 < item_before present item
+        → FallsShort (tiles_to_come present + item_tiles (user_of present) item) new newer
         → StopsShort start (s.read ++ h.front) s.written old newer
     unfolding reaches
     stops newer waits missing = inl (record {
-      between = user_of owned;
+      between = user_of present;
       item = h.found;
       reaches = reaches;
-      waits = may_wait start s.items s.marks owned h.found item s.pending h.is_found waits;
+      waits = may_wait start s.items s.marks present h.found item s.pending h.is_found waits;
       missing =
           let handed = s.handed in
-          let same = tiles_alike (user_of owned) h.found item h.is_found in
+          let same = tiles_alike (user_of present) h.found item h.is_found in
           omega (arith, missing, handed, same);
     })
 
-    pub serving-halts : (halt : Halt) (newer : Seen) → 0 < item_before owned item
-        → FallsShort (tiles_to_come owned + item_tiles (user_of owned) item) new newer
+    pub serving-halts : (halt : Halt) (newer : Seen) → 0 < item_before present item
+        → FallsShort (tiles_to_come present + item_tiles (user_of present) item) new newer
         → Serves (served_of halt) start first.left after.left was is old newer None
     serving-halts halt newer waits missing =
         serves-on (served_of halt) after h.front newer None h.taken (gives_up halt (stops newer waits missing))
@@ -437,12 +437,12 @@ module _ (start : UserState) (first now : LineReader) (was is : Option (List ℕ
     }
 
     -- it is answered
-    module _ (reply : Reply) (last : UserState) (answers : AnswersItem (user_of owned) item reply (user_of last)) where
+    module _ (reply : Reply) (last : UserState) (answers : AnswersItem (user_of present) item reply (user_of last)) where
       abbrev words : List ℕ
       words = text (user_of last) reply
 
-      abbrev t : Told (user_of owned) (user_of last) h.found words
-      t = told_of (user_of owned) (user_of last) h.found item reply h.is_found answers
+      abbrev t : Told (user_of present) (user_of last) h.found words
+      t = told_of (user_of present) (user_of last) h.found item reply h.is_found answers
 
       -- and the text is not written to its end
       pub serving-breaks : (n : ℕ) (now_is : Option (List ℕ)) (newer : Seen) (back : UserState) → user_of back ≡ user_of last
@@ -451,7 +451,7 @@ module _ (start : UserState) (first now : LineReader) (was is : Option (List ℕ
       serving-breaks n now_is newer back same within appends =
           serves-more served.WriteFault (take n words) now_is newer (Some back) appends (record {
             before = s.written;
-            between = user_of owned;
+            between = user_of present;
             item = h.found;
             reaches = reaches;
             mark = t.mark;
@@ -464,8 +464,8 @@ module _ (start : UserState) (first now : LineReader) (was is : Option (List ℕ
 
       -- and the text is written
       module _ (now_is : Option (List ℕ)) (appends : Appends is now_is words) (newer : Seen)
-          (risen : CountsRise (tiles_to_come owned + item_tiles (user_of owned) item - tiles_to_come last) new newer)
-          (handed : HandedWithin (tiles_to_come owned + item_tiles (user_of owned) item) (tiles_to_come last) new newer) where
+          (risen : CountsRise (tiles_to_come present + item_tiles (user_of present) item - tiles_to_come last) new newer)
+          (handed : HandedWithin (tiles_to_come present + item_tiles (user_of present) item) (tiles_to_come last) new newer) where
         abbrev items_more : List Item
         items_more = s.items ++ h.found ∷ []
 
@@ -491,11 +491,11 @@ module _ (start : UserState) (first now : LineReader) (was is : Option (List ℕ
         next_more : user_of last ≡ last_user user items_more marks_more
         next_more = ap (λ item_text. item_text.1) (sym tells_last) ∙ more.next_is
 
-        tiles_sum : tiles user items_more marks_more ≡ tiles user s.items s.marks + item_tiles (user_of owned) item
+        tiles_sum : tiles user items_more marks_more ≡ tiles user s.items s.marks + item_tiles (user_of present) item
         tiles_sum =
             let sum = tiles-more user s.items s.marks h.found t.mark marks_many in
-            let same = tiles_alike (user_of owned) h.found item h.is_found in
-            let from : item_tiles (user_of owned) h.found ≡ item_tiles (last_user user s.items s.marks) h.found =
+            let same = tiles_alike (user_of present) h.found item h.is_found in
+            let from : item_tiles (user_of present) h.found ≡ item_tiles (last_user user s.items s.marks) h.found =
             ap (λ u. item_tiles u h.found) s.next_is in
             omega (arith, sum, same, from)
 
@@ -508,12 +508,12 @@ module _ (start : UserState) (first now : LineReader) (was is : Option (List ℕ
         counted_more : CountsRise (tiles user items_more marks_more + tiles_pending start - tiles_to_come last) old newer
         counted_more =
             let sum = tiles_sum in
-            rises_more (tiles user s.items s.marks + tiles_pending start - tiles_to_come owned)
-            (tiles_to_come owned + item_tiles (user_of owned) item - tiles_to_come last)
+            rises_more (tiles user s.items s.marks + tiles_pending start - tiles_to_come present)
+            (tiles_to_come present + item_tiles (user_of present) item - tiles_to_come last)
             (tiles user items_more marks_more + tiles_pending start - tiles_to_come last)
             s.counted risen (omega (arith, sum))
 
-        pub serving-more : ending_of item ≡ None → HasPendingAfter owned item last → Serving start first after was now_is old newer last
+        pub serving-more : ending_of item ≡ None → HasPendingAfter present item last → Serving start first after was now_is old newer last
         serving-more none pending =
             let goes : is_ending item ≡ false = goes_on item none in
             record {
@@ -531,7 +531,7 @@ module _ (start : UserState) (first now : LineReader) (was is : Option (List ℕ
               next_is = next_more;
               counted = counted_more;
               handed = handed_more;
-              pending = pending-within start s.items s.marks owned h.found item t.mark last s.pending s.next_is marks_many h.is_found pending;
+              pending = pending-within start s.items s.marks present h.found item t.mark last s.pending s.next_is marks_many h.is_found pending;
               phase = h.phase_is ∙ ap (λ end. cond end Over Open) goes;
               errors = h.errors_is ∙ s.errors;
             }

@@ -13,7 +13,7 @@ use Rattle.lj_tile.specs.Blank.{blank_task}
 use Rattle.lj_tile.specs.Task.{Task}
 use Rattle.lj_pool.specs.declared.pool.TheConstants.{MAX_OWED}
 use Rattle.lj_pool.specs.Gathering.{times}
-use Rattle.lj_pool.specs.InlinePool.{held_task}
+use Rattle.lj_pool.specs.InlinePool.{tasks_in}
 use Rattle.lj_pool.specs.Accounts.{tasks_owed, IsFirst, IsKept, IsKnownByName, IsNowhere}
 use Rattle.lj_pool.specs.Seen.{Seen, IsStray, TakesOff, one_more}
 
@@ -21,22 +21,22 @@ use Rattle.lj_pool.specs.Seen.{Seen, IsStray, TakesOff, one_more}
 abbrev bit : Bool → ℕ
 bit b = cond b 1 0
 
-held-le : (slot : Option Task) → length (held_task slot) ≤ 1
-held-le None = omega arith
-held-le (Some task) = omega arith
+in-le : (slot : Option Task) → length (tasks_in slot) ≤ 1
+in-le None = omega arith
+in-le (Some task) = omega arith
 
 works-append : (tasks : List (Option Task)) (ps qs : List ℕ) → tasks_owed tasks (ps ++ qs) ≡ tasks_owed tasks ps ++ tasks_owed tasks qs
 works-append tasks [] qs = refl
 works-append tasks (p ∷ ps) qs =
-    ap (λ w. held_task (get_or tasks p None) ++ w) (works-append tasks ps qs)
-    ∙ sym (append_assoc (held_task (get_or tasks p None)) (tasks_owed tasks ps) (tasks_owed tasks qs))
+    ap (λ w. tasks_in (get_or tasks p None) ++ w) (works-append tasks ps qs)
+    ∙ sym (append_assoc (tasks_in (get_or tasks p None)) (tasks_owed tasks ps) (tasks_owed tasks qs))
 
 length-works-le : (tasks : List (Option Task)) (ps : List ℕ) → length (tasks_owed tasks ps) ≤ length ps
 length-works-le tasks [] = omega arith
 length-works-le tasks (p ∷ ps) =
     let slot = get_or tasks p None in
     let rest = length-works-le tasks ps in
-    omega (arith, held-le slot, rest, length-append (held_task slot) (tasks_owed tasks ps))
+    omega (arith, in-le slot, rest, length-append (tasks_in slot) (tasks_owed tasks ps))
 
 -- a task that is put into another place is none of these
 works-other : (tasks : List (Option Task)) (place : ℕ) (slot : Option Task) (ps : List ℕ) → times place ps ≡ 0
@@ -50,39 +50,39 @@ works-other tasks place slot (p ∷ ps) none =
           let one : bit (nat_eq p place) ≡ 1 = ap bit (eq-eqb p place same) in
           absurd (omega (arith, parts, none, one))
       | inr other ↦
-          ap (λ x. held_task x ++ tasks_owed (set tasks place slot) ps) (get_or-set_other tasks place p slot None other)
-          ∙ ap (λ w. held_task (get_or tasks p None) ++ w) rest
+          ap (λ x. tasks_in x ++ tasks_owed (set tasks place slot) ps) (get_or-set_other tasks place p slot None other)
+          ∙ ap (λ w. tasks_in (get_or tasks p None) ++ w) rest
     ]
 
 -- where there are as many tasks as places, the first place holds one
-held_first : (slot : Option Task) (rest : List Task) (n : ℕ) → length rest ≤ n
-    → length (held_task slot ++ rest) ≡ suc n → (task : Task) × (slot ≡ Some task) × (length rest ≡ n)
-held_first None rest n most is = absurd (omega (arith, most, is))
-held_first (Some task) rest n most is = (task, refl, omega (arith, is))
+first_in : (slot : Option Task) (rest : List Task) (n : ℕ) → length rest ≤ n
+    → length (tasks_in slot ++ rest) ≡ suc n → (task : Task) × (slot ≡ Some task) × (length rest ≡ n)
+first_in None rest n most is = absurd (omega (arith, most, is))
+first_in (Some task) rest n most is = (task, refl, omega (arith, is))
 
 -- where there are as many tasks as places, a task stands where its place does
 pub works_at : (tasks : List (Option Task)) (ps : List ℕ) (k : ℕ) (d : Task) → length (tasks_owed tasks ps) ≡ length ps
     → k < length ps → get_or tasks (get_or ps k 0) None ≡ Some (get_or (tasks_owed tasks ps) k d)
-works_at tasks [] k d held within = absurd (omega (arith, within))
-works_at tasks (p ∷ ps) zero d held within =
-    let first = held_first (get_or tasks p None) (tasks_owed tasks ps) (length ps) (length-works-le tasks ps) held in
-    first.1 ∙ sym (ap (λ x. Some (get_or (held_task x ++ tasks_owed tasks ps) zero d)) first.1)
-works_at tasks (p ∷ ps) (suc k) d held within =
-    let first = held_first (get_or tasks p None) (tasks_owed tasks ps) (length ps) (length-works-le tasks ps) held in
+works_at tasks [] k d count within = absurd (omega (arith, within))
+works_at tasks (p ∷ ps) zero d count within =
+    let first = first_in (get_or tasks p None) (tasks_owed tasks ps) (length ps) (length-works-le tasks ps) count in
+    first.1 ∙ sym (ap (λ x. Some (get_or (tasks_in x ++ tasks_owed tasks ps) zero d)) first.1)
+works_at tasks (p ∷ ps) (suc k) d count within =
+    let first = first_in (get_or tasks p None) (tasks_owed tasks ps) (length ps) (length-works-le tasks ps) count in
     works_at tasks ps k d first.2 (omega arith)
-    ∙ sym (ap (λ x. Some (get_or (held_task x ++ tasks_owed tasks ps) (suc k) d)) first.1)
+    ∙ sym (ap (λ x. Some (get_or (tasks_in x ++ tasks_owed tasks ps) (suc k) d)) first.1)
 
 works-remove : (tasks : List (Option Task)) (ps : List ℕ) (k : ℕ) → length (tasks_owed tasks ps) ≡ length ps → k < length ps
     → tasks_owed tasks (remove ps k) ≡ remove (tasks_owed tasks ps) k
-works-remove tasks [] k held within = absurd (omega (arith, within))
-works-remove tasks (p ∷ ps) zero held within =
-    let first = held_first (get_or tasks p None) (tasks_owed tasks ps) (length ps) (length-works-le tasks ps) held in
-    sym (ap (λ x. remove (held_task x ++ tasks_owed tasks ps) zero) first.1)
-works-remove tasks (p ∷ ps) (suc k) held within =
-    let first = held_first (get_or tasks p None) (tasks_owed tasks ps) (length ps) (length-works-le tasks ps) held in
-    ap (λ w. held_task (get_or tasks p None) ++ w) (works-remove tasks ps k first.2 (omega arith))
-    ∙ ap (λ x. held_task x ++ remove (tasks_owed tasks ps) k) first.1
-    ∙ sym (ap (λ x. remove (held_task x ++ tasks_owed tasks ps) (suc k)) first.1)
+works-remove tasks [] k count within = absurd (omega (arith, within))
+works-remove tasks (p ∷ ps) zero count within =
+    let first = first_in (get_or tasks p None) (tasks_owed tasks ps) (length ps) (length-works-le tasks ps) count in
+    sym (ap (λ x. remove (tasks_in x ++ tasks_owed tasks ps) zero) first.1)
+works-remove tasks (p ∷ ps) (suc k) count within =
+    let first = first_in (get_or tasks p None) (tasks_owed tasks ps) (length ps) (length-works-le tasks ps) count in
+    ap (λ w. tasks_in (get_or tasks p None) ++ w) (works-remove tasks ps k first.2 (omega arith))
+    ∙ ap (λ x. tasks_in x ++ remove (tasks_owed tasks ps) k) first.1
+    ∙ sym (ap (λ x. remove (tasks_in x ++ tasks_owed tasks ps) (suc k)) first.1)
 
 -- a place is one of them
 pub place_within : (places : List ℕ) → ((n : ℕ) → times n places ≡ cond (nat_lt n MAX_OWED) 1 0) → (k : ℕ)
@@ -126,9 +126,9 @@ works_posted tasks places owed task kept room =
     let put = set tasks place (Some task) in
     ap (tasks_owed put) (take_more places owed 0 within)
     ∙ works-append put (take owed places) (place ∷ [])
-    ∙ ap (λ w. w ++ (held_task (get_or put place None) ++ []))
+    ∙ ap (λ w. w ++ (tasks_in (get_or put place None) ++ []))
     (works-other tasks place (Some task) (take owed places) (apart places kept.once owed within))
-    ∙ ap (λ x. tasks_owed tasks (take owed places) ++ (held_task x ++ [])) (get_or-set_same tasks place (Some task) None fits)
+    ∙ ap (λ x. tasks_owed tasks (take owed places) ++ (tasks_in x ++ [])) (get_or-set_same tasks place (Some task) None fits)
 
 pub kept_posted : (tasks : List (Option Task)) (places : List ℕ) (owed : ℕ) (task : Task) → IsKept tasks places owed
     → owed < MAX_OWED
@@ -138,8 +138,8 @@ kept_posted tasks places owed task kept room = record {
   once = kept.once;
   all = kept.all;
   most = omega (arith, room);
-  held = ap length (works_posted tasks places owed task kept room)
-      ∙ length_push (tasks_owed tasks (take owed places)) task ∙ ap (λ n. n + 1) kept.held;
+  count = ap length (works_posted tasks places owed task kept room)
+      ∙ length_push (tasks_owed tasks (take owed places)) task ∙ ap (λ n. n + 1) kept.count;
 }
 
 -- the first places, once the one that stands here has been put behind all
@@ -172,22 +172,22 @@ works_left tasks places owed here kept within =
     let most : owed ≤ length places = omega (arith, kept.all, kept.most) in
     let len : length (take owed places) ≡ owed = length-take-le owed places most in
     ap (tasks_owed tasks) (places_left places owed here most within)
-    ∙ works-remove tasks (take owed places) here (kept.held ∙ sym len) (omega (arith, len, within))
+    ∙ works-remove tasks (take owed places) here (kept.count ∙ sym len) (omega (arith, len, within))
 
 pub kept_left : (tasks : List (Option Task)) (places : List ℕ) (owed here : ℕ) → IsKept tasks places owed → here < owed
     → IsKept tasks (remove places here ++ get_or places here 0 ∷ []) (owed - 1)
 kept_left tasks places owed here kept within =
     let inside : here < length places = omega (arith, kept.all, kept.most, within) in
     let place = get_or places here 0 in
-    let lost : here < length (tasks_owed tasks (take owed places)) = omega (arith, kept.held, within) in
+    let lost : here < length (tasks_owed tasks (take owed places)) = omega (arith, kept.count, within) in
     record {
       size = kept.size;
       once = λ n. let f : ℕ → ℕ = λ j. cond (nat_eq j n) 1 0 in
           omega (arith, sum_by_push f (remove places here) place, sum_by-remove f places here 0 inside) ∙ kept.once n;
       all = length_push (remove places here) place ∙ length-remove places here inside ∙ kept.all;
       most = omega (arith, kept.most);
-      held = ap length (works_left tasks places owed here kept within)
-          ∙ omega (arith, length-remove (tasks_owed tasks (take owed places)) here lost, kept.held);
+      count = ap length (works_left tasks places owed here kept within)
+          ∙ omega (arith, length-remove (tasks_owed tasks (take owed places)) here lost, kept.count);
     }
 
 -- one place more is in the list
@@ -221,7 +221,7 @@ pub task_at : (tasks : List (Option Task)) (places : List ℕ) (owed here : ℕ)
 task_at tasks places owed here kept within d =
     let len : length (take owed places) ≡ owed = length-take-le owed places (omega (arith, kept.all, kept.most)) in
     ap (λ k. get_or tasks k None) (sym (get_or-take owed places here 0 within))
-    ∙ works_at tasks (take owed places) here d (kept.held ∙ sym len) (omega (arith, len, within))
+    ∙ works_at tasks (take owed places) here d (kept.count ∙ sym len) (omega (arith, len, within))
 
 -- where a predicate returns for each task that is owed whether it is this one
 module _ (Returns : Task → Bool → Type 0) (task : Task) (old : Seen) where

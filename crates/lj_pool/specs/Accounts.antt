@@ -6,12 +6,12 @@ use Rattle.lj_tile.specs.Blank.{blank_task}
 use Rattle.lj_tile.specs.Task.{Task}
 use Rattle.lj_pool.specs.declared.pool.TheConstants.{MAX_OWED}
 use Rattle.lj_pool.specs.Gathering.{times}
-use Rattle.lj_pool.specs.InlinePool.{held_task}
+use Rattle.lj_pool.specs.InlinePool.{tasks_in}
 
 -- the tasks in these places, in their order
 abbrev pub tasks_owed : List (Option Task) → List ℕ → List Task
 tasks_owed tasks [] = []
-tasks_owed tasks (place ∷ places) = held_task (slice_index_or tasks place None) ++ tasks_owed tasks places
+tasks_owed tasks (place ∷ places) = tasks_in (slice_index_or tasks place None) ++ tasks_owed tasks places
 
 -- Each place is in the list of places once, and the first ones hold the tasks that are owed.
 pub record IsKept (tasks : List (Option Task)) (places : List ℕ) (owed : ℕ) : Type 0 where
@@ -19,7 +19,7 @@ pub record IsKept (tasks : List (Option Task)) (places : List ℕ) (owed : ℕ) 
   pub once : (place : ℕ) → times place places ≡ cond (nat_lt place MAX_OWED) 1 0
   pub all : length places ≡ MAX_OWED
   pub most : owed ≤ MAX_OWED
-  pub held : length (tasks_owed tasks (take owed places)) ≡ owed
+  pub count : length (tasks_owed tasks (take owed places)) ≡ owed
 
 -- each owed task of this name is this task
 abbrev pub IsKnownByName : List Task → Task → Type 0

@@ -4,22 +4,22 @@ use Rattle.lj_tile.specs.Blank.{blank_task}
 use Rattle.lj_tile.specs.Task.{Task}
 use Rattle.lj_pool.specs.Seen.{Seen}
 
--- the task of the result held, if there is one; the number of results handed out, saturating; and the task of the result in its
--- room, held or handed out
+-- the task of the result that is owed, if there is one; the number of results handed out, saturating; and the task of the result in its
+-- slot, owed or handed out
 pub record InlinePool : Type 0 where
-  pub held : Option Task
+  pub owed : Option Task
   pub expected : ℕ
   pub last : Task
 
--- no result is held, none is counted, and the task in its room is blank
+-- no result is owed, none is counted, and the task in its slot is blank
 abbrev pub empty_pool : InlinePool
-empty_pool = record { held = None; expected = 0; last = blank_task }
+empty_pool = record { owed = None; expected = 0; last = blank_task }
 
--- the task of the result held, if there is one
-abbrev pub held_task : Option Task → List Task
-held_task (Some task) = task ∷ []
-held_task None = []
+-- the task that is there, if there is one
+abbrev pub tasks_in : Option Task → List Task
+tasks_in (Some task) = task ∷ []
+tasks_in None = []
 
--- the end is owed what the pool holds; there are no strays, and the pool is never closed
+-- the end is owed the result that is owed; there are no strays, and the pool is never closed
 abbrev pub seen_of : InlinePool → Seen
-seen_of pool = record { owed = held_task pool.held; expected = pool.expected; strays = 0; closed = false }
+seen_of pool = record { owed = tasks_in pool.owed; expected = pool.expected; strays = 0; closed = false }

@@ -36,14 +36,14 @@ lending (Some task) book = book
 
 -- A box that was lent is spare again; where none was lent, nothing changes.
 pub record PutsBy (old new : BoxBook) : Type 0 where
-  pub held : new.held ≡ old.held
+  pub inner : new.inner ≡ old.inner
   pub made : new.made ≡ old.made
   pub lent : boxes old < old.made → new.spare ≡ old.spare + 1
   pub none : old.made ≤ boxes old → new.spare ≡ old.spare
 
 -- the user has no result in the book
 abbrev pub HasNoResult : ℕ → BookOf Numbered Slip → Type 0
-HasNoResult user held = (k : ℕ) → ¬ IsDoneAt user held k
+HasNoResult user book = (k : ℕ) → ¬ IsDoneAt user book k
 
 -- These results have left the book, one after the other.
 abbrev pub FetchesEach : List Task → BookOf Numbered Slip → BookOf Numbered Slip → Type 0
@@ -72,4 +72,4 @@ NoneIsLost old own new others =
 -- Exactly the results that an end took in hand have left the book.
 pub record FetchesInHand (user : ℕ) (old : BoxBook) (own : EndBoxes) (new : BoxBook) (others : EndBoxes) : Type 0 where
   pub takes : TakesInHand user own others
-  pub fetches : FetchesEach (takes.first ∷ takes.others) old.held new.held
+  pub fetches : FetchesEach (takes.first ∷ takes.others) old.inner new.inner

@@ -18,7 +18,7 @@ pub struct InlinePool {
     table: Table,
     slot: Done,
     /// Whether the result in the slot is still owed.
-    is_held: bool,
+    is_owed: bool,
     expected: u64,
 }
 
@@ -29,21 +29,21 @@ impl Model for InlinePool {
     ghost Value = { InlinePool };
 
     ghost view = { λ pool. record {
-      held = if pool.is_held then Some pool.slot else None;
+      owed = if pool.is_owed then Some pool.slot else None;
       expected = pool.expected;
       last = pool.slot;
     } };
 }
 
 impl InlinePool {
-    /// Returns a pool that holds no result.
+    /// Returns a pool that owes no result.
     pub fn new(table: Table) -> InlinePool
         ensures { result ≡ empty_pool }
     {
         InlinePool {
             table,
             slot: Done::blank(),
-            is_held: false,
+            is_owed: false,
             expected: 0,
         }
     }
@@ -54,48 +54,48 @@ impl Pool for InlinePool {
 
     ghost last = { λ pool. pool.last };
 
-    ghost is_uncounted = { λ pool. IsSome pool.held };
+    ghost is_uncounted = { λ pool. IsSome pool.owed };
 
     ghost for_others = { λ _ _. 0 };
 
     ghost most = { 1 };
 
     fn post_from(&mut self, task: &Task, _wait: bool) -> Result<(), NotPosted>
-        ensures free { IsOk result ↔ (self.old.held ≡ None) }
-        ensures posted { OnOk result (self.new ≡ record self.old { held = Some task.now; last = task.now }) }
+        ensures free { IsOk result ↔ (self.old.owed ≡ None) }
+        ensures posted { OnOk result (self.new ≡ record self.old { owed = Some task.now; last = task.now }) }
         ensures full { IfErr result (λ why. why ≡ Full) }
         ensures unchanged { OnErr result (self.new ≡ self.old) }
     {
-        if self.is_held {
+        if self.is_owed {
             return Err(NotPosted::Full);
         }
         compute_into(task, &self.table, &mut self.slot);
-        self.is_held = true;
+        self.is_owed = true;
         Ok(())
     }
 
     fn fetch_uncounted(&mut self, _user: u8) -> bool
-        ensures some { result ≡ true ↔ IsSome self.old.held }
-        ensures held { result ≡ true → self.old.held ≡ Some self.new.last }
+        ensures some { result ≡ true ↔ IsSome self.old.owed }
+        ensures owed { result ≡ true → self.old.owed ≡ Some self.new.last }
         ensures unchanged { self.new ≡ self.old }
     {
-        self.is_held
+        self.is_owed
     }
 
     fn poll_uncounted(&mut self, user: u8) -> bool
-        ensures some { result ≡ true ↔ IsSome self.old.held }
-        ensures held { result ≡ true → self.old.held ≡ Some self.new.last }
+        ensures some { result ≡ true ↔ IsSome self.old.owed }
+        ensures owed { result ≡ true → self.old.owed ≡ Some self.new.last }
         ensures unchanged { self.new ≡ self.old }
     {
         self.fetch_uncounted(user)
     }
 
     fn count(&mut self)
-        requires { IsSome self.old.held }
-        ensures held { self.old.held ≡ Some self.old.last }
-        ensures taken_off { self.new ≡ record self.old { held = None; expected = one_more self.old.expected } }
+        requires { IsSome self.old.owed }
+        ensures owed { self.old.owed ≡ Some self.old.last }
+        ensures taken_off { self.new ≡ record self.old { owed = None; expected = one_more self.old.expected } }
     {
-        self.is_held = false;
+        self.is_owed = false;
         self.expected = self.expected.saturating_add(1);
     }
 
@@ -104,13 +104,13 @@ impl Pool for InlinePool {
     }
 
     fn owed(&self) -> usize {
-        usize::from(self.is_held)
+        usize::from(self.is_owed)
     }
 
     fn is_full(&self) -> bool
-        ensures { result ≡ true ↔ IsSome self.now.held }
+        ensures { result ≡ true ↔ IsSome self.now.owed }
     {
-        self.is_held
+        self.is_owed
     }
 
     fn closed(&self) -> bool

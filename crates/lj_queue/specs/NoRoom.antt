@@ -12,8 +12,8 @@ use Rattle.lj_queue.specs.declared.no_room.PostFault.TheVariants.{NoRoom, Closed
 abbrev pub boxes_in : Option Task → ℕ
 boxes_in place = cond (is_some place) 1 0
 
--- There was this cause for one who had so many boxes, and whose pass had pushed so many tasks: no box, a pass that has pushed all that
--- it may, or a queue that handed a task back at the next push.
+-- There was this cause for a poster with this many boxes, whose pass had pushed this many tasks: no box, a pass that has pushed all
+-- that it may, or a queue that handed a task back at the next push.
 abbrev pub IsCause : FullCause → ℕ → ℕ → Type 0
 IsCause NoBox boxes pushed = boxes ≡ 0
 IsCause PassSpent boxes pushed = pushed ≡ 2 ^ 64 - 1
@@ -24,7 +24,7 @@ abbrev pub IsCauseOf : PostFault → ℕ → ℕ → Type 0
 IsCauseOf (NoRoom cause) boxes pushed = IsCause cause boxes pushed
 IsCauseOf PoolClosed boxes pushed = ⊤
 
--- what the caller is told: the pool is closed, or full
+-- the reason that a post returns: the pool is closed, or full
 abbrev pub reason_of : PostFault → NotPosted
 reason_of (NoRoom cause) = Full
 reason_of PoolClosed = Closed

@@ -32,7 +32,7 @@ impl PoolIdentity for Brand {
 }
 
 /// That the queue handed a task back. Only `CountedPass::push` makes one, at a push that the queue refused.
-#[derive(Clone, Copy, PartialEq, Eq, Debug)]
+#[derive(Clone, Copy)]
 pub(crate) struct RefusedPush {
     /// The number of tasks that the pass had pushed before.
     pushed: u64,

@@ -126,14 +126,11 @@ impl<'p, L: PoolIdentity, R: Wait> Pool for QueueEnd<'p, L, R> {
         ensures closed { IfErr result (λ why. why ≡ Closed → self.new.seen.closed ≡ true) }
         ensures stays_closed { StaysClosed self.old.seen self.new.seen }
     {
-        let posted = match self.push(task, wait) {
-            Ok(()) => Ok(()),
-            Err(fault) => Err(NotPosted::from(fault)),
-        };
+        let posted = self.push(task, wait).map_err(NotPosted::from);
         self.account.note_post(task, posted);
         if posted.is_ok() {
             self.unsignalled.note_posted();
-            self.tell(TASKS_AT_ONCE);
+            self.wake_workers(TASKS_AT_ONCE);
         }
         posted
     }
@@ -153,8 +150,8 @@ impl<'p, L: PoolIdentity, R: Wait> Pool for QueueEnd<'p, L, R> {
             self.account.close();
             return false;
         }
-        if !self.look() {
-            self.tell(1);
+        if !self.refill_hand() {
+            self.wake_workers(1);
             self.pool.fetch(
                 self.rt,
                 self.poster.user,
@@ -181,9 +178,9 @@ impl<'p, L: PoolIdentity, R: Wait> Pool for QueueEnd<'p, L, R> {
         ensures in_hand { result ≡ true → 0 < length self.old.hand
             → self.old.hand ≡ self.new.last ∷ self.new.hand }
     {
-        let polled = !self.is_closed() && self.look() && self.hand_out();
+        let polled = !self.is_closed() && self.refill_hand() && self.hand_out();
         if !polled {
-            self.tell(1);
+            self.wake_workers(1);
         }
         polled
     }
@@ -248,9 +245,9 @@ impl<'p, L: PoolIdentity, R: Wait> QueueEnd<'p, L, R> {
         is_closed
     }
 
-    /// Fetches the results that are there if none is in hand, unless all were fetched since the last look. Returns whether some are
+    /// Fetches the results that are there if none is in hand, unless all were fetched since the last call. Returns whether some are
     /// in hand now.
-    fn look(&mut self) -> bool
+    fn refill_hand(&mut self) -> bool
         ensures some { result ≡ true → 0 < length self.new.hand }
         ensures none { result ≡ false → self.new.hand ≡ [] }
         ensures kept { 0 < length self.old.hand → self.new.hand ≡ self.old.hand }
@@ -324,7 +321,7 @@ impl<'p, L: PoolIdentity, R: Wait> QueueEnd<'p, L, R> {
     }
 
     /// Wakes waiting workers for the tasks that none was woken for, if there are at least `least`.
-    fn tell(&mut self, least: usize)
+    fn wake_workers(&mut self, least: usize)
         ensures { self.new ≡ self.old }
     {
         self.pool

@@ -15,8 +15,8 @@ use std::alloc::Global;
 #[derive(Drop)]
 struct OddPool {
     table: Table,
-    held: Option<Done>,
-    /// The result before the one that is held.
+    owed: Option<Done>,
+    /// The result before the one that is owed.
     earlier: Option<Done>,
     /// The result that was handed out last.
     shown: Done,
@@ -33,11 +33,11 @@ struct OddPool {
 
 impl OddPool {
     fn new(copies: u64, posts: u64, fetches: u64) -> OddPool
-        ensures { result.held ≡ None }
+        ensures { result.owed ≡ None }
     {
         OddPool {
             table: Table::new(),
-            held: None,
+            owed: None,
             earlier: None,
             shown: Done::blank(),
             copies,
@@ -50,34 +50,34 @@ impl OddPool {
         }
     }
 
-    /// Returns a copy of the earlier result if a stray is due and the held result is of another task.
+    /// Returns a copy of the earlier result if a stray is due and the result that is owed is of another task.
     fn stray(&self) -> Option<Done>
-        ensures { IfSome result (λ done. IfSome self.now.held (λ held. (done ≡ held) → ⊥)) }
+        ensures { IfSome result (λ done. IfSome self.now.owed (λ owed. (done ≡ owed) → ⊥)) }
     {
         let earlier = self.earlier.as_ref()?;
-        let held = self.held.as_ref()?;
-        if self.left == 0 || earlier.task().is(held.task()) {
+        let owed = self.owed.as_ref()?;
+        if self.left == 0 || earlier.task().is(owed.task()) {
             return None;
         }
         Some(earlier.copy())
     }
 
-    /// Returns whether the result that was handed out last is of the held task.
-    fn shows_held(&self) -> bool
-        ensures { IsTrue result ↔ (self.now.held ≡ Some self.now.shown) }
+    /// Returns whether the result that was handed out last is of the task that is owed.
+    fn shows_owed(&self) -> bool
+        ensures { IsTrue result ↔ (self.now.owed ≡ Some self.now.shown) }
     {
-        match &self.held {
-            Some(held) => held.task().is(self.shown.task()),
+        match &self.owed {
+            Some(owed) => owed.task().is(self.shown.task()),
             None => false,
         }
     }
 }
 
 impl Pool for OddPool {
-    ghost use Rattle.lj_pool.specs.InlinePool.{held_task};
+    ghost use Rattle.lj_pool.specs.InlinePool.{tasks_in};
 
     ghost seen = { λ pool. record {
-      owed = held_task pool.held;
+      owed = tasks_in pool.owed;
       expected = pool.expected;
       strays = pool.strays;
       closed = pool.closed;
@@ -96,11 +96,11 @@ impl Pool for OddPool {
             self.closed = true;
             return Err(NotPosted::Closed);
         }
-        if self.held.is_some() {
+        if self.owed.is_some() {
             return Err(NotPosted::Full);
         }
         self.posts -= 1;
-        self.held = Some(compute(task.copy(), &self.table));
+        self.owed = Some(compute(task.copy(), &self.table));
         Ok(())
     }
 
@@ -114,26 +114,26 @@ impl Pool for OddPool {
             self.shown = stray;
             return true;
         }
-        let Some(held) = &self.held else {
+        let Some(owed) = &self.owed else {
             return false;
         };
         self.fetches -= 1;
         self.left = self.copies;
-        self.earlier = Some(held.copy());
-        self.shown = held.copy();
+        self.earlier = Some(owed.copy());
+        self.shown = owed.copy();
         true
     }
 
     fn poll_uncounted(&mut self, user: u8) -> bool {
-        if self.held.is_none() || self.stray().is_some() {
+        if self.owed.is_none() || self.stray().is_some() {
             return false;
         }
         self.fetch_uncounted(user)
     }
 
     fn count(&mut self) {
-        if self.shows_held() {
-            self.held = None;
+        if self.shows_owed() {
+            self.owed = None;
             self.expected = self.expected.saturating_add(1);
         } else {
             self.strays = self.strays.saturating_add(1);
@@ -145,11 +145,11 @@ impl Pool for OddPool {
     }
 
     fn owed(&self) -> usize {
-        usize::from(self.held.is_some())
+        usize::from(self.owed.is_some())
     }
 
     fn is_full(&self) -> bool {
-        self.held.is_some()
+        self.owed.is_some()
     }
 
     fn closed(&self) -> bool {
@@ -303,7 +303,7 @@ struct StrayOutcome {
 
 /// Serves a stream to a new user over a pool that owes nothing.
 fn serve_over(alloc: Global, user: u8, input: &str, pool: &mut OddPool) -> StrayOutcome {
-    pool.held = None;
+    pool.owed = None;
     let mut lines = LineReader::new(alloc, Reading::new(input.as_bytes()));
     let mut writer = Writing::new(StrayOutput::new());
     let state = UserState::new(alloc, Quota::USUAL);

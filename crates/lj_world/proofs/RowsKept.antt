@@ -26,7 +26,7 @@ stays_has rows old new stays has = (
   ap (slice_get rows) stays.user ∙ has.1,
   record {
     granted = subst (λ n. n < has.0.granted) (sym stays.number) has.2.granted;
-    entered = λ i. subst (λ n. HasEntered n has.0) (sym stays.number) (has.2.entered (stays.owned i));
+    entered = λ i. subst (λ n. HasEntered n has.0) (sym stays.number) (has.2.entered (stays.was_inside i));
   },
 )
 

@@ -86,4 +86,4 @@ module _ (rows : List UserRow) (connections : List (Option Connection)) (workers
   connection_step_keeps event book text h (inl d) = ticket_change_keeps h.connection h.rows (ticket_change connection rows event book text h d)
   connection_step_keeps event book text h (inr n) =
       subst (λ (x : ConnectionView). IsMachine x.rows (set connections c (Some x.connection)) workers) (sym n.2)
-      (stays_keeps connection (record { user = refl; number = refl; owned = λ i. i }))
+      (stays_keeps connection (record { user = refl; number = refl; was_inside = λ i. i }))

@@ -24,19 +24,19 @@ module _ (connection : Connection) (rows : List UserRow) where
 
   -- it owns the state as much as it did
   as_before : (new : Connection) → new.user ≡ connection.user → new.number ≡ connection.number → new.state ≡ connection.state → TicketChange connection rows new rows
-  as_before new user number state = stays new (record { user = user; number = number; owned = λ i. (i.0, sym state ∙ i.1) })
+  as_before new user number state = stays new (record { user = user; number = number; was_inside = λ i. (i.0, sym state ∙ i.1) })
 
-  -- it owned the state, and may own it still
-  owned : (new : Connection) (owner : Owner) → connection.state ≡ inside owner → new.user ≡ connection.user → new.number ≡ connection.number → TicketChange connection rows new rows
-  owned new owner owns user number = stays new (record { user = user; number = number; owned = λ i. (owner, owns) })
+  -- it was inside, and may be inside still
+  was_inside : (new : Connection) (owner : Owner) → connection.state ≡ inside owner → new.user ≡ connection.user → new.number ≡ connection.number → TicketChange connection rows new rows
+  was_inside new owner owns user number = stays new (record { user = user; number = number; was_inside = λ i. (owner, owns) })
 
   pub ticket_change : (event : ConnectionEvent) (book : Book) (text : Option (List ℕ)) (h : ConnectionView) → ConnectionTransition event (connection_view connection rows book) text h
       → TicketChange connection rows h.connection h.rows
   ticket_change (Arrive item) book text h d = subst ChangesTo (sym d.next) (as_before _ refl refl refl)
   ticket_change End book text h d = subst ChangesTo (sym d.next) (as_before _ refl refl refl)
   ticket_change Enter book text h d = subst ChangesTo (sym d.next) (enters _ d.row d.there d.may_enter)
-  ticket_change Next book text h d = subst ChangesTo (sym d.next) (owned _ d.owner d.can.owns refl refl)
-  ticket_change Post book text h d = subst ChangesTo (sym d.next) (owned _ d.owner d.owns refl refl)
-  ticket_change (Fetch pick) book text h d = subst ChangesTo (sym d.next) (owned _ d.owner d.owns refl refl)
-  ticket_change (Turn session) book text h d = subst ChangesTo (sym d.next) (owned _ d.owner d.owns refl refl)
+  ticket_change Next book text h d = subst ChangesTo (sym d.next) (was_inside _ d.owner d.can.owns refl refl)
+  ticket_change Post book text h d = subst ChangesTo (sym d.next) (was_inside _ d.owner d.owns refl refl)
+  ticket_change (Fetch pick) book text h d = subst ChangesTo (sym d.next) (was_inside _ d.owner d.owns refl refl)
+  ticket_change (Turn session) book text h d = subst ChangesTo (sym d.next) (was_inside _ d.owner d.owns refl refl)
   ticket_change Leave book text h d = subst ChangesTo (sym d.next) (leaves d.owner d.owns)

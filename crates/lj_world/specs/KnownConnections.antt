@@ -21,4 +21,4 @@ HasRow rows connection = (row : UserRow) × (slice_get rows connection.user ≡ 
 pub record KeepsTicket (old new : Connection) : Type 0 where
   pub user : new.user ≡ old.user
   pub number : new.number ≡ old.number
-  pub owned : IsInside new → IsInside old
+  pub was_inside : IsInside new → IsInside old

@@ -46,13 +46,13 @@ impl<L: Ledger> Model for PoolState<L> {
       closed = state.closed;
     } };
 
-    ghost invariant = { λ state. state.book.held.given ≡ state.results.total };
+    ghost invariant = { λ state. state.book.inner.given ≡ state.results.total };
 }
 
 impl<L: Ledger> PoolState<L> {
     /// Makes the state of an open pool.
     pub(crate) fn new(book: BoxBook, results: ledger::Book<L>) -> PoolState<L>
-        requires { book.held.given ≡ results.total }
+        requires { book.inner.given ≡ results.total }
         ensures { result ≡ open_pool book }
     {
         PoolState {
@@ -70,7 +70,7 @@ impl<L: Ledger> PoolState<L> {
     pub(crate) fn post(&mut self, boxed: &mut Option<TaskBox>, task: &Task) -> Result<(), NotPosted>
         requires { ForSome boxed.old (λ work. work ≡ task.now) }
         ensures room { IsOk result
-            ↔ ((self.old.closed ≡ false) × HasRoom self.old.book.held × HasBox self.old.book boxed.old) }
+            ↔ ((self.old.closed ≡ false) × HasRoom self.old.book.inner × HasBox self.old.book boxed.old) }
         ensures posts { OnOk result (PostsIn boxed.old task.now self.old.book self.new.book) }
         ensures unsignalled { OnOk result (1 ≤ self.new.unsignalled) }
         ensures out_of_hand { OnOk result (boxed.new ≡ None) }
@@ -140,7 +140,7 @@ impl<L: Ledger> PoolState<L> {
 
     /// Posts a copy of a task in a spare box.
     fn post_copy(&mut self, task: &Task) -> Result<(), NotPosted>
-        ensures room { IsOk result ↔ (HasRoom self.old.book.held × (0 < self.old.book.spare)) }
+        ensures room { IsOk result ↔ (HasRoom self.old.book.inner × (0 < self.old.book.spare)) }
         ensures posts { OnOk result (PostsIn None task.now self.old.book self.new.book) }
         ensures unsignalled { OnOk result (1 ≤ self.new.unsignalled) }
         ensures open { IfErr result (λ why. why ≢ Closed) }
@@ -163,9 +163,9 @@ impl<L: Ledger> PoolState<L> {
     /// Takes an open task in its box, round robin. None where there is none, or the pool is closed.
     pub(crate) fn take(&mut self) -> Option<LentTask>
         ensures some { IfSome result (λ lent. TakesBox self.old.book self.new.book lent) }
-        ensures picked { IfSome result (λ lent. IsPick (IsOpenAt self.old.book.held) self.old.next lent.key) }
+        ensures picked { IfSome result (λ lent. IsPick (IsOpenAt self.old.book.inner) self.old.next lent.key) }
         ensures next { IfSome result (λ lent. self.new.next ≡ (lent.key + 1) % 2 ^ 64) }
-        ensures none { IfNone result (self.old.closed ≡ false → (k : ℕ) → ¬ IsOpenAt self.old.book.held k) }
+        ensures none { IfNone result (self.old.closed ≡ false → (k : ℕ) → ¬ IsOpenAt self.old.book.inner k) }
         ensures unchanged { IfNone result (self.new ≡ self.old) }
         ensures closed { self.old.closed ≡ true → result ≡ None }
         ensures stays { self.new ≡ record self.old { book = self.new.book; next = self.new.next } }
@@ -205,7 +205,7 @@ impl<L: Ledger> PoolState<L> {
         ensures hands_back { result ≡ true → HandsBackBox self.old.book self.new.book lent }
         ensures unsignalled { result ≡ true → 1 ≤ self.new.unsignalled }
         ensures put_by { result ≡ false → PutsBy self.old.book self.new.book }
-        ensures not_told { result ≡ false → self.new.unsignalled ≡ self.old.unsignalled }
+        ensures none_noted { result ≡ false → self.new.unsignalled ≡ self.old.unsignalled }
         ensures stays { self.new ≡ record self.old { book = self.new.book; unsignalled = self.new.unsignalled } }
     {
         if let Err(refused) = self.book.hand_back_box(lent) {
@@ -221,9 +221,9 @@ impl<L: Ledger> PoolState<L> {
     /// there is none, or the pool is closed.
     pub(crate) fn fetch(&mut self, user: u8, own: &mut EndBoxes) -> bool
         ensures some { result ≡ true → FetchesInHand user self.old.book own.old self.new.book own.new }
-        ensures all { result ≡ true → (length own.new.hand ≡ MAX_IN_HAND) ⊎ HasNoResult user self.new.book.held }
-        ensures none { result ≡ false → self.old.closed ≡ false → HasNoResult user self.old.book.held }
-        ensures unchanged { result ≡ false → self.new.book.held ≡ self.old.book.held }
+        ensures all { result ≡ true → (length own.new.hand ≡ MAX_IN_HAND) ⊎ HasNoResult user self.new.book.inner }
+        ensures none { result ≡ false → self.old.closed ≡ false → HasNoResult user self.old.book.inner }
+        ensures unchanged { result ≡ false → self.new.book.inner ≡ self.old.book.inner }
         ensures same_results { result ≡ false → SameResults own.old own.new }
         ensures kept { NoneIsLost self.old.book own.old self.new.book own.new }
         ensures put_by { own.new.spare ≤ 1 }
@@ -267,14 +267,14 @@ impl<L: Ledger> PoolState<L> {
     fn fetch_more(&mut self, user: u8, own: &mut EndBoxes)
         requires { own.old.spare ≤ 1 }
         ensures fetches { (others : List Task) × (own.new ≡ record own.old { hand = own.old.hand ++ others })
-            × FetchesEach others self.old.book.held self.new.book.held × All (λ done. user_of done ≡ user) others }
-        ensures all { (length own.new.hand ≡ MAX_IN_HAND) ⊎ HasNoResult user self.new.book.held }
+            × FetchesEach others self.old.book.inner self.new.book.inner × All (λ done. user_of done ≡ user) others }
+        ensures all { (length own.new.hand ≡ MAX_IN_HAND) ⊎ HasNoResult user self.new.book.inner }
         ensures kept { boxes_of self.new.book + length own.new.hand
             ≡ boxes_of self.old.book + length own.old.hand }
         ensures made { self.new.book.made ≡ self.old.book.made }
         ensures stays { self.new ≡ record self.old { book = self.new.book } }
     {
-        for _held in own.in_hand()..MAX_IN_HAND {
+        for _in_hand in own.in_hand()..MAX_IN_HAND {
             let Some(next) = self.book.fetch_box(user, 0) else {
                 return;
             };
@@ -342,18 +342,18 @@ impl<L: Ledger> PoolState<L> {
     /// Returns whether no task can be posted before an entry leaves the book or a box becomes spare.
     pub(crate) fn is_full(&self) -> bool
         ensures { result ≡ false
-            ↔ ((entry_count self.now.book.held ≢ MAX_ENTRIES) × (0 < self.now.book.spare)) }
+            ↔ ((entry_count self.now.book.inner ≢ MAX_ENTRIES) × (0 < self.now.book.spare)) }
     {
         self.book.counts().entries == MAX_ENTRIES as u64 || !self.book.has_spare()
     }
 
     /// Returns the counts of the book.
     pub(crate) fn counts(&self) -> Counts
-        ensures posted { result.posted ≡ self.now.book.held.posted }
-        ensures given { result.given ≡ self.now.book.held.given }
-        ensures fetched { result.fetched ≡ self.now.book.held.fetched }
-        ensures withdrawn { result.withdrawn ≡ self.now.book.held.withdrawn }
-        ensures entries { result.entries ≡ entry_count self.now.book.held }
+        ensures posted { result.posted ≡ self.now.book.inner.posted }
+        ensures given { result.given ≡ self.now.book.inner.given }
+        ensures fetched { result.fetched ≡ self.now.book.inner.fetched }
+        ensures withdrawn { result.withdrawn ≡ self.now.book.inner.withdrawn }
+        ensures entries { result.entries ≡ entry_count self.now.book.inner }
         ensures balance { result.posted ≡ result.fetched + result.withdrawn + result.entries }
         ensures given_posted { result.given ≤ result.posted }
     {
@@ -363,7 +363,7 @@ impl<L: Ledger> PoolState<L> {
     /// Returns the number of results given, which is the amount of all parts of the ledger together.
     pub(crate) fn audited(&mut self, all: &mut ledger::Share<L>) -> u64
         requires { all.old.parts ≡ L.parts }
-        ensures given { result ≡ self.old.book.held.given }
+        ensures given { result ≡ self.old.book.inner.given }
         ensures amount { result ≡ all.old.amount }
         ensures unchanged { self.new ≡ self.old }
     {

@@ -4,9 +4,9 @@ use Rattle.lj_book.proofs.book.Book.withdraw.Goals as goal
 
 pub invariant_of-self : goal.invariant_of-self
 invariant_of-self c =
-    let held = c.self.invariant in
+    let kept = c.self.invariant in
     record {
-      boxes = omega (arith, held.boxes, c.withdraw.ensures.boxes, all_boxed c.self.inside.held.slots, all_boxed c.withdraw.new.self.slots);
-      one = omega (arith, held.one, c.withdraw.ensures.grows);
-      places = omega (arith, held.places, c.withdraw.ensures.places);
+      boxes = omega (arith, kept.boxes, c.withdraw.ensures.boxes, all_boxed c.self.inside.inner.slots, all_boxed c.withdraw.new.self.slots);
+      one = omega (arith, kept.one, c.withdraw.ensures.grows);
+      places = omega (arith, kept.places, c.withdraw.ensures.places);
     }

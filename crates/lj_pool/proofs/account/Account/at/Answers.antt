@@ -10,7 +10,7 @@ pub bounds-self-inside-place : goal.bounds-self-inside-place
 bounds-self-inside-place c =
     let kept = c.self.invariant in
     let inside : c.args.here < c.self.inside.owed =
-    omega (arith, c.requires, kept.held, ap (λ s. length s.owed) c.self.view_is) in
+    omega (arith, c.requires, kept.count, ap (λ s. length s.owed) c.self.view_is) in
     let is = c.from-place.ensures ∙ ap (λ xs. get_or xs c.args.here 0) c.deref.ensures.0 in
     subst (λ k. k < MAX_OWED) (sym is)
     (place_within c.self.inside.places.items kept.once c.args.here (omega (arith, kept.all, kept.most, inside)))
@@ -24,7 +24,7 @@ returns c =
     let tasks = c.self.inside.tasks in
     let here = c.args.here in
     let inside : here < c.self.inside.owed =
-    omega (arith, c.requires, kept.held, ap (λ s. length s.owed) c.self.view_is) in
+    omega (arith, c.requires, kept.count, ap (λ s. length s.owed) c.self.view_is) in
     let is = c.from-place.ensures ∙ ap (λ xs. get_or xs here 0) c.deref.ensures.0 in
     let fits : c.from-place.result < length tasks = omega (
       arith,

@@ -8,7 +8,7 @@ pub bounds-self-inside-place : goal.bounds-self-inside-place
 bounds-self-inside-place c =
     let kept = c.self.invariant in
     let owed = c.self.inside.owed in
-    let room : owed < MAX_OWED = omega (arith, c.requires, kept.held, ap (λ s. length s.owed) c.self.view_is) in
+    let room : owed < MAX_OWED = omega (arith, c.requires, kept.count, ap (λ s. length s.owed) c.self.view_is) in
     let is = c.from-place.ensures ∙ ap (λ xs. get_or xs owed 0) c.deref.ensures.0 in
     subst (λ k. k < MAX_OWED) (sym is)
     (place_within c.self.inside.places.items kept.once owed (omega (arith, kept.all, room)))
@@ -21,7 +21,7 @@ invariant_of-self c =
     let kept = c.self.invariant in
     let owed = c.self.inside.owed in
     let places = c.self.inside.places.items in
-    let room : owed < MAX_OWED = omega (arith, c.requires, kept.held, ap (λ s. length s.owed) c.self.view_is) in
+    let room : owed < MAX_OWED = omega (arith, c.requires, kept.count, ap (λ s. length s.owed) c.self.view_is) in
     let is = c.from-place.ensures ∙ ap (λ xs. get_or xs owed 0) c.deref.ensures.0 in
     subst (λ slot. IsKept (set c.self.inside.tasks c.from-place.result slot) places (owed + 1)) (sym c.keep.ensures)
     (subst (λ k. IsKept (set c.self.inside.tasks k (Some c.args.task.now)) places (owed + 1)) (sym is)
@@ -33,7 +33,7 @@ returns-clause-posted c =
     let owed = c.self.inside.owed in
     let tasks = c.self.inside.tasks in
     let places = c.self.inside.places.items in
-    let room : owed < MAX_OWED = omega (arith, c.requires, kept.held, ap (λ s. length s.owed) c.self.view_is) in
+    let room : owed < MAX_OWED = omega (arith, c.requires, kept.count, ap (λ s. length s.owed) c.self.view_is) in
     let is = c.from-place.ensures ∙ ap (λ xs. get_or xs owed 0) c.deref.ensures.0 in
     record {
       owed = ap (λ slot. tasks_owed (set tasks c.from-place.result slot) (take (owed + 1) places)) c.keep.ensures

@@ -7,7 +7,7 @@ use Rattle.lj_pool.proofs.account.Account.take_off.Goals.{After-push}
 use Rattle.lj_pool.proofs.account.Account.take_off.Goals as goal
 
 inside : (c : After-push) → c.args.here < c.self.inside.owed
-inside c = omega (arith, c.requires, c.self.invariant.held, ap (λ s. length s.owed) c.self.view_is)
+inside c = omega (arith, c.requires, c.self.invariant.count, ap (λ s. length s.owed) c.self.view_is)
 
 -- the place is moved to the end
 places_are : (c : After-push) → c.push.new.self.items

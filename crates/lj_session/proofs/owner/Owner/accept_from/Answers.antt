@@ -22,14 +22,14 @@ invariant_of-self c = either-way c.accept_from.result c.accept_from.ensures.take
     taken : c.accept_from.new.self ≡ with_session_changed c.name.result.now.label.session tile old
         → IsOwner (record { state = c.accept_from.new.self; user = c.self.inside.user; waiting = waiting })
     taken is = record {
-      at_work = subst (λ (owned : UserState). IsAtWork waiting owned) (sym is)
+      at_work = subst (λ (state : UserState). IsAtWork waiting state) (sym is)
           (at_work-taken waiting old c.name.result.now.label.session (tile_number_of c.args.done.now) c.self.invariant.at_work);
       some = turns-some waiting old c.accept_from.new.self (λ command w. turns-kept old c.accept_from.new.self command c.accept_from.ensures.user
-          (λ other waits. ap (λ (owned : UserState). pending_in owned other) is ∙ pending-changed old c.name.result.now.label.session tile (λ held. refl) other))
+          (λ other waits. ap (λ (state : UserState). pending_in state other) is ∙ pending-changed old c.name.result.now.label.session tile (λ held. refl) other))
           c.self.invariant.some;
     }
 
     unchanged : c.accept_from.new.self ≡ old
         → IsOwner (record { state = c.accept_from.new.self; user = c.self.inside.user; waiting = waiting })
-    unchanged is = subst (λ (owned : UserState). IsOwner (record { state = owned; user = c.self.inside.user; waiting = waiting }))
+    unchanged is = subst (λ (state : UserState). IsOwner (record { state = state; user = c.self.inside.user; waiting = waiting }))
         (sym is) c.self.invariant

@@ -21,11 +21,11 @@ returns-clause-some g c =
         whose_others = more.3;
       };
       fetches = (
-        c.fetch_box.new.self.held,
+        c.fetch_box.new.self.inner,
         (
           first.0,
-          subst (λ held. Fetches held c.fetch_box.new.self.held c.in-Some.first first.0)
-              (ap (λ (state : PoolState). state.book.held) (c.self.view_is ∙ c.put_spare_by.ensures.stays))
+          subst (λ book. Fetches book c.fetch_box.new.self.inner c.in-Some.first first.0)
+              (ap (λ (state : PoolState). state.book.inner) (c.self.view_is ∙ c.put_spare_by.ensures.stays))
               first.1.fetches,
         ),
         more.2,

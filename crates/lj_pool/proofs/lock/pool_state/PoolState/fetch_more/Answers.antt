@@ -6,16 +6,16 @@ use Rattle.lj_pool.specs.EndBoxes.{EndBoxes}
 use Rattle.lj_pool.proofs.EndBoxLemmas.{fetches_more, users_result}
 use Rattle.lj_pool.proofs.lock.pool_state.PoolState.fetch_more.Goals as goal
 
-pub loop-held-preserved : goal.loop-held-preserved
-loop-held-preserved g c =
-    let before = c.loop-held.invariant in
+pub loop-in_hand-preserved : goal.loop-in_hand-preserved
+loop-in_hand-preserved g c =
+    let before = c.loop-in_hand.invariant in
     let done = c.in-Some.next in
     let next = c.in-Some.ensures.some in
     let pushed = c.push.ensures in
-    let one_more : length c.push.new.self.hand ≡ length c.loop-held.own.hand + 1 =
-    ap (λ (own : EndBoxes). length own.hand) pushed ∙ length_push c.loop-held.own.hand done in
+    let one_more : length c.push.new.self.hand ≡ length c.loop-in_hand.own.hand + 1 =
+    ap (λ (own : EndBoxes). length own.hand) pushed ∙ length_push c.loop-in_hand.own.hand done in
     record {
-      held = omega (arith, before.held, one_more);
+      in_hand = omega (arith, before.in_hand, one_more);
       last = ap (λ (own : EndBoxes). own.last) pushed ∙ before.last;
       spare = ap (λ (own : EndBoxes). own.spare) pushed ∙ before.spare;
       took_all = ap (λ (own : EndBoxes). own.took_all) pushed ∙ before.took_all;
