@@ -51,6 +51,11 @@ impl Model for Nano {
 
 impl Nano {
     /// Makes a number of billionths, if its size is at most [`MAX_NANO`].
+    ///
+    /// ```rust
+    /// assert_eq!(Nano::new(-250_000_000)?.get(), -250_000_000);
+    /// assert_eq!(Nano::new(1_000_000_000_000_001), None);
+    /// ```
     pub fn new(billionths: i64) -> Option<Nano>
         ensures within { IsSome result ↔ (unsigned_abs billionths ≤ MAX_NANO) }
         ensures value { IfSome result (λ nano. nano ≡ billionths) }
@@ -63,6 +68,10 @@ impl Nano {
     }
 
     /// Returns the number of billionths.
+    ///
+    /// ```rust
+    /// assert_eq!(parse_nano(b"-0.25")?.get(), -250_000_000);
+    /// ```
     pub fn get(self) -> i64
         ensures value { result ≡ self }
         ensures within { unsigned_abs result ≤ MAX_NANO }

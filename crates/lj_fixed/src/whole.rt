@@ -10,6 +10,11 @@ const MAX_DIGITS: usize = 19;
 
 /// Parses a word of 1 to 19 digits; `None` for any other word.
 ///
+/// ```rust
+/// assert_eq!(parse_number(b"4096"), Some(4_096));
+/// assert_eq!(parse_number(b"+1"), None);
+/// ```
+///
 /// Promise: the result is the value of a word of 1 to 19 digits, and nothing for any other word.
 #[tactic(auto, unfolding(crate::specs::Numbers::number_of))]
 pub fn parse_number(word: &[u8]) -> Option<u64>
