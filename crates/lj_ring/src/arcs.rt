@@ -25,6 +25,11 @@ impl Arcs {
     /// Returns the arcs of one or more places: on each axis from the least to the greatest image of a coordinate from
     /// the first place's.
     ///
+    /// ```rust
+    /// let places = [Place { x: 5, y: 0, z: 0 }, Place { x: 4_294_967_290, y: 0, z: 0 }];
+    /// assert_eq!(Arcs::of(&places).x, Arc { start: 4_294_967_290, len: 11 });
+    /// ```
+    ///
     /// Promise: the arcs hold each of the places, along each axis.
     pub fn of(places: &[Place]) -> Arcs
         requires { 1 ≤ length places.now }
@@ -43,6 +48,12 @@ impl Arcs {
 
     /// Returns the squared gap of two blocks, in square ring units: the sum of the squares of the gaps of their arcs
     /// along each axis, at most 3 * 2^62.
+    ///
+    /// ```rust
+    /// let one = Arcs::of(&[Place { x: 0, y: 0, z: 0 }, Place { x: 10, y: 0, z: 0 }]);
+    /// let other = Arcs::of(&[Place { x: 13, y: 4, z: 0 }]);
+    /// assert_eq!(one.squared_gap(&other), 25);
+    /// ```
     #[inline]
     pub fn squared_gap(&self, other: &Arcs) -> u64
         ensures value { result ≡ arcs.squared_gap self.now other.now }
@@ -55,6 +66,10 @@ impl Arcs {
 }
 
 /// Returns the gap between two arcs the shorter way round, in ring units: 0 where they meet, and at most 2^31.
+///
+/// ```rust
+/// assert_eq!(gap(&Arc { start: 4_294_967_290, len: 10 }, &Arc { start: 9, len: 2 }), 5);
+/// ```
 ///
 /// Promise: the gap of two arcs is at most the size of the image of any two coordinates on them.
 #[inline]

@@ -41,6 +41,11 @@ fn square(image: i32) -> u64
 
 /// Returns the squared distance of two places, in square ring units, at most 3 * 2^62.
 ///
+/// ```rust
+/// let (a, b) = (Place { x: 0, y: 3, z: 0 }, Place { x: 4_294_967_294, y: 0, z: 6 });
+/// assert_eq!(dist2(&a, &b), 49);
+/// ```
+///
 /// Promise: the result is the sum of the squares of the three images.
 #[inline]
 pub fn dist2(a: &Place, b: &Place) -> u64
@@ -70,6 +75,11 @@ pub fn place_of(position: Nano, edge: &Edge) -> u32
 }
 
 /// Returns the position of a coordinate in millionths of a file unit: `floor(place * edge / (2^32 * 1000))`.
+///
+/// ```rust
+/// let scale = Scale::new(parse_nano(b"256")?, parse_nano(b"1")?, 1)?;
+/// assert_eq!(micro_of(25_165_824, &scale.edge()), 1_500_000);
+/// ```
 ///
 /// Promise: the result is floor(place * edge / (2^32 * 1000)).
 pub fn micro_of(place: u32, edge: &Edge) -> u64

@@ -50,6 +50,11 @@ impl Weight {
     };
 
     /// Makes a weight of `parts` 256ths; `None` unless they are 1 to 65,536.
+    ///
+    /// ```rust
+    /// assert_eq!(Weight::new(512)?.parts(), 512);
+    /// assert_eq!(Weight::new(0), None);
+    /// ```
     pub fn new(parts: u64) -> Option<Weight>
         ensures { SomeIff result (IsTrue (is_weight parts)) parts }
     {
@@ -63,6 +68,10 @@ impl Weight {
     }
 
     /// Returns the weight in 256ths.
+    ///
+    /// ```rust
+    /// assert_eq!(Weight::WHOLE.parts(), 256);
+    /// ```
     #[inline]
     pub fn parts(&self) -> u32
         ensures value { result ≡ self.now }
@@ -164,6 +173,12 @@ impl Mix {
     /// # Errors
     /// The first class that does not fit, with the first of its edge, sigma, step factor and weight that does not.
     ///
+    /// ```rust
+    /// let (edge, one, half) = (parse_nano(b"256")?, parse_nano(b"1")?, parse_nano(b"0.5")?);
+    /// let mix = Mix::new([(one, 100, 256), (one, 200, 128), (half, 400, 512)], edge)?;
+    /// assert_eq!(mix.class(Species::Second, Species::Second).scale.step_factor(), 400);
+    /// ```
+    ///
     /// Promise: the result is the mixture, or the first fault of the first class that has one.
     pub fn new(classes: [(Nano, u64, u64); 3], edge: Nano) -> Result<Mix, MixFault>
         ensures { (first unlike second : ℤ × ℕ × ℕ) → classes ≡ first ∷ unlike ∷ second ∷ [] →
@@ -178,6 +193,11 @@ impl Mix {
     }
 
     /// Returns the mixture in which all atoms are alike: one class of the whole weight.
+    ///
+    /// ```rust
+    /// let mix = Mix::one(Scale::new(parse_nano(b"256")?, parse_nano(b"1")?, 1)?);
+    /// assert_eq!(mix.class(Species::First, Species::Second).weight, Weight::WHOLE);
+    /// ```
     pub fn one(scale: Scale) -> Mix
         ensures { result ≡ mixtures.pure_mix scale }
     {
@@ -189,6 +209,11 @@ impl Mix {
     }
 
     /// Returns the edge of the box.
+    ///
+    /// ```rust
+    /// let mix = Mix::one(Scale::new(parse_nano(b"256")?, parse_nano(b"1")?, 1)?);
+    /// assert_eq!(mix.edge().nano(), 256_000_000_000);
+    /// ```
     pub fn edge(&self) -> Edge
         ensures { result ≡ edge_of self.now }
     {
@@ -196,6 +221,12 @@ impl Mix {
     }
 
     /// Returns the class of two atoms by their species, in either order.
+    ///
+    /// ```rust
+    /// let (edge, one) = (parse_nano(b"256")?, parse_nano(b"1")?);
+    /// let mix = Mix::new([(one, 100, 256), (one, 100, 128), (one, 100, 512)], edge)?;
+    /// assert_eq!(mix.class(Species::Second, Species::First).weight.parts(), 128);
+    /// ```
     ///
     /// Promise: the class of two atoms is that of their species, in either order.
     #[inline]
@@ -212,6 +243,12 @@ impl Mix {
 
     /// Returns the least squared distance out of reach of all pairs, in square ring units: that of the class of the
     /// greatest sigma. No pair that interacts lies half the box apart.
+    ///
+    /// ```rust
+    /// let (edge, one, two) = (parse_nano(b"256")?, parse_nano(b"1")?, parse_nano(b"2")?);
+    /// let mix = Mix::new([(one, 100, 256), (one, 100, 256), (two, 100, 256)], edge)?;
+    /// assert_eq!(mix.reach(), 83_886_080 * 83_886_080); // 2.5 times the greatest sigma
+    /// ```
     ///
     /// Promise: some pair can interact exactly below this squared distance.
     #[inline]

@@ -58,6 +58,11 @@ impl Model for Edge {
 
 impl Edge {
     /// Returns the length of the edge in nano.
+    ///
+    /// ```rust
+    /// let scale = Scale::new(parse_nano(b"256")?, parse_nano(b"1")?, 1)?;
+    /// assert_eq!(scale.edge().nano(), 256_000_000_000);
+    /// ```
     #[inline]
     pub fn nano(&self) -> u64
         ensures value { result ≡ self.now }
@@ -146,6 +151,12 @@ impl Scale {
     /// Makes the scale of an edge and a sigma in nano, and a step factor `h` in units of 2^-32, 1 to 2^24.
     /// The edge is tested first, then sigma, then the step factor.
     ///
+    /// ```rust
+    /// let (four, one) = (parse_nano(b"4")?, parse_nano(b"1")?);
+    /// assert_eq!(Scale::new(parse_nano(b"256")?, one, 131_072)?.step_factor(), 131_072);
+    /// assert_eq!(Scale::new(four, one, 131_072), Err(ScaleFault::Sigma));
+    /// ```
+    ///
     /// Promise: the result is the scale, or the first fault of edge, sigma and step factor.
     pub fn new(edge: Nano, sigma: Nano, h: u64) -> Result<Scale, ScaleFault>
         ensures { result ≡ scale_of edge sigma h }
@@ -163,6 +174,10 @@ impl Scale {
     }
 
     /// Returns the scale of the greatest box, with the least sigma and the least step factor.
+    ///
+    /// ```rust
+    /// assert_eq!(Scale::least().edge().nano(), 1_000_000_000_000_000);
+    /// ```
     pub fn least() -> Scale
         ensures { result ≡ least_scale }
     {
@@ -170,6 +185,11 @@ impl Scale {
     }
 
     /// Returns the edge of the box.
+    ///
+    /// ```rust
+    /// let scale = Scale::new(parse_nano(b"256")?, parse_nano(b"1")?, 1)?;
+    /// assert_eq!(scale.edge().nano(), 256_000_000_000);
+    /// ```
     pub fn edge(&self) -> Edge
         ensures { result ≡ self.now.edge }
     {
@@ -177,6 +197,11 @@ impl Scale {
     }
 
     /// Returns the step factor in units of 2^-32. No pair that interacts lies half the box apart.
+    ///
+    /// ```rust
+    /// let scale = Scale::new(parse_nano(b"256")?, parse_nano(b"1")?, 131_072)?;
+    /// assert_eq!(scale.step_factor(), 131_072);
+    /// ```
     #[inline]
     pub fn step_factor(&self) -> u32
         ensures value { result ≡ self.now.step_factor }
@@ -187,6 +212,11 @@ impl Scale {
     }
 
     /// Returns the least squared distance out of reach, in square ring units: a pair interacts below it and not from it on.
+    ///
+    /// ```rust
+    /// let scale = Scale::new(parse_nano(b"256")?, parse_nano(b"1")?, 1)?;
+    /// assert_eq!(scale.reach(), 41_943_040 * 41_943_040); // 2.5 sigma
+    /// ```
     ///
     /// Promise: a pair is within the cutoff exactly below this squared distance.
     #[inline]
@@ -199,6 +229,12 @@ impl Scale {
 
     /// Returns the bins of eight pairs whose images have these lengths along the axes, in ring units; [`BINS`] for a
     /// pair that does not interact.
+    ///
+    /// ```rust
+    /// let scale = Scale::new(parse_nano(b"256")?, parse_nano(b"1")?, 1)?;
+    /// let (x, zero) = (u32x8::splat(25_165_824), u32x8::splat(0)); // 1.5 sigma apart along x
+    /// assert_eq!(scale.bins(x, zero, zero), u32x8::splat(288));
+    /// ```
     ///
     /// Promise: each bin is that of its pair's squared distance, and 800 out of reach.
     #[inline(always)]
@@ -213,6 +249,12 @@ impl Scale {
     }
 
     /// Returns the bin, below [`BINS`], of a pair at squared distance `s`, or None if it does not interact.
+    ///
+    /// ```rust
+    /// let scale = Scale::new(parse_nano(b"256")?, parse_nano(b"1")?, 1)?;
+    /// assert_eq!(scale.bin_within_reach(25_165_824 * 25_165_824), Some(288)); // 1.5 sigma
+    /// assert_eq!(scale.bin_within_reach(41_943_040 * 41_943_040), None); // 2.5 sigma
+    /// ```
     #[inline]
     pub fn bin_within_reach(&self, s: u64) -> Option<usize>
         ensures reach { MatchOption result (is_in_cutoff self.now s ≡ false)
