@@ -35,6 +35,10 @@ pub struct Table {
 
 impl Table {
     /// Computes the table from the closed forms of its entries.
+    ///
+    /// ```rust
+    /// assert_eq!(Table::new().push(0, &Scale::least()), 91_369_185_901);
+    /// ```
     pub fn new() -> Table {
         let mut pushes = [0; BINS];
         let mut energies = [0; BINS];
@@ -73,6 +77,10 @@ impl Table {
     /// Returns the sizes of the pushes of eight bins, in units of 2^-24, and 0 for bin [`BINS`]. A push is repulsive up
     /// to bin [`LAST_APART`], and attractive from the next on.
     ///
+    /// ```rust
+    /// assert_eq!(Table::new().push_sizes(u32x8::splat(288)), u64x8::splat(12_876_994));
+    /// ```
+    ///
     /// Promise: each number is the size of its bin's entry, whose sign follows from the bin.
     #[inline(always)]
     pub fn push_sizes(&self, bins: u32x8) -> u64x8
@@ -89,6 +97,11 @@ impl Table {
     /// Returns the energy of a pair at squared distance `s` (square ring units) times its weight, in units of 2^-24 ε
     /// and rounded toward zero; 0 out of reach.
     ///
+    /// ```rust
+    /// // 1.5 sigma apart, with sigma 2^24 ring units
+    /// assert_eq!(Table::new().energy(25_165_824 * 25_165_824, &scale, Weight::WHOLE), -5_349_132);
+    /// ```
+    ///
     /// Promise: the result is the entry of the pair's bin times the weight, toward zero, and 0 out of reach.
     #[inline]
     pub fn energy(&self, s: u64, scale: &Scale, weight: Weight) -> i64
@@ -100,6 +113,10 @@ impl Table {
 
     /// Returns the sizes of the energies of eight bins, in units of 2^-24 ε, and 0 for bin [`BINS`]. An energy is
     /// positive up to bin [`LAST_POSITIVE`], and negative from the next on.
+    ///
+    /// ```rust
+    /// assert_eq!(Table::new().energy_sizes(u32x8::splat(288)), u64x8::splat(5_349_132));
+    /// ```
     #[inline(always)]
     pub fn energy_sizes(&self, bins: u32x8) -> u64x8
         requires { (k : ℕ) → k < 8 → slice_index bins k ≤ BINS }
