@@ -43,24 +43,41 @@ impl Rows {
         Rows { rows }
     }
 
+    /// ```rust
+    /// let rows = read_rest(alloc, b"2\ndimer\nAr 0 0 0\nAr 1.5 0 0\n", None)?;
+    /// assert_eq!(rows.len(), 2);
+    /// ```
     pub fn len(&self) -> usize
         ensures rows { result ≡ length self.now }
     {
         self.rows.len()
     }
 
+    /// ```rust
+    /// let rows = read_rest(alloc, b"2\ndimer\nAr 0 0 0\nAr 1.5 0 0\n", None)?;
+    /// assert!(!rows.is_empty());
+    /// ```
     pub fn is_empty(&self) -> bool
         ensures { result ≡ (length self.now == 0) }
     {
         self.rows.is_empty()
     }
 
+    /// ```rust
+    /// let rows = read_rest(alloc, b"2\ndimer\nAr 0 0 0\nAr 1.5 0 0\n", None)?;
+    /// assert_eq!(rows.len(), 2);
+    /// assert_eq!(rows.as_slice()[1].x.get(), 1_500_000_000);
+    /// ```
     pub fn as_slice(&self) -> &[AtomRow]
         ensures { result.now ≡ self.now }
     {
         self.rows.as_slice()
     }
 
+    /// ```rust
+    /// let rows = read_rest(alloc, b"2\ndimer\nAr 0 0 0\nAr 1.5 0 0\n", None)?;
+    /// assert_eq!(rows.into_vec().len(), 2);
+    /// ```
     pub fn into_vec(self) -> Vec<AtomRow>
         ensures { result.items ≡ self }
     {

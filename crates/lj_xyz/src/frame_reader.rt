@@ -250,6 +250,12 @@ fn first_two_frames(
 /// # Errors
 /// The first fault in reading order, or `Memory` if there is none for the rows. Their lines are not read then.
 ///
+/// ```rust
+/// let rows = read_rest(alloc, b"2\ndimer\nAr 0 0 0\nAr 1.5 0 0\n", None)?;
+/// assert_eq!(rows.len(), 2);
+/// assert_eq!(rows.as_slice()[1].x.get(), 1_500_000_000);
+/// ```
+///
 /// Promise: the result is the first frame of the text, or its first fault in reading order, or that memory ran out.
 pub fn read_rest(alloc: Global, text: &[u8], symbols: Option<&SymbolPair>) -> Result<Rows, XyzError>
     ensures frame { IfOk result (λ rows.
@@ -270,6 +276,12 @@ pub fn read_rest(alloc: Global, text: &[u8], symbols: Option<&SymbolPair>) -> Re
 ///
 /// # Errors
 /// The first fault in reading order, or `Memory` if there is none for the rows of a frame. Their lines are not read then.
+///
+/// ```rust
+/// let frames = read_pair(alloc, b"1\nearlier\nH 0 0 0\n1\nlater\nH 0 0 0.25\n", None)?;
+/// assert_eq!(frames.second.len(), 1);
+/// assert_eq!(frames.second.as_slice()[0].z.get(), 250_000_000);
+/// ```
 ///
 /// Promise: the result is the first two frames of the text, with equal numbers of atoms, or its first fault, or that
 /// memory ran out.

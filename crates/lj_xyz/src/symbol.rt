@@ -44,6 +44,11 @@ fn all_graphic(word: &[u8]) -> bool
 
 impl Symbol {
     /// Makes a symbol of a word, if it is one.
+    ///
+    /// ```rust
+    /// assert!(Symbol::new(b"Ar").is_some());
+    /// assert!(Symbol::new(b"two words").is_none());
+    /// ```
     pub fn new(word: &[u8]) -> Option<Symbol>
         ensures { SomeIff result (IsTrue (is_symbol word.now)) word.now }
     {
@@ -55,6 +60,9 @@ impl Symbol {
         Some(Symbol { bytes })
     }
 
+    /// ```rust
+    /// assert_eq!(Symbol::new(b"Ar")?.as_bytes(), b"Ar".as_slice());
+    /// ```
     pub fn as_bytes(&self) -> &[u8]
         ensures value { result.now ≡ self.now }
         ensures symbol { IsTrue (is_symbol self.now) }

@@ -24,6 +24,11 @@ impl Model for SymbolPair {
 
 impl SymbolPair {
     /// Makes a pair of two symbols, if they differ.
+    ///
+    /// ```rust
+    /// assert!(SymbolPair::new(Symbol::new(b"Na")?, Symbol::new(b"Cl")?).is_some());
+    /// assert!(SymbolPair::new(Symbol::new(b"Na")?, Symbol::new(b"Na")?).is_none());
+    /// ```
     pub fn new(first: Symbol, second: Symbol) -> Option<SymbolPair>
         ensures { result ≡ pair_of first second }
     {
@@ -34,6 +39,11 @@ impl SymbolPair {
     }
 
     /// Returns the symbol of the first species.
+    ///
+    /// ```rust
+    /// let pair = SymbolPair::new(Symbol::new(b"Na")?, Symbol::new(b"Cl")?)?;
+    /// assert_eq!(pair.first().as_bytes(), b"Na".as_slice());
+    /// ```
     pub fn first(&self) -> &Symbol
         ensures value { result.now ≡ self.now.first }
         ensures pair { IsSymbolPair self.now }
@@ -42,6 +52,11 @@ impl SymbolPair {
     }
 
     /// Returns the symbol of the second species.
+    ///
+    /// ```rust
+    /// let pair = SymbolPair::new(Symbol::new(b"Na")?, Symbol::new(b"Cl")?)?;
+    /// assert_eq!(pair.second().as_bytes(), b"Cl".as_slice());
+    /// ```
     pub fn second(&self) -> &Symbol
         ensures value { result.now ≡ self.now.second }
         ensures pair { IsSymbolPair self.now }
@@ -50,6 +65,12 @@ impl SymbolPair {
     }
 
     /// Returns whether a symbol is one of the two.
+    ///
+    /// ```rust
+    /// let pair = SymbolPair::new(Symbol::new(b"Na")?, Symbol::new(b"Cl")?)?;
+    /// assert!(pair.has(&Symbol::new(b"Na")?));
+    /// assert!(!pair.has(&Symbol::new(b"Ar")?));
+    /// ```
     pub fn has(&self, symbol: &Symbol) -> bool
         ensures { result ≡ is_of_pair self.now symbol.now }
     {
@@ -57,6 +78,11 @@ impl SymbolPair {
     }
 
     /// Returns whether a symbol is the second one.
+    ///
+    /// ```rust
+    /// let pair = SymbolPair::new(Symbol::new(b"Na")?, Symbol::new(b"Cl")?)?;
+    /// assert!(pair.is_second(&Symbol::new(b"Cl")?));
+    /// ```
     pub fn is_second(&self, symbol: &Symbol) -> bool
         ensures { result ≡ is_second self.now symbol.now }
     {
@@ -64,6 +90,11 @@ impl SymbolPair {
     }
 
     /// Returns an equal pair.
+    ///
+    /// ```rust
+    /// let pair = SymbolPair::new(Symbol::new(b"Na")?, Symbol::new(b"Cl")?)?;
+    /// assert_eq!(pair.copy().second().as_bytes(), b"Cl".as_slice());
+    /// ```
     pub fn copy(&self) -> SymbolPair
         ensures { result ≡ self.now }
     {

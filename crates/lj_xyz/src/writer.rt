@@ -15,6 +15,10 @@ pub const MAX_LINE_BYTES: usize = MAX_SYMBOL_BYTES + 3 * MAX_COORDINATE_BYTES;
 pub type FrameLine = ArrayVec<u8, MAX_LINE_BYTES>;
 
 /// Returns the line with the number of atoms.
+///
+/// ```rust
+/// assert_eq!(count_line(4_096).as_slice(), b"4096".as_slice());
+/// ```
 pub fn count_line(atoms: usize) -> FrameLine
     ensures { result.items ≡ count_text atoms }
 {
@@ -24,6 +28,10 @@ pub fn count_line(atoms: usize) -> FrameLine
 }
 
 /// Returns the comment line: `step` and the number of the step.
+///
+/// ```rust
+/// assert_eq!(comment_line(-12).as_slice(), b"step -12".as_slice());
+/// ```
 pub fn comment_line(step: i64) -> FrameLine
     ensures { result.items ≡ comment_text step }
 {
@@ -48,6 +56,12 @@ pub fn atom_line(symbol: &Symbol, x: u64, y: u64, z: u64) -> FrameLine
 }
 
 /// Appends the line of an atom: its symbol, and its coordinates in millionths of a file unit.
+///
+/// ```rust
+/// let mut text = ArrayVec::<u8, MAX_LINE_BYTES>::new();
+/// push_atom_line(&mut text, &Symbol::new(b"Ar")?, 1_499_894, 105, 0);
+/// assert_eq!(text.as_slice(), b"Ar 1.499894 0.000105 0.000000".as_slice());
+/// ```
 pub fn push_atom_line<const CAP: usize>(
     line: &mut ArrayVec<u8, CAP>,
     symbol: &Symbol,
