@@ -33,6 +33,12 @@ impl Model for Block {
 
 impl Block {
     /// Makes a block of these places; the bits of `species_bits` mark those of the second species.
+    ///
+    /// ```rust
+    /// // two atoms, the later one of the second species
+    /// let block = Block::new(&[Place { x: 0, y: 0, z: 0 }, Place { x: 25_165_824, y: 0, z: 0 }], 0b10);
+    /// assert_eq!((block.places().len(), block.species_bits()), (2, 0b10));
+    /// ```
     pub fn new(places: &[Place], species_bits: u64) -> Block
         requires { length places.now ≤ BLOCK }
         ensures { result ≡ record { places = places.now; species_bits = species_bits } }
@@ -46,6 +52,11 @@ impl Block {
     }
 
     /// Returns the places, in order.
+    ///
+    /// ```rust
+    /// let block = Block::new(&[Place { x: 1, y: 2, z: 3 }], 0);
+    /// assert_eq!(block.places()[0], Place { x: 1, y: 2, z: 3 });
+    /// ```
     #[inline]
     pub fn places(&self) -> &[Place]
         ensures value { result.now ≡ self.now.places }
@@ -55,6 +66,11 @@ impl Block {
     }
 
     /// Returns which places are of atoms of the second species, bit by bit.
+    ///
+    /// ```rust
+    /// let block = Block::new(&[Place { x: 1, y: 2, z: 3 }; 3], 0b101);
+    /// assert_eq!(block.species_bits(), 0b101);
+    /// ```
     #[inline]
     pub fn species_bits(&self) -> u64
         ensures { result ≡ self.now.species_bits }
@@ -63,6 +79,11 @@ impl Block {
     }
 
     /// Returns an equal block.
+    ///
+    /// ```rust
+    /// let block = Block::new(&[Place { x: 1, y: 2, z: 3 }], 1);
+    /// assert!(block.copy().is(&block));
+    /// ```
     pub fn copy(&self) -> Block
         ensures { result ≡ self.now }
     {
@@ -70,6 +91,12 @@ impl Block {
     }
 
     /// Makes this block equal to the other.
+    ///
+    /// ```rust
+    /// let mut block = Block::new(&[Place { x: 0, y: 0, z: 0 }; 2], 0);
+    /// block.copy_from(&Block::new(&[Place { x: 1, y: 2, z: 3 }], 1));
+    /// assert!(block.has(&[Place { x: 1, y: 2, z: 3 }], 1));
+    /// ```
     pub fn copy_from(&mut self, other: &Block)
         ensures { self.new ≡ other.now }
     {
@@ -77,6 +104,12 @@ impl Block {
     }
 
     /// Makes this the block of these places; the bits of `species_bits` mark those of the second species.
+    ///
+    /// ```rust
+    /// let mut block = Block::new(&[Place { x: 0, y: 0, z: 0 }; 2], 0);
+    /// block.remake(&[Place { x: 1, y: 2, z: 3 }], 1);
+    /// assert!(block.has(&[Place { x: 1, y: 2, z: 3 }], 1));
+    /// ```
     pub fn remake(&mut self, places: &[Place], species_bits: u64)
         requires { length places.now ≤ BLOCK }
         ensures { self.new ≡ record { places = places.now; species_bits = species_bits } }
@@ -91,6 +124,12 @@ impl Block {
     }
 
     /// Returns whether this is the block of these places and species.
+    ///
+    /// ```rust
+    /// let block = Block::new(&[Place { x: 1, y: 2, z: 3 }], 1);
+    /// assert!(block.has(&[Place { x: 1, y: 2, z: 3 }], 1));
+    /// assert!(!block.has(&[Place { x: 1, y: 2, z: 3 }], 0));
+    /// ```
     #[inline]
     pub fn has(&self, places: &[Place], species_bits: u64) -> bool
         ensures { IsTrue result ↔ (self.now ≡ record { places = places.now; species_bits = species_bits }) }
@@ -99,6 +138,12 @@ impl Block {
     }
 
     /// Returns whether the other block is equal.
+    ///
+    /// ```rust
+    /// let block = Block::new(&[Place { x: 1, y: 2, z: 3 }], 0);
+    /// assert!(block.is(&Block::new(&[Place { x: 1, y: 2, z: 3 }], 0)));
+    /// assert!(!block.is(&Block::new(&[Place { x: 1, y: 2, z: 4 }], 0)));
+    /// ```
     pub fn is(&self, other: &Block) -> bool
         ensures { IsTrue result ↔ (self.now ≡ other.now) }
     {

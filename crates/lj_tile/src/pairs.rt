@@ -19,6 +19,11 @@ impl Push {
     pub const NONE: Push = Push { x: 0, y: 0, z: 0 };
 
     /// Returns the sum of two pushes.
+    ///
+    /// ```rust
+    /// let there = Push { x: 4_294_966_707, y: 7, z: 0 };
+    /// assert_eq!(Push { x: 589, y: 0, z: 0 }.plus(there), Push { x: 0, y: 7, z: 0 });
+    /// ```
     #[inline]
     pub fn plus(self, other: Push) -> Push
         ensures { result ≡ pushes.sum_of_pushes self other }
@@ -31,6 +36,10 @@ impl Push {
     }
 
     /// Returns this push minus the other.
+    ///
+    /// ```rust
+    /// assert_eq!(Push::NONE.minus(Push { x: 589, y: 0, z: 0 }), Push { x: 4_294_966_707, y: 0, z: 0 });
+    /// ```
     #[inline]
     pub fn minus(self, other: Push) -> Push
         ensures { result ≡ pushes.sum_of_pushes self (pushes.opposite_push other) }

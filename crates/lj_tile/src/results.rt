@@ -22,6 +22,13 @@ pub struct Sums {
 
 impl Sums {
     /// Makes sums that are to be overwritten.
+    ///
+    /// ```rust
+    /// // `task` as in the example of `Task`
+    /// let mut sums = Sums::blank();
+    /// compute_sums(&task, &Table::new(), &mut sums);
+    /// assert_eq!(DoneRef::new(&task, &sums).sums()[0].x, 589);
+    /// ```
     pub fn blank() -> Sums
         ensures { result.energy ≡ pos 0 }
     {
@@ -61,6 +68,12 @@ impl Model for Done {
 
 impl Done {
     /// Returns the task of this result.
+    ///
+    /// ```rust
+    /// // `task` as in the example of `Task`
+    /// let done = compute(task.copy(), &Table::new());
+    /// assert!(done.task().is(&task));
+    /// ```
     pub fn task(&self) -> &Task
         ensures { result.now ≡ self.now }
     {
@@ -68,6 +81,11 @@ impl Done {
     }
 
     /// Returns the result by reference.
+    ///
+    /// ```rust
+    /// // `done`: the result of the task in the example of `Task`
+    /// assert_eq!(done.by_ref().sums()[0], Push { x: 589, y: 0, z: 0 });
+    /// ```
     #[inline]
     pub fn by_ref(&self) -> DoneRef<'_>
         ensures { result ≡ self.now }
@@ -79,6 +97,11 @@ impl Done {
     }
 
     /// Returns the sum of the pushes on place `t` of the first block, along each axis, in ring units modulo 2^32.
+    ///
+    /// ```rust
+    /// // `task` as in the example of `Task`
+    /// assert_eq!(compute(task, &Table::new()).sum_at(0), [589, 0, 0]);
+    /// ```
     pub fn sum_at(&self, t: usize) -> [u32; 3]
         requires force { self.now.name.kind ≡ Force }
         requires within { t < length self.now.a.places }
@@ -90,6 +113,11 @@ impl Done {
 
     /// Returns the sum of the pushes on place `s` of the second block, along each axis, in ring units modulo 2^32. In a
     /// task of one block twice `sum_at` has the whole sum.
+    ///
+    /// ```rust
+    /// // `task` with the two atoms of the example of `Task`, the first as block 1 and the second as block 3
+    /// assert_eq!(compute(task, &Table::new()).second_at(0), [4_294_966_707, 0, 0]);
+    /// ```
     pub fn second_at(&self, s: usize) -> [u32; 3]
         requires force { self.now.name.kind ≡ Force }
         requires apart { self.now.name.bi < self.now.name.bj }
@@ -101,6 +129,11 @@ impl Done {
     }
 
     /// Returns the sum of the energies of the task's pairs, in units of 2^-24 ε.
+    ///
+    /// ```rust
+    /// // `task` as in the example of `Task`, but of kind Energy
+    /// assert_eq!(compute(task, &Table::new()).energy_sum(), -5_349_132);
+    /// ```
     pub fn energy_sum(&self) -> i64
         requires { self.now.name.kind ≡ Energy }
         ensures { result ≡ task_energy self.now }
@@ -109,6 +142,11 @@ impl Done {
     }
 
     /// Makes the result of a task of one atom, to be overwritten.
+    ///
+    /// ```rust
+    /// // one atom makes no pair
+    /// assert_eq!(Done::blank().energy_sum(), 0);
+    /// ```
     pub fn blank() -> Done
         ensures { result ≡ blank_task }
     {
@@ -119,6 +157,11 @@ impl Done {
     }
 
     /// Returns an equal result.
+    ///
+    /// ```rust
+    /// // `done`: the result of the task in the example of `Task`
+    /// assert_eq!(done.copy().sum_at(1), [4_294_966_707, 0, 0]);
+    /// ```
     pub fn copy(&self) -> Done
         ensures { result ≡ self.now }
     {
@@ -126,6 +169,13 @@ impl Done {
     }
 
     /// Makes this result equal to the other.
+    ///
+    /// ```rust
+    /// // `done`: the result of the task in the example of `Task`
+    /// let mut other = Done::blank();
+    /// other.copy_from(&done.by_ref());
+    /// assert_eq!(other.sum_at(0), [589, 0, 0]);
+    /// ```
     pub fn copy_from(&mut self, other: &DoneRef<'_>)
         ensures { self.new ≡ other.now }
     {
@@ -156,6 +206,12 @@ impl<'a> Model for DoneRef<'a> {
 
 impl<'a> DoneRef<'a> {
     /// Makes the result of a task and its sums.
+    ///
+    /// ```rust
+    /// // `sums`: what `compute_sums` wrote for the task in the example of `Task`
+    /// let done = DoneRef::new(&task, &sums);
+    /// assert_eq!(done.sums()[1], Push { x: 4_294_966_707, y: 0, z: 0 });
+    /// ```
     #[inline]
     pub fn new(task: &'a Task, sums: &'a Sums) -> DoneRef<'a>
         requires { AreSums task.now sums.now }
@@ -173,6 +229,12 @@ impl<'a> DoneRef<'a> {
     }
 
     /// Returns the sums of the pushes on the places of the first block, in order.
+    ///
+    /// ```rust
+    /// // `done`: the result of the task in the example of `Task`
+    /// let sums = done.by_ref().sums();
+    /// assert_eq!((sums[0].x, sums[1].x), (589, 4_294_966_707));
+    /// ```
     #[inline]
     pub fn sums(&self) -> &'a [Push]
         requires { self.now.name.kind ≡ Force }
@@ -185,6 +247,12 @@ impl<'a> DoneRef<'a> {
 
     /// Returns the sums of the pushes on the places of the second block, in order. In a task of one block twice `sums`
     /// has the whole sums.
+    ///
+    /// ```rust
+    /// // `done`: the result of a task with the two atoms of the example of `Task` as blocks 1 and 3
+    /// let sums = done.by_ref().second_sums();
+    /// assert_eq!((sums.len(), sums[0].x), (1, 4_294_966_707));
+    /// ```
     #[inline]
     pub fn second_sums(&self) -> &'a [Push]
         requires force { self.now.name.kind ≡ Force }
@@ -206,6 +274,13 @@ impl<'a> DoneRef<'a> {
     }
 
     /// Copies the task and its sums.
+    ///
+    /// ```rust
+    /// // `done`: the result of the task in the example of `Task`
+    /// let (mut task, mut sums) = (Task::blank(), Sums::blank());
+    /// done.by_ref().copy_to(&mut task, &mut sums);
+    /// assert_eq!(DoneRef::new(&task, &sums).sums()[0].x, 589);
+    /// ```
     pub fn copy_to(&self, task: &mut Task, sums: &mut Sums)
         ensures task { task.new ≡ self.now }
         ensures sums { AreSums self.now sums.new }
@@ -215,6 +290,11 @@ impl<'a> DoneRef<'a> {
     }
 
     /// Returns an equal result.
+    ///
+    /// ```rust
+    /// // `done`: the result of the task in the example of `Task`
+    /// assert_eq!(done.by_ref().to_done().sum_at(0), [589, 0, 0]);
+    /// ```
     pub fn to_done(&self) -> Done
         ensures { result ≡ self.now }
     {
@@ -225,6 +305,12 @@ impl<'a> DoneRef<'a> {
 }
 
 /// Computes a task.
+///
+/// ```rust
+/// // `task` as in the example of `Task`
+/// let done = compute(task, &Table::new());
+/// assert_eq!((done.sum_at(0), done.sum_at(1)), ([589, 0, 0], [4_294_966_707, 0, 0]));
+/// ```
 ///
 /// Promise: the result is of that very task.
 pub fn compute(task: Task, table: &Table) -> Done
@@ -237,6 +323,13 @@ pub fn compute(task: Task, table: &Table) -> Done
 
 /// Computes a task, and overwrites an older result.
 ///
+/// ```rust
+/// // `task` as in the example of `Task`
+/// let mut done = Done::blank();
+/// compute_into(&task, &Table::new(), &mut done);
+/// assert_eq!(done.sum_at(0), [589, 0, 0]);
+/// ```
+///
 /// Promise: the result is of that very task.
 pub fn compute_into(task: &Task, table: &Table, out: &mut Done)
     ensures { out.new ≡ task.now }
@@ -246,6 +339,13 @@ pub fn compute_into(task: &Task, table: &Table, out: &mut Done)
 }
 
 /// Computes the sums of a task, and overwrites older ones.
+///
+/// ```rust
+/// // `task` as in the example of `Task`, but of kind Energy
+/// let mut sums = Sums::blank();
+/// compute_sums(&task, &Table::new(), &mut sums);
+/// assert_eq!(DoneRef::new(&task, &sums).energy_sum(), -5_349_132);
+/// ```
 ///
 /// Promise: the sums are those of that very task.
 pub fn compute_sums(task: &Task, table: &Table, sums: &mut Sums)

@@ -13,6 +13,12 @@ pub enum Kind {
 }
 
 /// The name of a task: the step that it is part of, and its two blocks of atoms.
+///
+/// ```rust
+/// // the force task of block 0 with itself, in step 0 of session `a` of user 0
+/// let label = Label { user: 0, session: Name::parse(b"a").unwrap() };
+/// let name = TaskName { label, step: 0, kind: Kind::Force, bi: 0, bj: 0 };
+/// ```
 #[derive(PartialEq, Eq, Debug, Drop)]
 pub struct TaskName {
     pub label: Label,
@@ -40,6 +46,11 @@ impl TaskName {
     }
 
     /// Returns an equal name.
+    ///
+    /// ```rust
+    /// // `name` as in the example of `TaskName`
+    /// assert!(name.copy().is(&name));
+    /// ```
     pub fn copy(&self) -> TaskName
         ensures { result ≡ self.now }
     {
@@ -53,6 +64,12 @@ impl TaskName {
     }
 
     /// Makes this name equal to the other.
+    ///
+    /// ```rust
+    /// // `name` as in the example of `TaskName`; `later` is equal but for its step, 7
+    /// name.copy_from(&later);
+    /// assert_eq!(name.step, 7);
+    /// ```
     pub fn copy_from(&mut self, other: &TaskName)
         ensures { self.new ≡ other.now }
     {
@@ -60,6 +77,11 @@ impl TaskName {
     }
 
     /// Returns the name by reference.
+    ///
+    /// ```rust
+    /// // `task`, `mix` and `places` as in the example of `Task`
+    /// assert!(task.is_of(&task.name().by_ref(), &mix, (&places, 0), (&places, 0)));
+    /// ```
     #[inline]
     pub fn by_ref(&self) -> TaskNameRef<'_>
         ensures { result ≡ self.now }
@@ -79,6 +101,12 @@ impl TaskName {
     }
 
     /// Returns whether the other name is equal. It compares first the blocks, in which the tasks of a step differ.
+    ///
+    /// ```rust
+    /// // `name` as in the example of `TaskName`; `later` is equal but for its step, 7
+    /// assert!(name.is(&name.copy()));
+    /// assert!(!name.is(&later));
+    /// ```
     pub fn is(&self, other: &TaskName) -> bool
         ensures { IsTrue result ↔ (self.now ≡ other.now) }
     {
@@ -117,6 +145,12 @@ impl<'a> Model for TaskNameRef<'a> {
 
 impl<'a> TaskNameRef<'a> {
     /// Returns the name of a task of this session, step and kind over two blocks.
+    ///
+    /// ```rust
+    /// // `task`, `mix` and `places` as in the example of `Task`, `label` as in that of `TaskName`
+    /// let name = TaskNameRef::new(&label, 0, Kind::Force, 0, 0);
+    /// assert!(task.is_of(&name, &mix, (&places, 0), (&places, 0)));
+    /// ```
     #[inline]
     pub fn new(label: &'a Label, step: i64, kind: Kind, bi: u8, bj: u8) -> TaskNameRef<'a>
         ensures { result ≡ record { label = label.now; step = step; kind = kind; bi = bi; bj = bj } }

@@ -11,6 +11,13 @@ use std::marker::Model;
 
 /// A task: one tile of a step, with all data to compute it. A force task gives the sums of the atoms of both its
 /// blocks; place t of block n is atom `BLOCK * n + t`.
+///
+/// ```rust
+/// // `name` as in the example of `TaskName`; two atoms 1.5 sigma apart in a box of 256 sigma
+/// let mix = Mix::one(Scale::new(parse_nano(b"256")?, parse_nano(b"1")?, 131_072)?);
+/// let places = [Place { x: 0, y: 0, z: 0 }, Place { x: 25_165_824, y: 0, z: 0 }];
+/// let task = Task::new(name, mix, Block::new(&places, 0), Block::new(&places, 0));
+/// ```
 #[derive(PartialEq, Eq, Debug, Drop)]
 pub struct Task {
     name: TaskName,
@@ -33,6 +40,12 @@ impl Model for Task {
 
 impl Task {
     /// Makes the task of this name over two blocks, which are the same if the name has one index twice.
+    ///
+    /// ```rust
+    /// // `name`, `mix` and `places` as in the example of `Task`
+    /// let task = Task::new(name, mix, Block::new(&places, 0), Block::new(&places, 0));
+    /// assert_eq!(compute(task, &Table::new()).sum_at(0), [589, 0, 0]);
+    /// ```
     pub fn new(name: TaskName, mix: Mix, a: Block, b: Block) -> Task
         requires some_first { 1 ≤ length a.places }
         requires some_second { 1 ≤ length b.places }
@@ -51,6 +64,11 @@ impl Task {
     }
 
     /// Makes the energy task of one atom in the greatest box, to be overwritten.
+    ///
+    /// ```rust
+    /// // one atom makes no pair
+    /// assert_eq!(compute(Task::blank(), &Table::new()).energy_sum(), 0);
+    /// ```
     pub fn blank() -> Task
         ensures { result ≡ blank_task }
     {
@@ -65,6 +83,11 @@ impl Task {
     }
 
     /// Returns the name of the task.
+    ///
+    /// ```rust
+    /// // `task` as in the example of `Task`
+    /// assert_eq!(task.name().kind, Kind::Force);
+    /// ```
     pub fn name(&self) -> &TaskName
         ensures value { result.now ≡ self.now.name }
         ensures sound { IsTask self.now }
@@ -93,6 +116,11 @@ impl Task {
     }
 
     /// Returns an equal task.
+    ///
+    /// ```rust
+    /// // `task` as in the example of `Task`
+    /// assert!(task.copy().is(&task));
+    /// ```
     pub fn copy(&self) -> Task
         ensures { result ≡ self.now }
     {
@@ -105,6 +133,13 @@ impl Task {
     }
 
     /// Makes this task equal to the other.
+    ///
+    /// ```rust
+    /// // `task` as in the example of `Task`
+    /// let mut other = Task::blank();
+    /// other.copy_from(&task);
+    /// assert!(other.is(&task));
+    /// ```
     pub fn copy_from(&mut self, other: &Task)
         ensures { self.new ≡ other.now }
     {
@@ -116,6 +151,13 @@ impl Task {
 
     /// Makes this the task of this name over two blocks, each of places and the bits of those of the second species.
     /// The blocks are the same if the name has one index twice.
+    ///
+    /// ```rust
+    /// // `task`, `mix` and `places` as in the example of `Task`
+    /// let mut other = Task::blank();
+    /// other.remake(&task.name().by_ref(), &mix, (&places, 0), (&places, 0));
+    /// assert!(other.is(&task));
+    /// ```
     pub fn remake(
         &mut self,
         name: &TaskNameRef<'_>,
@@ -145,6 +187,12 @@ impl Task {
     }
 
     /// Returns whether the other task is equal: its name, its mixture and its two blocks.
+    ///
+    /// ```rust
+    /// // `task` as in the example of `Task`
+    /// assert!(task.is(&task.copy()));
+    /// assert!(!task.is(&Task::blank()));
+    /// ```
     pub fn is(&self, other: &Task) -> bool
         ensures { IsTrue result ↔ (self.now ≡ other.now) }
     {
@@ -156,6 +204,13 @@ impl Task {
 
     /// Returns whether this is the task of this name and mixture over two blocks, each of places and the bits of those
     /// of the second species. It copies no places.
+    ///
+    /// ```rust
+    /// // `task`, `mix` and `places` as in the example of `Task`
+    /// let name = task.name().by_ref();
+    /// assert!(task.is_of(&name, &mix, (&places, 0), (&places, 0)));
+    /// assert!(!task.is_of(&name, &mix, (&places, 1), (&places, 1)));
+    /// ```
     #[inline]
     pub fn is_of(
         &self,
