@@ -30,6 +30,12 @@ impl Model for Frame {
 
 impl Frame {
     /// Makes a frame of these places. It takes no memory.
+    ///
+    /// ```rust
+    /// let places = [Place { x: 0, y: 0, z: 0 }, Place { x: 25_165_824, y: 0, z: 0 }];
+    /// let frame = Frame::new(Vec::from_slice(alloc, &places)?);
+    /// assert_eq!(frame.count(), 2);
+    /// ```
     pub fn new(places: Vec<Place>) -> Frame
         ensures { result ≡ places.items }
     {
@@ -45,6 +51,10 @@ impl Frame {
     }
 
     /// Returns the number of atoms.
+    ///
+    /// ```rust
+    /// assert_eq!(Frame::new(Vec::new(alloc)).count(), 0);
+    /// ```
     pub fn count(&self) -> usize
         ensures { result ≡ length self.now }
     {
@@ -67,6 +77,13 @@ fn read(_place: Place)
 {}
 
 /// Two frames one step apart.
+///
+/// ```rust
+/// // two atoms at rest: both frames are the same
+/// let places = [Place { x: 0, y: 0, z: 0 }, Place { x: 25_165_824, y: 0, z: 0 }];
+/// let (prev, cur) = (Vec::from_slice(alloc, &places)?, Vec::from_slice(alloc, &places)?);
+/// let frames = Frames { prev: Frame::new(prev), cur: Frame::new(cur) };
+/// ```
 #[derive(Drop)]
 pub struct Frames {
     pub prev: Frame,

@@ -13,6 +13,12 @@ use lj_tile::{Kind, compute};
 /// Makes `steps` steps, reverses, makes as many steps back and reverses again. Nothing has changed then, except that an
 /// open step is closed.
 ///
+/// ```rust
+/// // two atoms at rest, 1.5 apart in a box of 256, with sigma 1 and step factor 131072
+/// there_and_back(&mut sim, 100, &label, &table);
+/// assert_eq!((sim.step(), sim.dir(), sim.place(1).x), (0, 1, 25_165_824));
+/// ```
+///
 /// Promise: steps, a reversal, as many steps back and a reversal change nothing, every task computed and accepted,
 /// except that an open step is closed.
 pub fn there_and_back(sim: &mut Sim, steps: u32, label: &Label, table: &Table)

@@ -111,6 +111,13 @@ impl Sim {
     ///
     /// Bit `t` of `species_bits[b]` is 1 if atom `t` of block `b` of 64 atoms is of the second species of the mixture. Atoms
     /// of blocks past the last of `species_bits` are of the first.
+    ///
+    /// ```rust
+    /// // `frames` as in the example of `Frames`: the atoms are 1.5 sigma apart in a box of 256 sigma
+    /// let mix = Mix::one(Scale::new(parse_nano(b"256")?, parse_nano(b"1")?, 131_072)?);
+    /// let sim = Sim::new(alloc, frames, Vec::new(alloc), mix)?;
+    /// assert_eq!((sim.count(), sim.step(), sim.dir()), (2, 0, 1));
+    /// ```
     pub fn new(
         alloc: Global,
         frames: Frames,
@@ -138,6 +145,12 @@ impl Sim {
     }
 
     /// Reverses the motion: exchanges the frames. An open step is closed.
+    ///
+    /// ```rust
+    /// // `sim` as in the example of `new`, after two steps
+    /// sim.reverse();
+    /// assert_eq!((sim.step(), sim.dir(), sim.place(0).x), (1, -1, 589));
+    /// ```
     pub fn reverse(&mut self)
         ensures value { self.new ≡ steps.with_step_closed self.old (motion.reversal self.old.sim) }
         ensures count { length self.new.sim.cur ≡ length self.old.sim.cur }
@@ -149,6 +162,12 @@ impl Sim {
     }
 
     /// Adds `d` to the displacement of atom `i` per step, by moving its previous place back. An open step is closed.
+    ///
+    /// ```rust
+    /// // `sim` as in the example of `new`
+    /// sim.tug(0, Displacement { x: 5, y: 0, z: 0 });
+    /// assert_eq!((sim.momentum(), sim.place(0).x), ([5, 0, 0], 0));
+    /// ```
     pub fn tug(&mut self, i: usize, d: Displacement)
         requires { i < length self.old.sim.cur }
         ensures { self.new ≡ steps.with_step_closed self.old
@@ -160,6 +179,13 @@ impl Sim {
 
     /// Returns the momentum: the sums over all atoms of the images of `cur - prev` along x, y and z, each below 2^44 in
     /// size.
+    ///
+    /// ```rust
+    /// // `sim` as in the example of `new`
+    /// sim.tug(0, Displacement { x: 5, y: -7, z: 0 });
+    /// sim.tug(1, Displacement { x: 1, y: 0, z: 0 });
+    /// assert_eq!(sim.momentum(), [6, -7, 0]);
+    /// ```
     pub fn momentum(&self) -> [i64; 3]
         ensures { let m = motion.momentum self.now.sim in result ≡ m.x ∷ m.y ∷ m.z ∷ [] }
     {
@@ -168,6 +194,11 @@ impl Sim {
     }
 
     /// Returns the kinetic number: the sum of the squares of the same images, in square ring units.
+    ///
+    /// ```rust
+    /// // `sim` as in the example of `new`, after two steps
+    /// assert_eq!(sim.kinetic(), 2_808_450);
+    /// ```
     pub fn kinetic(&self) -> u128
         ensures { result ≡ motion.kinetic self.now.sim }
     {
@@ -175,6 +206,12 @@ impl Sim {
     }
 
     /// Returns a copy of both frames, the step number and the direction.
+    ///
+    /// ```rust
+    /// // `sim` as in the example of `new`, after two steps
+    /// let snapshot = sim.snapshot()?;
+    /// assert_eq!((snapshot.step(), snapshot.count()), (2, 2));
+    /// ```
     pub fn snapshot(&self) -> Result<Snapshot, AllocError>
         ensures { IfOk result (λ s. s ≡ self.now.sim) }
     {
@@ -188,6 +225,12 @@ impl Sim {
     }
 
     /// Restores both frames, the step number and the direction from a snapshot, which stays. An open step is closed.
+    ///
+    /// ```rust
+    /// // `sim` as in the example of `new`, two steps after `snapshot` was taken of it
+    /// sim.restore(&snapshot);
+    /// assert_eq!((sim.step(), sim.place(0).x), (0, 0));
+    /// ```
     pub fn restore(&mut self, snapshot: &Snapshot)
         requires { length snapshot.now.cur ≡ length self.old.sim.cur }
         ensures { self.new ≡ steps.with_step_closed self.old snapshot.now }
@@ -202,6 +245,12 @@ impl Sim {
     /// Opens a step of a kind, which awaits the results of all its tiles: one for each two blocks of 64 atoms that may
     /// be within reach of each other, and one for each block of two or more atoms. A step without tiles is whole at
     /// once. A step that was open is dropped.
+    ///
+    /// ```rust
+    /// // `sim` as in the example of `new`
+    /// sim.open_step(Kind::Force);
+    /// assert_eq!((sim.tiles(), sim.is_whole()), (1, false));
+    /// ```
     pub fn open_step(&mut self, kind: Kind)
         ensures { self.new
             ≡ record self.old { part = Some (steps.opened_step kind self.old.composition self.old.sim.cur) } }
@@ -210,6 +259,13 @@ impl Sim {
     }
 
     /// Closes the open step, and drops its sums. The frames stay.
+    ///
+    /// ```rust
+    /// // `sim` as in the example of `new`
+    /// sim.open_step(Kind::Force);
+    /// sim.close_step();
+    /// assert_eq!(sim.tiles(), 0);
+    /// ```
     pub fn close_step(&mut self)
         ensures { self.new ≡ steps.with_step_closed self.old self.old.sim }
     {
@@ -217,6 +273,13 @@ impl Sim {
     }
 
     /// Returns how many tiles the open step has; 0 if no step is open.
+    ///
+    /// ```rust
+    /// // `sim` as in the example of `new`
+    /// assert_eq!(sim.tiles(), 0);
+    /// sim.open_step(Kind::Energy);
+    /// assert_eq!(sim.tiles(), 1);
+    /// ```
     pub fn tiles(&self) -> usize
         ensures value { result ≡ steps.tiles_of self.now }
         ensures cover { IsCovered self.now }
@@ -228,6 +291,13 @@ impl Sim {
     }
 
     /// Returns the task of the i-th tile of the open step's cover; None past the last one, and if no step is open.
+    ///
+    /// ```rust
+    /// // `sim` as in the example of `new`; `label` is any
+    /// sim.open_step(Kind::Energy);
+    /// assert_eq!(sim.task(0, &label).unwrap().name().kind, Kind::Energy);
+    /// assert!(sim.task(1, &label).is_none());
+    /// ```
     pub fn task(&self, i: usize, label: &Label) -> Option<Task>
         ensures value { result ≡ steps.task_at self.now label.now i }
         ensures tile { IfSome result (HasTileValue self.now i) }
@@ -242,6 +312,13 @@ impl Sim {
 
     /// Writes the task of the i-th tile of the open step's cover to `out`. Returns false past the last one, and if no
     /// step is open; `out` is unchanged then.
+    ///
+    /// ```rust
+    /// // `sim` as in the example of `new`, with a force step open; `label` and `task` are any
+    /// assert!(sim.task_into(0, &label, &mut task));
+    /// assert_eq!(task.name().kind, Kind::Force);
+    /// assert!(!sim.task_into(1, &label, &mut task));
+    /// ```
     pub fn task_into(&self, i: usize, label: &Label, out: &mut Task) -> bool
         ensures some { result ≡ true → steps.task_at self.now label.now i ≡ Some out.new }
         ensures none { result ≡ false → steps.task_at self.now label.now i ≡ None }
@@ -259,6 +336,13 @@ impl Sim {
     }
 
     /// Returns whether the open step still awaits the i-th tile of its cover.
+    ///
+    /// ```rust
+    /// // `sim` as in the example of `new`, with a step open, and `done` the result of its one tile under `label`
+    /// assert!(sim.is_tile_awaited(0));
+    /// assert!(sim.accept(&label, done).is_ok());
+    /// assert!(!sim.is_tile_awaited(0));
+    /// ```
     pub fn is_tile_awaited(&self, i: usize) -> bool
         ensures { result ≡ steps.is_tile_awaited self.now i }
     {
@@ -276,6 +360,13 @@ impl Sim {
     /// # Errors
     /// `Stray`, with the result, if no step is open, its task is not one of the open step's, or that tile is already
     /// in. Nothing has changed then.
+    ///
+    /// ```rust
+    /// // `sim` as in the example of `new`, with a step open; `label` is any
+    /// let done = compute(sim.task(0, &label).unwrap(), &Table::new());
+    /// assert!(sim.accept(&label, done.copy()).is_ok());
+    /// assert!(sim.accept(&label, done).is_err());
+    /// ```
     ///
     /// Promise: a result is taken exactly where the open step awaits its task; else it is handed back, and nothing has
     /// changed.
@@ -297,6 +388,12 @@ impl Sim {
     }
 
     /// Accepts a result by reference, as `accept` does, and copies nothing of it.
+    ///
+    /// ```rust
+    /// // `sim` as in the example of `new`, with a step open, and `done` the result of its one tile under `label`
+    /// assert_eq!(sim.accept_from(&label, &done.by_ref()), Ok(()));
+    /// assert_eq!(sim.accept_from(&label, &done.by_ref()), Err(NotAwaited));
+    /// ```
     pub fn accept_from(&mut self, label: &Label, done: &DoneRef<'_>) -> Result<(), NotAwaited>
         ensures accepted { IsOk result ↔ steps.IsAwaitedTask self.old label.now done.now }
         ensures kind { steps.kind_of self.new.part ≡ steps.kind_of self.old.part }
@@ -315,6 +412,13 @@ impl Sim {
     }
 
     /// Returns whether a step is open and all its tiles are in.
+    ///
+    /// ```rust
+    /// // `sim` as in the example of `new`, with a step open, and `done` the result of its one tile under `label`
+    /// assert!(!sim.is_whole());
+    /// assert!(sim.accept(&label, done).is_ok());
+    /// assert!(sim.is_whole());
+    /// ```
     pub fn is_whole(&self) -> bool
         ensures { result ≡ steps.is_whole self.now.part }
     {
@@ -322,6 +426,12 @@ impl Sim {
     }
 
     /// Advances the motion by a whole force step. No step is open afterwards.
+    ///
+    /// ```rust
+    /// // `sim` as in the example of `new`, with a force step open, and the result of its one tile in
+    /// sim.turn();
+    /// assert_eq!((sim.step(), sim.place(0).x), (1, 589));
+    /// ```
     ///
     /// Promise: a whole step makes the simulation the next one of the definition, whose pushes are those of all pairs.
     pub fn turn(&mut self)
@@ -342,6 +452,11 @@ impl Sim {
     }
 
     /// Returns the potential once an energy step is whole: the sum of the energies of all pairs, in units of 2^-24 ε.
+    ///
+    /// ```rust
+    /// // `sim` as in the example of `new`, with an energy step open, and the result of its one tile in
+    /// assert_eq!(sim.potential(), -5_349_132);
+    /// ```
     ///
     /// Promise: for a whole energy step the result is the sum of the energies of all pairs.
     pub fn potential(&self) -> i128
@@ -413,6 +528,11 @@ impl Sim {
     }
 
     /// Returns the present place of atom `i`.
+    ///
+    /// ```rust
+    /// // `sim` as in the example of `new`, after one step
+    /// assert_eq!(sim.place(1), Place { x: 25_165_235, y: 0, z: 0 });
+    /// ```
     pub fn place(&self, i: usize) -> Place
         requires { i < length self.now.sim.cur }
         ensures { result ≡ motion.place_at self.now.sim.cur i }
@@ -421,6 +541,11 @@ impl Sim {
     }
 
     /// Returns the edge of the box.
+    ///
+    /// ```rust
+    /// // `sim` as in the example of `new`
+    /// assert_eq!(sim.edge().nano(), 256_000_000_000);
+    /// ```
     pub fn edge(&self) -> Edge
         ensures { result ≡ edge_of self.now.composition.mix }
     {
@@ -428,6 +553,11 @@ impl Sim {
     }
 
     /// Returns the mixture. No pair that interacts lies half the box apart.
+    ///
+    /// ```rust
+    /// // `sim` and `mix` as in the example of `new`
+    /// assert_eq!(sim.mix(), mix);
+    /// ```
     pub fn mix(&self) -> Mix
         ensures value { result ≡ self.now.composition.mix }
         ensures near { IsMixture self.now.composition.mix }
@@ -438,6 +568,11 @@ impl Sim {
     }
 
     /// Returns the step number, at most `MAX_STEP` in size.
+    ///
+    /// ```rust
+    /// // `sim` as in the example of `new`, after two steps
+    /// assert_eq!(sim.step(), 2);
+    /// ```
     pub fn step(&self) -> i64
         ensures value { result ≡ self.now.sim.step }
         ensures most { unsigned_abs result ≤ MAX_STEP }
@@ -446,6 +581,12 @@ impl Sim {
     }
 
     /// Returns the direction, which a step adds to the step number: 1 or -1.
+    ///
+    /// ```rust
+    /// // `sim` as in the example of `new`
+    /// sim.reverse();
+    /// assert_eq!(sim.dir(), -1);
+    /// ```
     pub fn dir(&self) -> i64
         ensures value { result ≡ self.now.sim.dir }
         ensures size { unsigned_abs result ≡ 1 }
@@ -454,6 +595,11 @@ impl Sim {
     }
 
     /// Returns the number of atoms, 1 to `MAX_ATOMS`.
+    ///
+    /// ```rust
+    /// // `sim` as in the example of `new`
+    /// assert_eq!(sim.count(), 2);
+    /// ```
     pub fn count(&self) -> usize
         ensures value { result ≡ length self.now.sim.cur }
         ensures some { 1 ≤ result }

@@ -28,6 +28,11 @@ impl Model for Snapshot {
 
 impl Snapshot {
     /// Returns the step number.
+    ///
+    /// ```rust
+    /// // `sim` as in the example of `Sim::new`, after two steps
+    /// assert_eq!(sim.snapshot()?.step(), 2);
+    /// ```
     pub fn step(&self) -> i64
         ensures { result ≡ self.now.step }
     {
@@ -35,6 +40,11 @@ impl Snapshot {
     }
 
     /// Returns the number of atoms.
+    ///
+    /// ```rust
+    /// // `sim` as in the example of `Sim::new`
+    /// assert_eq!(sim.snapshot()?.count(), 2);
+    /// ```
     pub fn count(&self) -> usize
         ensures { result ≡ length self.now.cur }
     {
