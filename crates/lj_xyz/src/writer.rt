@@ -45,7 +45,7 @@ pub fn comment_line(step: i64) -> FrameLine
 ///
 /// ```rust
 /// let argon = Symbol::new(b"Ar")?;
-/// let line = atom_line(&argon, 105, 0, 0); // Ar 0.000105 0.000000 0.000000
+/// assert_eq!(atom_line(&argon, 105, 0, 0).as_slice(), b"Ar 0.000105 0.000000 0.000000".as_slice());
 /// ```
 pub fn atom_line(symbol: &Symbol, x: u64, y: u64, z: u64) -> FrameLine
     ensures { result.items ≡ atom_text symbol.now x y z }
