@@ -6,7 +6,6 @@ that are called here. Where one of them is not there, or takes other arguments, 
 
 import inspect
 import os
-import re
 import shutil
 import subprocess
 import sys
@@ -17,7 +16,9 @@ from operator import attrgetter
 from pathlib import Path
 from queue import SimpleQueue
 from types import ModuleType
-from typing import Any, Callable, Dict, Iterable, List, Optional, Sequence, Set, Tuple
+from typing import Any, Callable, Dict, List, Optional, Sequence, Tuple
+
+from edits import use_edits
 
 TOP = Path(__file__).resolve().parent.parent
 Key = Tuple[Any, ...]  # the name of a crate, what is done for it, and of an edit its number
@@ -144,42 +145,6 @@ class Lanes:
         except BaseException as error:
             gives = error
         self.ended.put((key, gives))
-
-
-# The kit checks a whole crate for each edit. Where each edit of a crate names functions by whose clauses it is refused (`only: PATH`), a
-# check of these and of what they call tries it, and one of all of them is shared and follows. What is not refused so is tried from nothing.
-FEW = 4  # edits of a crate are each tried from nothing, since to share something would cost them two checks more
-
-
-def only(edits: Iterable[str]) -> List[str]:
-    """The words of a check that takes the functions alone that some edits name; none where one names none."""
-    named = [re.findall(r"^only: (\S+)$", Path(edit).read_text(encoding="utf-8"), re.M) for edit in edits]
-    paths: Set[str] = set().union(*named) if all(named) else set()
-    return [word for path in sorted(paths) for word in ("--only", path)]
-
-
-def judged(ran: Any) -> Any:
-    """A check that has ended. One of some functions, of which one is not proved, ends with the kit's line for that."""
-    counts = re.search(r"^only=(\d+) proved=(\d+)\n*\Z", ran.stdout, re.M)
-    if ran.returncode == 1 and counts and int(counts[2]) < int(counts[1]):
-        ran.stdout += "logic=not-proved\n"
-    return ran
-
-
-def use_edits(rt: Any) -> None:
-    """Has the kit's module try edits so."""
-    checked, must_fail, seeded = rt.checked, rt.must_fail, getattr(rt, "seeded", None)  # an older kit shares work without the last
-
-    def checked_by_names(crate: Any, texts: Any, flags: List[str], kept: Any) -> Any:
-        return judged(checked(crate, texts, flags if texts else [*flags, *only(rt.edits_of(crate)[0])], kept))
-
-    def must_fail_by_names(crate: Any, edit: str, flags: List[str], kept: Any = None) -> Any:
-        return must_fail(crate, edit, [*flags, *(only([edit]) if only(rt.edits_of(crate)[0]) else [])], kept)
-
-    def seeded_for_many(crate: Any, flags: List[str], start: Any = None) -> Any:
-        return "" if not seeded or len(rt.edits_of(crate)[0]) <= FEW and not start else seeded(crate, flags, start)
-
-    rt.checked, rt.must_fail, rt.seeded = checked_by_names, must_fail_by_names, seeded_for_many
 
 
 def gate(words: Sequence[str]) -> int:

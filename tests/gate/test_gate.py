@@ -103,7 +103,7 @@ def test_the_gate_is_judged_by_the_kit(tmp_path: pathlib.Path) -> None:
     """Its status is the one that the kit's own gate returns, which runs over other functions of edits and tasks."""
     told = "def main(words):\n    print(*words, in_lanes.__module__, must_fail.__module__, processors.__module__)\n    return 5\n"
     put(tmp_path, GATE + EDITS + MUST_FAIL + told)
-    assert begun(tmp_path, "gate", "lj_fixed") == (5, "ci lj_fixed kit kit rt\n", "")
+    assert begun(tmp_path, "gate", "lj_fixed") == (5, "ci lj_fixed kit edits rt\n", "")
 
 
 def test_libraries_are_built_in_turn_where_a_function_is_missing(tmp_path: pathlib.Path) -> None:

@@ -1,0 +1,124 @@
+"""How the gate tries the must-fail edits of a crate in less time: by the functions that they name, and several in one check.
+
+The kit checks a whole crate for each edit. An edit names the functions by whose clauses it is refused, in lines `only: PATH`. Edits that
+change the bodies of different functions, and nothing else, are tried in one check: a proof reads the contracts of other functions and
+never their bodies, so each is refused by its own function alone. What is not refused so is tried by itself, and what is not refused by
+the check of the functions that it names is tried by the kit from nothing.
+"""
+
+import re
+import shutil
+import subprocess
+import tempfile
+import threading
+from pathlib import Path
+from typing import Any, Dict, Iterable, List, Sequence, Set, Tuple
+
+from sources import functions_of
+
+FEW = 4  # edits that are left are each tried from nothing, since to share something would cost them two checks more
+PARTS = ("src", "specs", "proofs")  # the folders of a crate that a check reads
+FOLLOWS = re.compile(r"was not admitted|which (was|were) rejected")  # what is said where something else is refused
+
+
+def named(edit: str) -> Set[str]:
+    """The functions that an edit names."""
+    return set(re.findall(r"^only: (\S+)$", Path(edit).read_text(encoding="utf-8"), re.M))
+
+
+def only(edits: Iterable[str]) -> List[str]:
+    """The words of a check that takes the functions alone that some edits name; none where one names none."""
+    each = [named(edit) for edit in edits]
+    paths: Set[str] = set().union(*each) if all(each) else set()
+    return [word for path in sorted(paths) for word in ("--only", path)]
+
+
+def judged(ran: Any) -> Any:
+    """A check that has ended. One of some functions, of which one is not proved, ends with the kit's line for that."""
+    counts = re.search(r"^only=(\d+) proved=(\d+)\n*\Z", ran.stdout, re.M)
+    if ran.returncode == 1 and counts and int(counts[2]) < int(counts[1]):
+        ran.stdout += "logic=not-proved\n"
+    return ran
+
+
+def outside_bodies(text: str) -> List[str]:
+    """The lines of a source file that stand in no body of a function: what others can see of it."""
+    lines = text.split("\n")
+    inside: Set[int] = set()
+    for function in functions_of(lines):
+        head = lines[function.first]
+        closing = head[: len(head) - len(head.lstrip())] + "}"
+        if lines[function.end - 1].rstrip().endswith("{") and closing in lines[function.end :]:
+            inside.update(range(function.end, lines.index(closing, function.end)))
+    return [line for place, line in enumerate(lines) if place not in inside]
+
+
+def said_of(ran: Any, crate: str, paths: Iterable[str]) -> List[str]:
+    """The lines by which a check refuses functions for themselves: errors in their own proofs, or goals that it did not prove."""
+    files = tuple(f"./proofs/{path.replace('::', '/')}/" for path in paths)
+    goals = tuple(f"fn {crate}::{path}: no proof: expected answers in " for path in paths)
+    lines = [line for line in ran.stdout.split("\n") if line.startswith(files) and ": error: " in line or line.startswith(goals)]
+    return [line for line in lines if not FOLLOWS.search(line)]
+
+
+def gathered(rt: Any, edits: Iterable[str], room: str) -> Tuple[Dict[str, str], List[str]]:
+    """Makes those edits in a copy of a crate that change the bodies of different functions. Returns its changed files, and the edits."""
+    changed: Dict[str, str] = {}
+    group: List[str] = []
+    paths: Set[str] = set()
+    for edit in edits:
+        texts, why = rt.read_edit(edit, room)
+        if why or not named(edit) or paths & named(edit):
+            continue
+        if any(outside_bodies(Path(room, file).read_text(encoding="utf-8")) != outside_bodies(text) for file, text in texts.items()):
+            continue
+        for file, text in texts.items():
+            Path(room, file).write_text(text, encoding="utf-8")
+        paths |= named(edit)
+        changed.update(texts)
+        group.append(edit)
+    return changed, group
+
+
+def tried_at_once(rt: Any, crate: Any, edits: Sequence[str], flags: List[str]) -> Dict[str, Any]:
+    """What one check of several edits says of each that it refuses, as a check of that edit alone would end."""
+    with tempfile.TemporaryDirectory(prefix="edits-") as room:
+        for part in PARTS:
+            if Path(crate.folder, part).is_dir():
+                shutil.copytree(Path(crate.folder, part), Path(room, part))
+        changed, group = gathered(rt, edits, room)
+    if len(group) < 2:
+        return {}
+    ran = rt.checked(crate, changed, [*flags, *only(group)], None)
+    refused = {edit: said_of(ran, crate.name, named(edit)) for edit in group} if ran.returncode == 1 else {}
+    return {
+        edit: subprocess.CompletedProcess([], 1, "\n".join([*lines, "logic=not-proved", ""])) for edit, lines in refused.items() if lines
+    }
+
+
+def use_edits(rt: Any) -> None:
+    """Has the kit's module try edits so."""
+    checked, must_fail, seeded = rt.checked, rt.must_fail, getattr(rt, "seeded", None)  # an older kit shares work without the last
+    refused: Dict[Tuple[str, str], Any] = {}
+    here = threading.local()
+
+    def checked_by_names(crate: Any, texts: Any, flags: List[str], kept: Any) -> Any:
+        if getattr(here, "told", None) is not None:
+            return here.told
+        return judged(checked(crate, texts, flags if texts else [*flags, *only(rt.edits_of(crate)[0])], kept))
+
+    def must_fail_by_names(crate: Any, edit: str, flags: List[str], kept: Any = None) -> Any:
+        here.told = refused.pop((crate.name, edit), None)
+        try:
+            return must_fail(crate, edit, [*flags, *(only([edit]) if only(rt.edits_of(crate)[0]) else [])], kept)
+        finally:
+            here.told = None
+
+    def seeded_for_many(crate: Any, flags: List[str], start: Any = None) -> Any:
+        edits = rt.edits_of(crate)[0]
+        if hasattr(rt, "read_edit"):
+            refused.update({(crate.name, edit): ran for edit, ran in tried_at_once(rt, crate, edits, flags).items()})
+        left = [edit for edit in edits if (crate.name, edit) not in refused]
+        return "" if not seeded or len(left) <= FEW and not start else seeded(crate, flags, start)
+
+    rt.checked, rt.must_fail, rt.seeded = checked_by_names, must_fail_by_names, seeded_for_many
