@@ -1,6 +1,7 @@
 """What is shown while a run goes on: bars at a terminal and in a notebook, and elsewhere nothing."""
 import contextlib
 import fcntl
+import importlib.util
 import io
 import os
 import pty
@@ -18,13 +19,8 @@ from ljclient import progress
 from support import PROGRAM, SECONDS, dimer, present
 from terminals import ARGON, PROMPT, Terminal, environment
 
-try:
-    import tqdm
-except ImportError:
-    tqdm = None
-
 NO_TQDM = "ljclient shows no progress bars, since tqdm is not installed"
-with_tqdm = pytest.mark.skipif(tqdm is None, reason="tqdm is not installed")
+with_tqdm = pytest.mark.skipif(importlib.util.find_spec("tqdm") is None, reason="tqdm is not installed")
 LONG_NAME = "a-name-of-16-let"
 ONE = """
 import sys
