@@ -287,6 +287,13 @@ impl Owner {
         self.waiting.is_some()
     }
 
+    /// Returns the number of its user.
+    pub fn user(&self) -> u8
+        ensures { result ≡ self.now.number }
+    {
+        self.user
+    }
+
     /// Returns the state. Each session is as it was when its present step began.
     pub fn state(&self) -> &UserState
         ensures { result.now ≡ self.now.state }

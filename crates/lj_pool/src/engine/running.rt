@@ -28,13 +28,11 @@ pub(crate) enum Halt {
 /// Answers an item: a command once the steps that it waits for are done. Afterwards the value of `item` is unspecified.
 pub(crate) fn answer<P: Pool>(
     owner: &mut Owner,
-    user: u8,
     pool: &mut P,
     item: &mut Item,
     slots: &mut TaskSlots,
 ) -> Result<Reply, Halt>
     requires idle { owner.old.waiting ≡ None }
-    requires number { owner.old.number ≡ user }
     requires gathers { Gathers owner.old (P.seen pool.old).owed }
     ensures answered { IfOk result (λ reply.
         AnswersNext owner.old item.old (P.seen pool.old) reply owner.new (P.seen pool.new)) }
@@ -42,33 +40,27 @@ pub(crate) fn answer<P: Pool>(
         (LeavesUnanswered owner.old item.old (P.seen pool.old) (P.seen pool.new)) }
     ensures halted { IfErr result (λ halt. IsHalted halt (P.seen pool.old) (P.seen pool.new)) }
     ensures same { IsSameUser owner.old owner.new }
-    ensures own { P.for_others pool.new user ≡ P.for_others pool.old user }
+    ensures own { let user = owner.old.number in P.for_others pool.new user ≡ P.for_others pool.old user }
 {
     match item {
         Item::Command(command) => match owner.begin_from(command) {
             Begin::Answered(reply) => Ok(reply),
-            Begin::Running => run(owner, user, pool, slots),
+            Begin::Running => run(owner, pool, slots),
         },
         Item::Bad(fault) | Item::Last(fault) => Ok(Reply::Refused(Refusal::from(*fault))),
     }
 }
 
 /// Runs the steps of all sessions until the waiting command is answered.
-fn run<P: Pool>(
-    owner: &mut Owner,
-    user: u8,
-    pool: &mut P,
-    slots: &mut TaskSlots,
-) -> Result<Reply, Halt>
+fn run<P: Pool>(owner: &mut Owner, pool: &mut P, slots: &mut TaskSlots) -> Result<Reply, Halt>
     requires waits { IsSome owner.old.waiting }
-    requires number { owner.old.number ≡ user }
     requires gathers { Gathers owner.old (P.seen pool.old).owed }
     ensures answered { IfOk result (λ reply.
         AnswersPending owner.old (P.seen pool.old) reply owner.new (P.seen pool.new)) }
     ensures missing { OnErr result (FallsShort (tiles_coming owner.old) (P.seen pool.old) (P.seen pool.new)) }
     ensures halted { IfErr result (λ halt. IsHalted halt (P.seen pool.old) (P.seen pool.new)) }
     ensures same { IsSameUser owner.old owner.new }
-    ensures own { P.for_others pool.new user ≡ P.for_others pool.old user }
+    ensures own { let user = owner.old.number in P.for_others pool.new user ≡ P.for_others pool.old user }
 {
     let mut strays = 0;
     loop {
@@ -76,12 +68,12 @@ fn run<P: Pool>(
             if let Some(reply) = owner.turn_session(&name) {
                 return Ok(reply);
             }
-            poll_next(owner, user, pool);
+            poll_next(owner, pool);
             post_next(owner, pool, &mut slots[0], false)?;
             strays = 0;
         } else if !post_or_wait(owner, pool, &mut slots[0])? {
-            strays = strays_after(strays, fetch_next(owner, user, pool)?)?;
-            if poll_and_post(owner, user, pool, slots) {
+            strays = strays_after(strays, fetch_next(owner, pool)?)?;
+            if poll_and_post(owner, pool, slots) {
                 strays = 0;
             }
         }
@@ -93,40 +85,38 @@ fn run<P: Pool>(
 /// tasks. Returns whether steps are still pending.
 pub(crate) fn work_ahead<P: Pool>(
     owner: &mut Owner,
-    user: u8,
     pool: &mut P,
     has_pending: bool,
     slots: &mut TaskSlots,
 ) -> Result<bool, Halt>
     requires idle { owner.old.waiting ≡ None }
-    requires number { owner.old.number ≡ user }
     requires gathers { Gathers owner.old (P.seen pool.old).owed }
     ensures goes_on { GoesOn owner.old (P.seen pool.old) owner.new (P.seen pool.new) }
     ensures many { OnErr result (MAX_AHEAD < length (P.seen pool.new).owed) }
     ensures halted { IfErr result (λ halt. IsHalted halt (P.seen pool.old) (P.seen pool.new)) }
-    ensures own { P.for_others pool.new user ≡ P.for_others pool.old user }
+    ensures own { let user = owner.old.number in P.for_others pool.new user ≡ P.for_others pool.old user }
 {
     if !has_pending {
         return Ok(false);
     }
-    poll_all(owner, user, pool);
-    turn_whole(owner, user, pool, slots);
+    poll_all(owner, pool);
+    turn_whole(owner, pool, slots);
     post_all(owner, pool, slots);
-    fetch_down(owner, user, pool)?;
-    poll_all(owner, user, pool);
+    fetch_down(owner, pool)?;
+    poll_all(owner, pool);
     Ok(owner.is_busy())
 }
 
 /// Takes in the results that are there now. Returns whether one of them was of an awaited tile.
-fn poll_all<P: Pool>(owner: &mut Owner, user: u8, pool: &mut P) -> bool
+fn poll_all<P: Pool>(owner: &mut Owner, pool: &mut P) -> bool
     requires gathers { Gathers owner.old (P.seen pool.old).owed }
     ensures goes_on { GoesOn owner.old (P.seen pool.old) owner.new (P.seen pool.new) }
     ensures fewer { result ≡ true → tiles_coming owner.new < tiles_coming owner.old }
-    ensures own { P.for_others pool.new user ≡ P.for_others pool.old user }
+    ensures own { let user = owner.old.number in P.for_others pool.new user ≡ P.for_others pool.old user }
 {
     let mut some = false;
     for _ in 0..pool.owed() {
-        let Some(taken) = poll_next(owner, user, pool) else {
+        let Some(taken) = poll_next(owner, pool) else {
             break;
         };
         some = some || taken;
@@ -136,16 +126,15 @@ fn poll_all<P: Pool>(owner: &mut Owner, user: u8, pool: &mut P) -> bool
 
 /// Turns sessions until none is whole. Between two turns it takes in a result and posts a task, so that a session whose steps
 /// have no tiles does not hold the others up.
-fn turn_whole<P: Pool>(owner: &mut Owner, user: u8, pool: &mut P, slots: &mut TaskSlots)
+fn turn_whole<P: Pool>(owner: &mut Owner, pool: &mut P, slots: &mut TaskSlots)
     requires idle { owner.old.waiting ≡ None }
-    requires number { owner.old.number ≡ user }
     requires gathers { Gathers owner.old (P.seen pool.old).owed }
     ensures goes_on { GoesOn owner.old (P.seen pool.old) owner.new (P.seen pool.new) }
-    ensures own { P.for_others pool.new user ≡ P.for_others pool.old user }
+    ensures own { let user = owner.old.number in P.for_others pool.new user ≡ P.for_others pool.old user }
 {
     while let Some(name) = owner.ready_session() {
         let _none = owner.turn_session(&name);
-        poll_next(owner, user, pool);
+        poll_next(owner, pool);
         let _posted = post_next(owner, pool, &mut slots[0], false);
     }
 }
@@ -205,16 +194,16 @@ fn note_posted(owner: &mut Owner, posted: usize)
 }
 
 /// Fetches results until few tasks are owed.
-fn fetch_down<P: Pool>(owner: &mut Owner, user: u8, pool: &mut P) -> Result<(), Halt>
+fn fetch_down<P: Pool>(owner: &mut Owner, pool: &mut P) -> Result<(), Halt>
     requires gathers { Gathers owner.old (P.seen pool.old).owed }
     ensures goes_on { GoesOn owner.old (P.seen pool.old) owner.new (P.seen pool.new) }
     ensures many { OnErr result (MAX_AHEAD < length (P.seen pool.new).owed) }
     ensures halted { IfErr result (λ halt. IsHalted halt (P.seen pool.old) (P.seen pool.new)) }
-    ensures own { P.for_others pool.new user ≡ P.for_others pool.old user }
+    ensures own { let user = owner.old.number in P.for_others pool.new user ≡ P.for_others pool.old user }
 {
     let mut strays = 0;
     while pool.owed() > MAX_AHEAD {
-        strays = strays_after(strays, fetch_next(owner, user, pool)?)?;
+        strays = strays_after(strays, fetch_next(owner, pool)?)?;
     }
     Ok(())
 }
@@ -272,20 +261,19 @@ fn post_next<P: Pool>(
 
 /// Takes in the results that are there now, and then posts tasks while there is room, so that the workers get many at once.
 /// Returns whether one of the results was of an awaited tile.
-fn poll_and_post<P: Pool>(owner: &mut Owner, user: u8, pool: &mut P, slots: &mut TaskSlots) -> bool
-    requires number { owner.old.number ≡ user }
+fn poll_and_post<P: Pool>(owner: &mut Owner, pool: &mut P, slots: &mut TaskSlots) -> bool
     requires gathers { Gathers owner.old (P.seen pool.old).owed }
     ensures goes_on { GoesOn owner.old (P.seen pool.old) owner.new (P.seen pool.new) }
     ensures fewer { result ≡ true → tiles_coming owner.new < tiles_coming owner.old }
-    ensures own { P.for_others pool.new user ≡ P.for_others pool.old user }
+    ensures own { let user = owner.old.number in P.for_others pool.new user ≡ P.for_others pool.old user }
 {
-    let taken = poll_all(owner, user, pool);
+    let taken = poll_all(owner, pool);
     post_all(owner, pool, slots);
     taken
 }
 
 /// Fetches a result and takes it in. Returns false, and drops it, if it is of no awaited tile.
-fn fetch_next<P: Pool>(owner: &mut Owner, user: u8, pool: &mut P) -> Result<bool, Halt>
+fn fetch_next<P: Pool>(owner: &mut Owner, pool: &mut P) -> Result<bool, Halt>
     requires gathers { Gathers owner.old (P.seen pool.old).owed }
     requires owes { 0 < length (P.seen pool.old).owed }
     ensures goes_on { GoesOn owner.old (P.seen pool.old) owner.new (P.seen pool.new) }
@@ -295,9 +283,9 @@ fn fetch_next<P: Pool>(owner: &mut Owner, user: u8, pool: &mut P) -> Result<bool
     ensures unchanged { OnErr result (SameOwed (P.seen pool.old) (P.seen pool.new)) }
     ensures awaits_still { OnErr result (0 < tiles_coming owner.new) }
     ensures halted { IfErr result (λ halt. IsHalted halt (P.seen pool.old) (P.seen pool.new)) }
-    ensures own { P.for_others pool.new user ≡ P.for_others pool.old user }
+    ensures own { let user = owner.old.number in P.for_others pool.new user ≡ P.for_others pool.old user }
 {
-    if !pool.fetch_uncounted(user) {
+    if !pool.fetch_uncounted(owner.user()) {
         return Err(Halt::PoolClosed);
     }
     Ok(accept_and_count(owner, pool))
@@ -305,14 +293,14 @@ fn fetch_next<P: Pool>(owner: &mut Owner, user: u8, pool: &mut P) -> Result<bool
 
 /// Takes in a result that is there now. Returns `Some(false)`, and drops it, if it is of no awaited tile; `None` if there is no
 /// result.
-fn poll_next<P: Pool>(owner: &mut Owner, user: u8, pool: &mut P) -> Option<bool>
+fn poll_next<P: Pool>(owner: &mut Owner, pool: &mut P) -> Option<bool>
     requires gathers { Gathers owner.old (P.seen pool.old).owed }
     ensures goes_on { GoesOn owner.old (P.seen pool.old) owner.new (P.seen pool.new) }
     ensures fewer { IfSome result (λ taken. taken ≡ true → tiles_coming owner.new < tiles_coming owner.old) }
     ensures stray { IfSome result (λ taken. taken ≡ false → StraysRise 1 (P.seen pool.old) (P.seen pool.new)) }
-    ensures own { P.for_others pool.new user ≡ P.for_others pool.old user }
+    ensures own { let user = owner.old.number in P.for_others pool.new user ≡ P.for_others pool.old user }
 {
-    if !pool.poll_uncounted(user) {
+    if !pool.poll_uncounted(owner.user()) {
         return None;
     }
     Some(accept_and_count(owner, pool))

@@ -69,7 +69,7 @@ pub fn serve_lines<R: Source, W: Sink, P: Pool>(
     let mut item = Item::Bad(Fault::Syntax);
     let mut has_pending = true;
     'items: loop {
-        has_pending = match work_ahead(&mut owner, user, pool, has_pending, &mut slots) {
+        has_pending = match work_ahead(&mut owner, pool, has_pending, &mut slots) {
             Ok(has_pending) => has_pending,
             Err(halt) => return given_up(owner, halt),
         };
@@ -80,7 +80,7 @@ pub fn serve_lines<R: Source, W: Sink, P: Pool>(
         }
         let ending = ending_of(&item);
         has_pending = has_pending || matches!(&item, Item::Command(Command::Start { .. }));
-        let reply = match answer(&mut owner, user, pool, &mut item, &mut slots) {
+        let reply = match answer(&mut owner, pool, &mut item, &mut slots) {
             Ok(reply) => reply,
             Err(halt) => return given_up(owner, halt),
         };

@@ -6,5 +6,5 @@ abbrev pub invariant-loop : goal.invariant-loop
 invariant-loop g l = record {
   goes : GoesOn l.initial.owner (g.P.Pool.seen l.initial.pool) l.owner (g.P.Pool.seen l.pool);
   fewer : l.some ≡ true → tiles_coming l.owner < tiles_coming l.initial.owner;
-  own : g.P.Pool.for_others l.pool l.user ≡ g.P.Pool.for_others l.initial.pool l.user;
+  own : g.P.Pool.for_others l.pool l.initial.owner.number ≡ g.P.Pool.for_others l.initial.pool l.initial.owner.number;
 }

@@ -1,4 +1,4 @@
-use Rattle.std.proofs.Common.{refl, sym, ap, ◌∙◌, subst}
+use Rattle.std.proofs.Common.{◌≡◌, refl, sym, ap, ◌∙◌, subst}
 use Rattle.lj_session.specs.Owner.{Owner}
 use Rattle.lj_wire.specs.Ends.{Rises}
 use Rattle.lj_pool.specs.declared.engine.served.Served.TheVariants as served
@@ -202,7 +202,11 @@ items-preserved g c =
       idle = answered.finished.idle;
       number = c.answer.ensures.same.number ∙ c.work_ahead.ensures.goes_on.number ∙ c.items.invariant.number;
       faults = c.in_default-put_reply.ensures.counted ∙ c.items.invariant.faults;
-      own = c.answer.ensures.own ∙ c.work_ahead.ensures.own ∙ c.items.invariant.own;
+      own = subst (λ user. g.P.Pool.for_others c.answer.new.pool user ≡ g.P.Pool.for_others c.work_ahead.new.pool user)
+          (c.work_ahead.ensures.goes_on.number ∙ c.items.invariant.number) c.answer.ensures.own
+          ∙ subst (λ user. g.P.Pool.for_others c.work_ahead.new.pool user ≡ g.P.Pool.for_others c.items.pool user)
+          c.items.invariant.number c.work_ahead.ensures.own
+          ∙ c.items.invariant.own;
       quota = c.answer.ensures.same.quota ∙ c.work_ahead.ensures.goes_on.quota ∙ c.items.invariant.quota;
     }
 
