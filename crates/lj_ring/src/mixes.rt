@@ -1,5 +1,5 @@
 //! Mixtures of two species of atoms.
-ghost use Rattle.std.specs.Prelude.{ℕ, ℤ, ◌≡◌, ◌≤◌, ◌^◌, ◌∷◌, [], IsTrue, SomeIff, nat_lt};
+ghost use Rattle.std.specs.Prelude.{ℕ, ℤ, ◌≡◌, ◌≤◌, ◌^◌, ◌↔◌, ◌∷◌, [], IsTrue, SomeIff, nat_lt};
 ghost use Rattle.lj_ring.specs.Mix as mixtures;
 ghost use Rattle.lj_ring.specs.Mix.{class_of, edge_of, can_interact, is_weight, mixture_of, IsMixture};
 
@@ -86,6 +86,16 @@ impl Weight {
 pub struct Class {
     pub scale: Scale,
     pub weight: Weight,
+}
+
+impl Class {
+    /// Returns whether the other class is equal.
+    #[inline]
+    fn is(&self, other: &Class) -> bool
+        ensures { IsTrue result ↔ (self.now ≡ other.now) }
+    {
+        self.scale.is(&other.scale) & (self.weight == other.weight)
+    }
 }
 
 /// The reason why a class is refused: the first number of it that does not fit.
@@ -218,6 +228,21 @@ impl Mix {
         ensures { result ≡ edge_of self.now }
     {
         self.first.scale.edge()
+    }
+
+    /// Returns whether the other mixture is equal, without a branch.
+    ///
+    /// ```rust
+    /// let (edge, one) = (parse_nano(b"256")?, parse_nano(b"1")?);
+    /// let mix = Mix::new([(one, 100, 256), (one, 100, 128), (one, 100, 512)], edge)?;
+    /// assert!(mix.is(&Mix::new([(one, 100, 256), (one, 100, 128), (one, 100, 512)], edge)?));
+    /// assert!(!mix.is(&Mix::new([(one, 100, 256), (one, 100, 128), (one, 100, 511)], edge)?));
+    /// ```
+    #[inline]
+    pub fn is(&self, other: &Mix) -> bool
+        ensures { IsTrue result ↔ (self.now ≡ other.now) }
+    {
+        self.first.is(&other.first) & self.unlike.is(&other.unlike) & self.second.is(&other.second)
     }
 
     /// Returns the class of two atoms by their species, in either order.

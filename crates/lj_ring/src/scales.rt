@@ -1,5 +1,5 @@
 //! The edge of the box, and the scale of a simulation.
-ghost use Rattle.std.specs.Prelude.{ℕ, ◌≡◌, ◌≤◌, ◌<◌, ◌+◌, ◌*◌, ◌/◌, ◌^◌, ◌⊎◌, IsTrue, IsFalse, IfSome, MatchOption};
+ghost use Rattle.std.specs.Prelude.{ℕ, ◌≡◌, ◌≤◌, ◌<◌, ◌+◌, ◌*◌, ◌/◌, ◌^◌, ◌⊎◌, ◌↔◌, IsTrue, IsFalse, IfSome, MatchOption};
 ghost use Rattle.std.specs.Prelude.{SomeIff, unsigned_abs, nat_lt, true, false, slice_index};
 ghost use Rattle.lj_ring.specs.Bins.{near_bin, lane_square};
 ghost use Rattle.lj_ring.specs.Places.{units_of};
@@ -182,6 +182,16 @@ impl Scale {
         ensures { result ≡ least_scale }
     {
         Scale::of(Edge { nano: MAX_EDGE }, MIN_SIGMA, 1)
+    }
+
+    /// Returns whether the other scale is equal: its edge, its sigma and its step factor.
+    #[inline]
+    pub(crate) fn is(&self, other: &Scale) -> bool
+        ensures { IsTrue result ↔ (self.now ≡ other.now) }
+    {
+        (self.edge == other.edge)
+            & (self.sigma == other.sigma)
+            & (self.step_factor == other.step_factor)
     }
 
     /// Returns the edge of the box.

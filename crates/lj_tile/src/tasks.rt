@@ -144,7 +144,9 @@ impl Task {
         ensures { self.new ≡ other.now }
     {
         self.name.copy_from(&other.name);
-        self.mix = other.mix;
+        if !self.mix.is(&other.mix) {
+            self.mix = other.mix;
+        }
         self.first.copy_from(&other.first);
         self.second.copy_from(&other.second);
     }
@@ -197,7 +199,7 @@ impl Task {
         ensures { IsTrue result ↔ (self.now ≡ other.now) }
     {
         self.name.is(&other.name)
-            && is_same_mix(&self.mix, &other.mix)
+            && self.mix.is(&other.mix)
             && self.first.is(&other.first)
             && self.second.is(&other.second)
     }
@@ -227,14 +229,8 @@ impl Task {
         }) }
     {
         self.name.is_of(name)
-            && is_same_mix(&self.mix, mix)
+            && self.mix.is(mix)
             && self.first.has(a.0, a.1)
             && self.second.has(b.0, b.1)
     }
-}
-
-fn is_same_mix(a: &Mix, b: &Mix) -> bool
-    ensures { IsTrue result ↔ (a.now ≡ b.now) }
-{
-    a == b
 }
