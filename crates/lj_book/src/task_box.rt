@@ -113,11 +113,12 @@ impl DoneBox {
         DoneRef::new(&self.contents.task, &self.contents.sums)
     }
 
-    /// Returns the box, for another task.
+    /// Returns the box, for another task. The one in it is touched: so the cache lines, which a worker has read, come back while the
+    /// next result is taken in, and not when another task is copied to them.
     pub fn into_task(self) -> TaskBox {
-        TaskBox {
-            contents: self.contents,
-        }
+        let mut contents = self.contents;
+        contents.as_mut().task.touch();
+        TaskBox { contents }
     }
 }
 

@@ -151,6 +151,27 @@ impl Task {
         self.second.copy_from(&other.second);
     }
 
+    /// Writes to each cache line of the name and of two different blocks, so that the processor has these lines for itself before
+    /// the task is overwritten. Its step, its places and their species are unspecified afterwards.
+    ///
+    /// ```rust
+    /// // `task` as in the example of `Task`
+    /// let mut touched = task.copy();
+    /// touched.touch();
+    /// assert_eq!(touched.name().kind, task.name().kind);
+    /// ```
+    pub fn touch(&mut self)
+        ensures label { self.new.name.label ≡ self.old.name.label }
+        ensures kind { self.new.name.kind ≡ self.old.name.kind }
+        ensures mix { self.new.mix ≡ self.old.mix }
+    {
+        self.name.step = 0;
+        if self.name.bi < self.name.bj {
+            self.first.touch();
+            self.second.touch();
+        }
+    }
+
     /// Makes this the task of this name over two blocks, each of places and the bits of those of the second species.
     /// The blocks are the same if the name has one index twice.
     ///
