@@ -20,6 +20,6 @@ abbrev pub tasks_in : Option Task → List Task
 tasks_in (Some task) = task ∷ []
 tasks_in None = []
 
--- the end is owed the result that is owed; there are no strays, and the pool is never closed
+-- what the pool owes is owed to its end; there are no strays, and the pool is never closed
 abbrev pub seen_of : InlinePool → Seen
 seen_of pool = record { owed = tasks_in pool.owed; expected = pool.expected; strays = 0; closed = false }
