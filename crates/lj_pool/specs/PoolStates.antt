@@ -6,20 +6,23 @@ use Rattle.lj_book.specs.Boxes.{BoxBook, Numbered, PostsBox, Slip, boxes}
 use Rattle.lj_pool.specs.declared.waking.TheConstants.{WAIT_QUEUES}
 use Rattle.lj_pool.specs.EndBoxes.{EndBoxes, TakesInHand, box_count}
 
--- the book, the key from which the next take looks on, how many posts no worker was woken for, the wait queues, and whether it is closed
+-- the book, the key from which the next take looks on, how many posts no worker was woken for, how many workers are idle, the wait
+-- queues, and whether it is closed
 pub record PoolState : Type 0 where
   pub book : BoxBook
   pub next : ℕ
   pub unsignalled : ℕ
+  pub idle : ℕ
   pub wait_queues : List ℕ
   pub closed : Bool
 
--- the state of an open pool with this book, in which no end waits
+-- the state of an open pool with this book, in which no end and no worker waits
 abbrev pub open_pool : BoxBook → PoolState
 open_pool book = record {
   book = book;
   next = 0;
   unsignalled = 0;
+  idle = 0;
   wait_queues = replicate WAIT_QUEUES 0;
   closed = false;
 }

@@ -1,5 +1,5 @@
--- When ends that wait for results are woken.
-use Rattle.std.specs.Prelude.{◌%◌, ◌-◌, ℕ, List, cond, max, min, nat_eq, slice_index_or, slice_set}
+-- When ends that wait for results are woken, and how many workers that wait for tasks.
+use Rattle.std.specs.Prelude.{◌%◌, ◌-◌, ℕ, List, cond, max, min, nat_eq, nat_lt, slice_index_or, slice_set}
 use Rattle.lj_pool.specs.declared.waking.TheConstants.{RESULTS_AT_ONCE, WAIT_QUEUES}
 
 -- the wait queue of a user
@@ -21,3 +21,11 @@ with_waiting due user owed = with_due due user (cond (nat_eq (due_at due user) 0
 -- after a result was given to the user
 abbrev pub with_given : List ℕ → ℕ → List ℕ
 with_given due user = with_due due user (due_at due user - 1)
+
+-- the number of tasks that no worker was woken for, if it has reached `least`; else 0
+abbrev pub due_of : ℕ → ℕ → ℕ
+due_of unsignalled least = cond (nat_lt unsignalled least) 0 unsignalled
+
+-- how many of the idle workers are woken for so many tasks: one for one task, all for more
+abbrev pub woken_for : ℕ → ℕ → ℕ
+woken_for tasks idle = cond (nat_lt tasks 2) (min idle tasks) idle

@@ -1,9 +1,10 @@
 //! Whom a pool wakes: ends that wait for results, and workers that wait for tasks.
-ghost use Rattle.std.specs.Prelude.{◌≡◌, ◌+◌, ◌-◌, ◌<◌, ◌^◌, ◌↔◌, cond, min, nat_lt, replicate, IsTrue};
-ghost use Rattle.lj_pool.specs.Waking.{wait_queue_of, due_at, with_given, with_waiting};
+ghost use Rattle.std.specs.Prelude.{◌≡◌, ◌+◌, ◌-◌, ◌<◌, ◌^◌, ◌↔◌, min, replicate, IsTrue};
+ghost use Rattle.lj_pool.specs.Waking.{wait_queue_of, due_at, due_of, with_given, with_waiting, woken_for};
 
 use std::marker::Model;
 use std::mem;
+use std::sync::Condvar;
 
 /// The number of queues in which ends wait for results. Users whose numbers are equal modulo this share one.
 pub const WAIT_QUEUES: usize = 64;
@@ -102,12 +103,73 @@ impl UnsignalledPosts {
 
     /// Takes the number of posts that no worker was woken for, if it has reached `least`; else 0.
     pub fn take_due(&mut self, least: usize) -> usize
-        ensures value { result ≡ cond (nat_lt self.old least) 0 self.old }
+        ensures value { result ≡ due_of self.old least }
         ensures left { self.old ≡ self.new + result }
     {
         if self.tasks < least {
             return 0;
         }
         mem::take(&mut self.tasks)
+    }
+}
+
+/// The number of workers that wait for a task and were not woken since they began to. It may count a worker that has begun to look
+/// again by itself, and leaves none out that sleeps.
+#[derive(Drop)]
+pub struct IdleWorkers {
+    workers: usize,
+}
+
+impl Model for IdleWorkers {
+    ghost use Rattle.std.specs.Prelude.{ℕ};
+
+    ghost Value = { ℕ };
+
+    ghost view = { λ idle. idle.workers };
+}
+
+impl IdleWorkers {
+    /// Makes a count of 0.
+    pub fn new() -> IdleWorkers
+        ensures { result ≡ 0 }
+    {
+        IdleWorkers { workers: 0 }
+    }
+
+    /// Counts one more worker, up to `usize::MAX`. It begins to wait.
+    pub fn note_waiting(&mut self)
+        ensures { self.new ≡ min (self.old + 1) (2 ^ 64 - 1) }
+    {
+        self.workers = self.workers.saturating_add(1);
+    }
+
+    /// Takes off the workers that are to be woken for this many tasks: one for one task, all for more. Returns how many they are.
+    pub fn take_woken(&mut self, tasks: usize) -> usize
+        ensures value { result ≡ woken_for tasks self.old }
+        ensures left { self.old ≡ self.new + result }
+    {
+        let woken = if tasks < 2 {
+            self.workers.min(tasks)
+        } else {
+            self.workers
+        };
+        self.workers -= woken;
+        woken
+    }
+
+    /// Returns whether there is one.
+    pub fn has_some(&self) -> bool
+        ensures { IsTrue result ↔ (0 < self.now) }
+    {
+        self.workers > 0
+    }
+}
+
+/// Wakes this many of the threads that wait: none, one, or, from two on, all.
+pub fn wake(waiting: &Condvar, threads: usize) {
+    match threads {
+        0 => {}
+        1 => waiting.notify_one(),
+        _ => waiting.notify_all(),
     }
 }

@@ -13,7 +13,7 @@ use crate::lock::lock_end::LockEnd;
 use crate::lock::pool_state::PoolState;
 use crate::pool::NotPosted;
 use crate::share::{Share, shares_of};
-use crate::waking::{TASKS_AT_ONCE, WAIT_QUEUES, wait_queue_of};
+use crate::waking::{TASKS_AT_ONCE, WAIT_QUEUES, wait_queue_of, wake};
 use lj_book::{BoxBook, Counts, LentDone, LentTask, MAX_ENTRIES, TaskBox};
 use lj_tile::{Done, Task};
 use std::alloc::{AllocError, Global};
@@ -143,9 +143,9 @@ impl<L: Ledger> LockPool<L> {
             match state.post(boxed, task) {
                 Err(NotPosted::Full) if wait => {}
                 posted => {
-                    let tasks = state.take_due(TASKS_AT_ONCE);
+                    let workers = state.take_woken(TASKS_AT_ONCE);
                     drop(state);
-                    self.wake_workers(tasks);
+                    wake(&self.not_empty, workers);
                     return posted;
                 }
             }
@@ -168,19 +168,10 @@ impl<L: Ledger> LockPool<L> {
     {
         let mut state = self.state.lock(rt);
         let posted = state.post_some(copies, tasks);
-        let due = state.take_due(TASKS_AT_ONCE);
+        let workers = state.take_woken(TASKS_AT_ONCE);
         drop(state);
-        self.wake_workers(due);
+        wake(&self.not_empty, workers);
         posted
-    }
-
-    /// Wakes waiting workers for this many tasks.
-    fn wake_workers(&self, tasks: usize) {
-        match tasks {
-            0 => {}
-            1 => self.not_empty.notify_one(),
-            _ => self.not_empty.notify_all(),
-        }
     }
 
     /// Hands out the user's next result in hand. If there is none, waits until the book has results of the user, takes as many in
@@ -256,16 +247,16 @@ impl<L: Ledger> LockPool<L> {
             self.not_full.notify_all();
         }
         if !fetched && !state.is_closed() {
-            self.wake_workers(state.take_due(1));
+            wake(&self.not_empty, state.take_woken(1));
             return Err(state);
         }
-        let tasks = if own.note_fetch() {
-            state.take_due(1)
+        let workers = if own.note_fetch() {
+            state.take_woken(1)
         } else {
             0
         };
         drop(state);
-        self.wake_workers(tasks);
+        wake(&self.not_empty, workers);
         Ok(fetched)
     }
 
@@ -305,9 +296,9 @@ impl<L: Ledger> LockPool<L> {
         let mut state = self.state.lock(rt);
         let was_full = state.is_full();
         let was_out = state.hand_back(lent);
-        let tasks = state.take_due(1);
+        let workers = state.take_woken(1);
         drop(state);
-        self.wake_workers(tasks);
+        wake(&self.not_empty, workers);
         if was_full && !was_out {
             self.not_full.notify_all();
         }
@@ -322,6 +313,7 @@ impl<L: Ledger> LockPool<L> {
             if taken.is_some() || state.is_closed() {
                 return taken;
             }
+            state.note_idle();
             state = self.not_empty.wait(rt, state);
         }
         unreachable!()

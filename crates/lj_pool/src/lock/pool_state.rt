@@ -1,5 +1,5 @@
 //! The state under the lock of a pool.
-ghost use Rattle.std.specs.Prelude.{◌≡◌, ◌≢◌, ◌+◌, ◌%◌, ◌^◌, ◌≤◌, ◌<◌, ◌↔◌, ◌⊎◌, ◌++◌, ℕ, List, None, true, false, cond, length, nat_lt, slice_index_or, take, IsOk, IsTrue, IfErr, IfNone, IfSome, OnErr, OnOk};
+ghost use Rattle.std.specs.Prelude.{◌≡◌, ◌≢◌, ◌+◌, ◌-◌, ◌%◌, ◌^◌, ◌≤◌, ◌<◌, ◌↔◌, ◌⊎◌, ◌++◌, ℕ, List, None, true, false, length, min, slice_index_or, take, IsOk, IsTrue, IfErr, IfNone, IfSome, OnErr, OnOk};
 ghost use Rattle.std.specs.List.{All};
 ghost use Rattle.std.specs.Option.{ForSome};
 ghost use Rattle.lj_book.specs.Book.{entry_count, user_of, HasRoom, IsOpenAt};
@@ -9,12 +9,12 @@ ghost use Rattle.lj_pool.specs.declared.pool.NotPosted.TheVariants.{Closed};
 ghost use Rattle.lj_pool.specs.EndBoxes.{SameResults, box_count};
 ghost use Rattle.lj_pool.specs.PoolStates.{FetchesEach, FetchesInHand, HasBox, HasNoResult, HasPosted, NoneIsLost, PostsEach, PostsIn, PutsBy, open_pool};
 ghost use Rattle.lj_pool.specs.Posting.{AreCopies, HandsOver};
-ghost use Rattle.lj_pool.specs.Waking.{due_at, with_given, with_waiting};
+ghost use Rattle.lj_pool.specs.Waking.{due_at, due_of, with_given, with_waiting, woken_for};
 
 use crate::lock::end_boxes::{EndBoxes, MAX_IN_HAND, TaskCopies};
 use crate::pool::NotPosted;
 use crate::share::Share;
-use crate::waking::{UnsignalledPosts, WaitQueues};
+use crate::waking::{IdleWorkers, UnsignalledPosts, WaitQueues};
 use lj_book::{BoxBook, Counts, Key, LentDone, LentTask, MAX_ENTRIES, TaskBox};
 use lj_tile::Task;
 use std::marker::Model;
@@ -27,6 +27,7 @@ pub(crate) struct PoolState<L: Ledger> {
     results: ledger::Book<L>,
     next: Key,
     unsignalled: UnsignalledPosts,
+    idle: IdleWorkers,
     /// The queues in which ends wait for results.
     wait_queues: WaitQueues,
     closed: bool,
@@ -42,6 +43,7 @@ impl<L: Ledger> Model for PoolState<L> {
       book = state.book;
       next = state.next;
       unsignalled = state.unsignalled;
+      idle = state.idle;
       wait_queues = state.wait_queues;
       closed = state.closed;
     } };
@@ -60,6 +62,7 @@ impl<L: Ledger> PoolState<L> {
             results,
             next: 0,
             unsignalled: UnsignalledPosts::new(),
+            idle: IdleWorkers::new(),
             wait_queues: WaitQueues::new(),
             closed: false,
         }
@@ -294,12 +297,24 @@ impl<L: Ledger> PoolState<L> {
         }
     }
 
-    /// Takes the number of tasks posted since workers were last woken for some, if it has reached `least`; else 0.
-    pub(crate) fn take_due(&mut self, least: usize) -> usize
-        ensures value { result ≡ cond (nat_lt self.old.unsignalled least) 0 self.old.unsignalled }
-        ensures left { self.old ≡ record self.new { unsignalled = self.new.unsignalled + result } }
+    /// Notes that a worker waits for a task.
+    pub(crate) fn note_idle(&mut self)
+        ensures { self.new ≡ record self.old { idle = min (self.old.idle + 1) (2 ^ 64 - 1) } }
     {
-        self.unsignalled.take_due(least)
+        self.idle.note_waiting();
+    }
+
+    /// Takes the number of tasks that no worker was woken for, if it has reached `least`. Returns how many idle workers are to be woken
+    /// for them; these count as idle no more.
+    pub(crate) fn take_woken(&mut self, least: usize) -> usize
+        ensures value { result ≡ woken_for (due_of self.old.unsignalled least) self.old.idle }
+        ensures left { self.old ≡ record self.new {
+          unsignalled = self.new.unsignalled + due_of self.old.unsignalled least;
+          idle = self.new.idle + result;
+        } }
+    {
+        let tasks = self.unsignalled.take_due(least);
+        self.idle.take_woken(tasks)
     }
 
     /// Notes that an end, to which `owed` results are owed, waits for results of the user.

@@ -31,6 +31,7 @@ loop-in_hand-preserved g c =
       made = next.1.made ∙ before.made;
       next = before.next;
       unsignalled = before.unsignalled;
+      idle = before.idle;
       wait_queues = before.wait_queues;
       closed = before.closed;
       counted = next.1.fetches.given ∙ before.counted;

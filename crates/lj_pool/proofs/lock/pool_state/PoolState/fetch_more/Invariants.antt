@@ -18,6 +18,7 @@ invariant-loop-in_hand g l = record {
   made : l.self-inside.book.made ≡ l.fn.self.book.made;
   next : l.self-inside.next ≡ l.fn.self.next;
   unsignalled : l.self-inside.unsignalled ≡ l.fn.self.unsignalled;
+  idle : l.self-inside.idle ≡ l.fn.self.idle;
   wait_queues : l.self-inside.wait_queues ≡ l.fn.self.wait_queues;
   closed : l.self-inside.closed ≡ l.fn.self.closed;
   counted : l.self-inside.book.inner.given ≡ l.self-inside.results.total;
