@@ -18,7 +18,7 @@ use crate::root_pass::{RootPass, passes_of};
 use crate::rule::{OpenTasks, TaskPass};
 use crate::spares::Spares;
 use lj_book::{DoneBox, MAX_ENTRIES, TaskBox};
-use lj_pool::{MAX_ENDS, Share, WAIT_QUEUES, shares_of, wait_queue_of};
+use lj_pool::{IdleWorkers, MAX_ENDS, Share, WAIT_QUEUES, shares_of, wait_queue_of, wake};
 use lj_tile::Task;
 use std::alloc::{AllocError, Global};
 use std::array;
@@ -81,14 +81,16 @@ pub struct QueuePool<L: PoolIdentity> {
     /// The pass that the others were cut from.
     pub(crate) root_pass: Mutex<RootPass<L>>,
     mailboxes: Mutex<Mailboxes<L>>,
-    /// Signalled when a task is posted or the pool closes. Workers wait on it.
+    idle: Mutex<IdleWorkers>,
+    /// Signalled when tasks are posted or the pool closes. Idle workers wait on it.
     not_empty: Condvar,
     /// Signalled when a task is taken while ends wait for room, or the pool closes. These ends wait on it.
     not_full: Condvar,
     /// Signalled when results are kept or the pool closes, one for each wait queue. The ends of its users wait on it.
     results_ready: [Condvar; WAIT_QUEUES],
-    /// The number of workers that wait for a task.
-    idle: AtomicUsize,
+    /// False where no worker is idle. A worker sets it before it looks for a task under the lock of the idle ones, so an end that has
+    /// posted a task and then reads false need wake none.
+    some_idle: AtomicBool,
     /// The number of ends that wait for room.
     waiting_posters: AtomicUsize,
     /// Set once the pool is closed, as the mailboxes say too.
@@ -134,10 +136,11 @@ impl<L: PoolIdentity> QueuePool<L> {
             spares,
             root_pass: Mutex::new(root),
             mailboxes: Mutex::new(Mailboxes::new(alloc, results)?),
+            idle: Mutex::new(IdleWorkers::new()),
             not_empty: Condvar::new(),
             not_full: Condvar::new(),
             results_ready: array::from_fn(|_| Condvar::new()),
-            idle: AtomicUsize::new(0),
+            some_idle: AtomicBool::new(false),
             waiting_posters: AtomicUsize::new(0),
             closed: AtomicBool::new(false),
         };
@@ -162,6 +165,7 @@ impl<L: PoolIdentity> QueuePool<L> {
     pub fn close<R: Wait>(&self, rt: &R) {
         self.closed.store(true, Ordering::SeqCst);
         self.mailboxes.lock(rt).close();
+        drop(self.idle.lock(rt));
         self.not_empty.notify_all();
         self.not_full.notify_all();
         for queue in &self.results_ready {
@@ -194,7 +198,10 @@ impl<L: PoolIdentity> QueuePool<L> {
         }
         match self.try_post(rt, poster, task) {
             Ok(()) => Ok(()),
-            Err(_) if wait => self.post_later(rt, poster, task),
+            Err(_) if wait => {
+                self.wake_workers(rt, MAX_OPEN_TASKS);
+                self.post_later(rt, poster, task)
+            }
             Err(cause) => Err(PostFault::NoRoom(cause)),
         }
     }
@@ -280,23 +287,21 @@ impl<L: PoolIdentity> QueuePool<L> {
                 self.waiting_posters.fetch_sub(1, Ordering::SeqCst);
                 return Ok(());
             }
-            self.not_empty.notify_all();
             mailboxes = self.not_full.wait(rt, mailboxes);
         }
         unreachable!()
     }
 
-    /// Wakes waiting workers for this many tasks that were posted.
+    /// Wakes idle workers for this many tasks that were posted: one for one task, all for more.
     pub(crate) fn wake_workers<R: Wait>(&self, rt: &R, tasks: usize) {
-        if tasks == 0 || self.idle.load(Ordering::SeqCst) == 0 {
+        if tasks == 0 || !self.some_idle.load(Ordering::SeqCst) {
             return;
         }
-        drop(self.mailboxes.lock(rt));
-        if tasks == 1 {
-            self.not_empty.notify_one();
-        } else {
-            self.not_empty.notify_all();
-        }
+        let mut idle = self.idle.lock(rt);
+        let woken = idle.take_woken(tasks);
+        self.some_idle.store(idle.has_some(), Ordering::SeqCst);
+        drop(idle);
+        wake(&self.not_empty, woken);
     }
 
     /// Takes an open task by a pass, and waits until there is one. None where the pool is closed.
@@ -323,19 +328,18 @@ impl<L: PoolIdentity> QueuePool<L> {
         ensures popped { IfSome result (λ ticket. pass.new ≡ with_pop pass.old ticket) }
         ensures nothing { IfNone result (pass.new ≡ pass.old) }
     {
-        let mut mailboxes = self.mailboxes.lock(rt);
-        self.idle.fetch_add(1, Ordering::SeqCst);
+        let mut idle = self.idle.lock(rt);
         for _ in rt.forever() {
-            if mailboxes.is_closed() {
-                self.idle.fetch_sub(1, Ordering::SeqCst);
+            if self.is_closed() {
                 return None;
             }
+            self.some_idle.store(true, Ordering::SeqCst);
             let taken = pass.pop(rt, &self.queue);
             if taken.is_some() {
-                self.idle.fetch_sub(1, Ordering::SeqCst);
                 return taken;
             }
-            mailboxes = self.not_empty.wait(rt, mailboxes);
+            idle.note_waiting();
+            idle = self.not_empty.wait(rt, idle);
         }
         unreachable!()
     }
