@@ -21,14 +21,17 @@ use lj_book::{DoneBox, MAX_ENTRIES, TaskBox};
 use lj_pool::{IdleWorkers, MAX_ENDS, Share, WAIT_QUEUES, shares_of, wait_queue_of, wake};
 use lj_tile::Task;
 use std::alloc::{AllocError, Global};
-use std::array;
 use std::marker::Model;
 use std::sync::atomic::{AtomicBool, AtomicUsize, Ordering};
 use std::sync::ledger::{self, Blank};
 use std::sync::{Condvar, Mutex, Wait};
+use std::{array, thread};
 
 /// The most tasks that are open at once in the pool with a queue.
 pub const MAX_OPEN_TASKS: usize = MAX_ENTRIES;
+
+/// How often a worker looks for a task, and lets other threads run in between, before it waits for one.
+const LOOKS: usize = 8;
 
 /// The number of passes for connections. Those of the workers come after them.
 pub const CONNECTIONS: usize = MAX_ENDS;
@@ -312,7 +315,7 @@ impl<L: PoolIdentity> QueuePool<L> {
         if self.is_closed() {
             return None;
         }
-        let taken = match pass.pop(rt, &self.queue) {
+        let taken = match self.take_soon(rt, pass) {
             Some(ticket) => Some(ticket),
             None => self.take_later(rt, pass),
         };
@@ -321,6 +324,21 @@ impl<L: PoolIdentity> QueuePool<L> {
             self.not_full.notify_all();
         }
         taken
+    }
+
+    /// Takes an open task. None where there was none at any look.
+    fn take_soon<R: Wait>(&self, rt: &R, pass: &mut CountedPass<L>) -> Option<OpenTask>
+        ensures popped { IfSome result (λ ticket. pass.new ≡ with_pop pass.old ticket) }
+        ensures nothing { IfNone result (pass.new ≡ pass.old) }
+    {
+        for _ in 0..LOOKS {
+            let taken = pass.pop(rt, &self.queue);
+            if taken.is_some() {
+                return taken;
+            }
+            thread::yield_now();
+        }
+        None
     }
 
     /// Waits for an open task, and takes it. None where the pool is closed.
