@@ -1,5 +1,5 @@
 -- When ends that wait for results are woken, and how many workers that wait for tasks.
-use Rattle.std.specs.Prelude.{◌%◌, ◌-◌, ℕ, List, cond, max, min, nat_eq, nat_lt, slice_index_or, slice_set}
+use Rattle.std.specs.Prelude.{◌%◌, ◌-◌, ◌/◌, ℕ, List, cond, max, min, nat_eq, nat_lt, slice_index_or, slice_set}
 use Rattle.lj_pool.specs.declared.waking.TheConstants.{RESULTS_AT_ONCE, WAIT_QUEUES}
 
 -- the wait queue of a user
@@ -14,9 +14,13 @@ due_at due user = slice_index_or due (wait_queue_of user) 0
 abbrev pub with_due : List ℕ → ℕ → ℕ → List ℕ
 with_due due user results = slice_set due (wait_queue_of user) results
 
+-- the number of results after which an end is woken to which `owed` are owed: half of them, but no fewer than 16 or all
+abbrev pub results_for : ℕ → ℕ
+results_for owed = max (min owed (max (owed / 2) RESULTS_AT_ONCE)) 1
+
 -- after an end, to which `owed` results are owed, began to wait in the wait queue of the user
 abbrev pub with_waiting : List ℕ → ℕ → ℕ → List ℕ
-with_waiting due user owed = with_due due user (cond (nat_eq (due_at due user) 0) (max (min owed RESULTS_AT_ONCE) 1) 1)
+with_waiting due user owed = with_due due user (cond (nat_eq (due_at due user) 0) (results_for owed) 1)
 
 -- after a result was given to the user
 abbrev pub with_given : List ℕ → ℕ → List ℕ

@@ -9,7 +9,7 @@ use std::sync::Condvar;
 /// The number of queues in which ends wait for results. Users whose numbers are equal modulo this share one.
 pub const WAIT_QUEUES: usize = 64;
 
-/// The number of results given to a user after which a waiting end is woken; fewer where fewer are owed to it.
+/// The least number of results given to a user after which a waiting end is woken; fewer where fewer are owed to it.
 pub const RESULTS_AT_ONCE: usize = 16;
 
 /// The number of tasks posted before waiting workers are woken for them; sooner if an end finds no result.
@@ -47,14 +47,14 @@ impl WaitQueues {
         }
     }
 
-    /// Notes that an end, to which `owed` results are owed, waits in the user's queue. It is woken once all of them or 16 were
-    /// given; where another end waits there too, at the next result.
+    /// Notes that an end, to which `owed` results are owed, waits in the user's queue. It is woken once half of them were given, but not
+    /// before 16 or all of them; where another end waits there too, at the next result.
     pub fn note_waiting(&mut self, user: u8, owed: usize)
         ensures { self.new ≡ with_waiting self.old user owed }
     {
         let due = &mut self.due[wait_queue_of(user)];
         *due = if *due == 0 {
-            owed.min(RESULTS_AT_ONCE).max(1)
+            owed.min((owed / 2).max(RESULTS_AT_ONCE)).max(1)
         } else {
             1
         };
