@@ -16,5 +16,6 @@ pub use lock::{Gate, LockEnd, LockPool, MAX_ENDS, gather, work};
 pub use pool::{MAX_AHEAD, MAX_OWED, MAX_POSTS, MAX_STRAYS, NotPosted, Pool, Refused};
 pub use share::{Share, merged, shares_of};
 pub use waking::{
-    IdleWorkers, TASKS_AT_ONCE, UnsignalledPosts, WAIT_QUEUES, WaitQueues, wait_queue_of, wake,
+    IdleWorkers, LOOKS, TASKS_AT_ONCE, UnsignalledPosts, WAIT_QUEUES, WaitQueues, wait_queue_of,
+    wake,
 };

@@ -15,6 +15,9 @@ pub const RESULTS_AT_ONCE: usize = 16;
 /// The number of tasks posted before waiting workers are woken for them; sooner if an end finds no result.
 pub const TASKS_AT_ONCE: usize = 16;
 
+/// How often a worker looks for a task, and lets other threads run in between, before it waits for one.
+pub const LOOKS: usize = 8;
+
 /// Returns the wait queue of a user, 0 to 63.
 pub fn wait_queue_of(user: u8) -> usize
     ensures value { result ≡ wait_queue_of user }
@@ -114,7 +117,7 @@ impl UnsignalledPosts {
 }
 
 /// The number of workers that wait for a task and were not woken since they began to. It may count a worker that has begun to look
-/// again by itself, and leaves none out that sleeps.
+/// again by itself. It leaves out none that sleeps and is not being woken.
 #[derive(Drop)]
 pub struct IdleWorkers {
     workers: usize,

@@ -18,7 +18,7 @@ use crate::root_pass::{RootPass, passes_of};
 use crate::rule::{OpenTasks, TaskPass};
 use crate::spares::Spares;
 use lj_book::{DoneBox, MAX_ENTRIES, TaskBox};
-use lj_pool::{IdleWorkers, MAX_ENDS, Share, WAIT_QUEUES, shares_of, wait_queue_of, wake};
+use lj_pool::{IdleWorkers, LOOKS, MAX_ENDS, Share, WAIT_QUEUES, shares_of, wait_queue_of, wake};
 use lj_tile::Task;
 use std::alloc::{AllocError, Global};
 use std::marker::Model;
@@ -29,9 +29,6 @@ use std::{array, thread};
 
 /// The most tasks that are open at once in the pool with a queue.
 pub const MAX_OPEN_TASKS: usize = MAX_ENTRIES;
-
-/// How often a worker looks for a task, and lets other threads run in between, before it waits for one.
-const LOOKS: usize = 8;
 
 /// The number of passes for connections. Those of the workers come after them.
 pub const CONNECTIONS: usize = MAX_ENDS;
@@ -91,8 +88,8 @@ pub struct QueuePool<L: PoolIdentity> {
     not_full: Condvar,
     /// Signalled when results are kept or the pool closes, one for each wait queue. The ends of its users wait on it.
     results_ready: [Condvar; WAIT_QUEUES],
-    /// False where no worker is idle. A worker sets it before it looks for a task under the lock of the idle ones, so an end that has
-    /// posted a task and then reads false need wake none.
+    /// False only where no worker is idle. A worker sets it before it looks for a task under the lock of the idle ones, so an end that
+    /// has posted a task and then reads false need wake none.
     some_idle: AtomicBool,
     /// The number of ends that wait for room.
     waiting_posters: AtomicUsize,
@@ -168,6 +165,7 @@ impl<L: PoolIdentity> QueuePool<L> {
     pub fn close<R: Wait>(&self, rt: &R) {
         self.closed.store(true, Ordering::SeqCst);
         self.mailboxes.lock(rt).close();
+        // A worker that read `closed` before it was set holds this lock until it waits, and is woken below.
         drop(self.idle.lock(rt));
         self.not_empty.notify_all();
         self.not_full.notify_all();

@@ -13,14 +13,14 @@ use crate::lock::lock_end::LockEnd;
 use crate::lock::pool_state::PoolState;
 use crate::pool::NotPosted;
 use crate::share::{Share, shares_of};
-use crate::waking::{TASKS_AT_ONCE, WAIT_QUEUES, wait_queue_of, wake};
+use crate::waking::{LOOKS, TASKS_AT_ONCE, WAIT_QUEUES, wait_queue_of, wake};
 use lj_book::{BoxBook, Counts, LentDone, LentTask, MAX_ENTRIES, TaskBox};
 use lj_tile::{Done, Task};
 use std::alloc::{AllocError, Global};
-use std::array;
 use std::sync::atomic::{AtomicBool, Ordering};
 use std::sync::ledger::{self, Blank, Ledger};
 use std::sync::{Condvar, Mutex, MutexGuard, Wait};
+use std::{array, thread};
 
 /// The most ends at once for which a pool has boxes. With more of them a post may be refused before the book is full.
 pub const MAX_ENDS: usize = 64;
@@ -307,6 +307,27 @@ impl<L: Ledger> LockPool<L> {
 
     /// Takes an open task, and waits until there is one. None where the pool is closed.
     pub(crate) fn take<R: Wait>(&self, rt: &R) -> Option<LentTask> {
+        let taken = self.take_soon(rt);
+        if taken.is_some() {
+            return taken;
+        }
+        self.take_later(rt)
+    }
+
+    /// Takes an open task. None where there was none at any look.
+    fn take_soon<R: Wait>(&self, rt: &R) -> Option<LentTask> {
+        for _ in 0..LOOKS {
+            let taken = self.state.lock(rt).take();
+            if taken.is_some() {
+                return taken;
+            }
+            thread::yield_now();
+        }
+        None
+    }
+
+    /// Waits for an open task, and takes it. None where the pool is closed.
+    fn take_later<R: Wait>(&self, rt: &R) -> Option<LentTask> {
         let mut state = self.state.lock(rt);
         for _ in rt.forever() {
             let taken = state.take();
