@@ -339,6 +339,7 @@ def on_the_way(block: Any, folder: Any) -> None:
 
 
 def driver_of_ase(block: Any, folder: Any) -> None:
+    pytest.importorskip("ase", reason="ASE is not installed")
     *rows, back = folder.python(block.text)
     assert [row.split()[0] for row in rows] == ["0", "500", "1000", "1500", "2000"]
     assert back == "True"
