@@ -64,7 +64,7 @@ impl Book {
             return Err(NoRoom);
         }
         let mut opened = spare_box(&mut self.spare);
-        opened.copy_from(task);
+        opened.remake(&task.by_ref());
         self.inner.post(opened);
         Ok(())
     }
@@ -100,7 +100,7 @@ impl Book {
         let key = self.inner.find_open(pick)?;
         out.copy_from(self.inner.open_at(key).task());
         let mut kept = spare_box(&mut self.spare);
-        kept.copy_from(out);
+        kept.remake(&out.by_ref());
         let opened = self.inner.let_out(key, kept);
         self.spare.push_reserved(opened);
         Some(key)
@@ -171,7 +171,7 @@ impl Book {
             return Err(NotOut);
         }
         let mut opened = spare_box(&mut self.spare);
-        opened.copy_from(task);
+        opened.remake(&task.by_ref());
         let kept = self.inner.reopen(key, opened);
         self.spare.push_reserved(kept);
         Ok(())

@@ -3,7 +3,7 @@ ghost use Rattle.std.specs.Prelude.{◌≡◌, ◌+◌, ◌≤◌, ◌<◌, ℕ,
 ghost use Rattle.std.specs.Vec.{vec_capacity};
 
 use lj_table::Table;
-use lj_tile::{Done, DoneRef, Sums, Task, compute_sums};
+use lj_tile::{Done, DoneRef, Sums, Task, TaskRef, compute_sums};
 use std::alloc::{AllocError, Global};
 use std::marker::Model;
 
@@ -51,11 +51,11 @@ impl TaskBox {
         &self.contents.task
     }
 
-    /// Makes its task equal to another.
-    pub fn copy_from(&mut self, task: &Task)
+    /// Makes its task equal to one that is given by reference.
+    pub fn remake(&mut self, task: &TaskRef<'_>)
         ensures { self.new ≡ task.now }
     {
-        self.contents.task.copy_from(task);
+        self.contents.task.remake(task);
     }
 
     /// Computes the task, in its box.

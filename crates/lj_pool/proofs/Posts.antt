@@ -1,10 +1,11 @@
 -- Several tasks posted at once: what is owed then, what the pool holds then, and that the work goes on.
-use Rattle.std.proofs.Common.{◌≡◌, ℕ, zero, suc, ◌+◌, ◌<◌, ◌≤◌, ◌≢◌, ◌⊎◌, true, false, nat_eq, cond, count_by, is_some, List, [], ◌∷◌, ◌++◌, length, take, get_or, set, Option, Some, None, inl, inr}
+use Rattle.std.proofs.Common.{◌≡◌, ℕ, zero, suc, ◌+◌, ◌<◌, ◌≤◌, ◌≢◌, ◌⊎◌, true, false, nat_eq, cond, count_by, is_some, List, [], ◌∷◌, ◌++◌, length, take, get_or, Option, Some, None, inl, inr}
 use Rattle.std.proofs.Common.{refl, sym, ap, ◌∙◌, subst, arith}
 use Rattle.std.specs.List.{All}
 use Rattle.std.proofs.lemmas.Bool.{cases_lt, true≢false}
 use Rattle.std.proofs.lemmas.Bool.Decides.{eqb_tells}
-use Rattle.std.proofs.lemmas.List.{append-nil, append_assoc, length-append, length-take-le, take_more, get_or_default, get_or_past, get_or-take, get_or-set_same, get_or-set_other}
+use Rattle.std.proofs.Math.Seq.{get_or-append_seam}
+use Rattle.std.proofs.lemmas.List.{append-nil, append_assoc, length-append, length-take-le, take_more, get_or_default, get_or_past, get_or-take, get_or_append_left, take_all}
 use Rattle.std.proofs.lemmas.List.Recursion.{is_count_by}
 use Rattle.std.proofs.lemmas.Option.{none-some, same_Some}
 use Rattle.lj_base.specs.declared.names.Label.{Label}
@@ -25,11 +26,11 @@ use Rattle.lj_pool.proofs.Going.{fewer_posts, goes_posted, goes_then, goes_uncha
 pub posted_none : (tasks : List Task) (seen : Seen) → ArePosted (take 0 tasks) seen seen
 posted_none tasks seen = record { owed = sym (append-nil seen.owed); expected = refl; strays = refl }
 
-pub posted_more : (tasks : List Task) (k : ℕ) (work : Task) (a b c : Seen) → k < length tasks → work ≡ get_or tasks k work
+pub posted_more : (tasks : List Task) (k : ℕ) (work : Task) (a b c : Seen) → k < length tasks → work ≡ get_or tasks k blank_task
     → ArePosted (take k tasks) a b → IsPosted work b c → ArePosted (take (k + 1) tasks) a c
 posted_more tasks k work a b c inside read before posted = record {
   owed = posted.owed ∙ ap (λ front. front ++ work ∷ []) before.owed ∙ append_assoc a.owed (take k tasks) (work ∷ [])
-      ∙ ap (λ x. a.owed ++ (take k tasks ++ x ∷ [])) read ∙ ap (λ l. a.owed ++ l) (sym (take_more tasks k work inside));
+      ∙ ap (λ x. a.owed ++ (take k tasks ++ x ∷ [])) read ∙ ap (λ l. a.owed ++ l) (sym (take_more tasks k blank_task inside));
   expected = posted.expected ∙ before.expected;
   strays = posted.strays ∙ before.strays;
 }
@@ -47,11 +48,11 @@ posts_more [] work old mid new before posted = (new, subst (λ book. HasPosted w
 posts_more (x ∷ xs) work old mid new before posted =
     (before.0, before.1, posts_more xs work before.0 mid new before.2 posted)
 
-pub posts_next : (tasks : List Task) (k : ℕ) (work : Task) (old mid new : BoxBook) → k < length tasks → work ≡ get_or tasks k work
+pub posts_next : (tasks : List Task) (k : ℕ) (work : Task) (old mid new : BoxBook) → k < length tasks → work ≡ get_or tasks k blank_task
     → PostsEach (take k tasks) old mid → HasPosted work mid new → PostsEach (take (k + 1) tasks) old new
 posts_next tasks k work old mid new inside read before posted =
     subst (λ xs. PostsEach xs old new)
-    (ap (λ x. take k tasks ++ x ∷ []) read ∙ sym (take_more tasks k work inside))
+    (ap (λ x. take k tasks ++ x ∷ []) read ∙ sym (take_more tasks k blank_task inside))
     (posts_more (take k tasks) work old mid new before posted)
 
 -- copies that lie at the first places are copies
@@ -66,15 +67,16 @@ are_copies boxes tasks each k inside copy there = elim (cases_lt k (length boxes
 pub after_more : (n : ℕ) (owner : Owner) → after_posts (n + 1) owner ≡ with_task_posted (after_posts n owner)
 after_more n owner = let e : n + 1 ≡ suc n = omega arith in ap (λ m. after_posts m owner) e
 
--- one next task more in the rooms
-pub next_more : (owner : Owner) (rooms : List Task) (k : ℕ) (work : Task) → k < length rooms → AreNext k rooms owner
-    → next_task_of (after_posts k owner) ≡ Some work → AreNext (k + 1) (set rooms k work) owner
-next_more owner rooms k work inside before some j below = elim (cases_lt j k) [
+-- one next task more
+pub next_more : (owner : Owner) (tasks : List Task) (k : ℕ) (work : Task) → length tasks ≡ k → AreNext k tasks owner
+    → next_task_of (after_posts k owner) ≡ Some work → AreNext (k + 1) (tasks ++ work ∷ []) owner
+next_more owner tasks k work count before some j below = elim (cases_lt j k) [
   | inl less ↦ before j less ∙ ap (λ (x : Task). Some x)
-      (sym (get_or-set_other rooms k j work blank_task (λ same. omega (arith, less, same))))
-  | inr above ↦ let is : j ≡ k = omega (arith, above, below) in
-      ap (λ n. next_task_of (after_posts n owner)) is ∙ some
-      ∙ ap (λ (x : Task). Some x) (sym (ap (λ n. get_or (set rooms k work) n blank_task) is ∙ get_or-set_same rooms k work blank_task inside))
+      (sym (get_or_append_left tasks (work ∷ []) blank_task j (omega (arith, less, count))))
+  | inr above ↦ let is : j ≡ length tasks = omega (arith, above, below, count) in
+      ap (λ n. next_task_of (after_posts n owner)) (is ∙ count) ∙ some
+      ∙ ap (λ (x : Task). Some x) (sym (ap (λ n. get_or (tasks ++ work ∷ []) n blank_task) is
+      ∙ get_or-append_seam tasks work [] blank_task))
 ]
 
 -- a next task is one of its owner's user
@@ -153,27 +155,22 @@ pub record PostsFront (owner : Owner) (before : Seen) (written n : ℕ) (next : 
   pub goes : GoesOn owner before next after
   pub fewer : nat_eq n written ≡ true → written ≢ 0 → posts_coming next < posts_coming owner
 
--- the rooms in which the next tasks are written are handed to the pool
-module _ (owner : Owner) (before : Seen) (t : Gathers owner before.owed) (rooms : List Task) (written : ℕ)
-    (inside : written ≤ length rooms) (next : AreNext written rooms owner) where
-  next_front : (n : ℕ) → n ≤ length (take written rooms) → AreNext n (take written rooms) owner
-  next_front n most k below =
-      let count = length-take-le written rooms inside in
-      let less : k < written = omega (arith, most, below, count) in
-      next k less ∙ ap (λ (x : Task). Some x) (sym (get_or-take written rooms k blank_task less))
-
-  pub posts_front : (n : ℕ) → n ≤ length (take written rooms) → (after : Seen) → ArePosted (take n (take written rooms)) before after
-      → PostsFront owner before written n (after_posts n owner) after
+-- the next tasks are handed to the pool
+module _ (owner : Owner) (before : Seen) (t : Gathers owner before.owed) (tasks : List Task)
+    (next : AreNext (length tasks) tasks owner) where
+  pub posts_front : (n : ℕ) → n ≤ length tasks → (after : Seen) → ArePosted (take n tasks) before after
+      → PostsFront owner before (length tasks) n (after_posts n owner) after
   posts_front n most after posted =
-      let each = goes_each owner before t (take written rooms) n most (next_front n most) after posted in
+      let each = goes_each owner before t tasks n most (λ k below. next k (omega (arith, most, below))) after posted in
       let less = each.fewer in
       record {
         goes = each.goes;
-        fewer = λ all some. let same = eq_of n written all in omega (arith, less, same, some);
+        fewer = λ all some. let same = eq_of n (length tasks) all in omega (arith, less, same, some);
       }
 
-  pub users_front : All (λ task. task.name.label.user ≡ owner.number) (take written rooms)
-  users_front = users_all owner before t rooms written inside next
+  pub users_front : All (λ task. task.name.label.user ≡ owner.number) tasks
+  users_front = subst (λ front. All (λ task. task.name.label.user ≡ owner.number) front) (take_all (length tasks) tasks (omega arith))
+      (users_all owner before t tasks (length tasks) (omega arith) next)
 
 abbrev boxes_in : List (Option Task) → ℕ
 boxes_in [] = 0

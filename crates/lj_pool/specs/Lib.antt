@@ -15,5 +15,6 @@ pub mod EndBoxes
 pub mod LockEnd
 pub mod Waking
 pub mod PoolStates
+pub mod TaskLists
 pub mod Posting
 pub mod Limits

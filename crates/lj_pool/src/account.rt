@@ -8,8 +8,9 @@ ghost use Rattle.lj_pool.specs.Gathering.{times};
 ghost use Rattle.lj_pool.specs.Accounts.{IsFirst, IsKnownByName, IsNowhere};
 
 use crate::pool::{MAX_OWED, NotPosted};
+use crate::task_list::TaskList;
 use arrayvec::ArrayVec;
-use lj_tile::Task;
+use lj_tile::{Task, TaskRef};
 use std::array;
 use std::marker::Model;
 
@@ -57,7 +58,7 @@ impl Account {
     }
 
     /// Records that a task was posted.
-    fn post(&mut self, task: &Task)
+    fn post(&mut self, task: &TaskRef<'_>)
         requires { length self.old.owed < MAX_OWED }
         ensures posted { IsPosted task.now self.old self.new }
         ensures closed { self.new.closed ≡ self.old.closed }
@@ -68,7 +69,7 @@ impl Account {
     }
 
     /// Records that a task was posted, or why it was not.
-    pub fn note_post(&mut self, task: &Task, posted: Result<(), NotPosted>)
+    pub fn note_post(&mut self, task: &TaskRef<'_>, posted: Result<(), NotPosted>)
         requires { length self.old.owed < MAX_OWED }
         ensures posted { OnOk posted (IsPosted task.now self.old self.new) }
         ensures unchanged { OnErr posted (SameOwed self.old self.new) }
@@ -84,14 +85,14 @@ impl Account {
     }
 
     /// Records that the first `posted` of these tasks were posted.
-    pub fn note_posts(&mut self, tasks: &[Task], posted: usize)
+    pub fn note_posts(&mut self, tasks: &TaskList<'_>, posted: usize)
         requires most { posted ≤ length tasks.now }
         requires room { length self.old.owed + length tasks.now ≤ MAX_OWED }
         ensures posted { ArePosted (take posted tasks.now) self.old self.new }
         ensures closed { self.new.closed ≡ self.old.closed }
     {
         for here in 0..posted {
-            self.post(&tasks[here]);
+            self.post(tasks.at(here));
         }
     }
 
@@ -211,12 +212,12 @@ impl Account {
 }
 
 /// Stores a copy of the task, in place of an older one if there is one.
-fn keep(kept: &mut Option<Task>, task: &Task)
+fn keep(kept: &mut Option<Task>, task: &TaskRef<'_>)
     ensures { kept.new ≡ Some task.now }
 {
     match kept {
-        Some(older) => older.copy_from(task),
-        None => *kept = Some(task.copy()),
+        Some(older) => older.remake(task),
+        None => *kept = Some(task.to_task()),
     }
 }
 

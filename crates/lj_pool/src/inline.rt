@@ -7,7 +7,7 @@ ghost use Rattle.lj_pool.specs.declared.pool.NotPosted.TheVariants.{Full};
 
 use crate::pool::{NotPosted, Pool};
 use lj_table::Table;
-use lj_tile::{Done, DoneRef, Task, compute_into};
+use lj_tile::{Done, DoneRef, TaskRef, compute_into};
 use std::marker::Model;
 
 /// A pool that computes each task as it is posted, in its one slot. It allocates no memory.
@@ -60,7 +60,7 @@ impl Pool for InlinePool {
 
     ghost most = { 1 };
 
-    fn post_from(&mut self, task: &Task, _wait: bool) -> Result<(), NotPosted>
+    fn post_from(&mut self, task: &TaskRef<'_>, _wait: bool) -> Result<(), NotPosted>
         ensures free { IsOk result ↔ (self.old.owed ≡ None) }
         ensures posted { OnOk result (self.new ≡ record self.old { owed = Some task.now; last = task.now }) }
         ensures full { IfErr result (λ why. why ≡ Full) }

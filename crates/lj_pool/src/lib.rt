@@ -7,6 +7,7 @@ mod inline;
 mod lock;
 mod pool;
 mod share;
+mod task_list;
 mod waking;
 
 pub use account::Account;
@@ -15,6 +16,7 @@ pub use inline::InlinePool;
 pub use lock::{Gate, LockEnd, LockPool, MAX_ENDS, gather, work};
 pub use pool::{MAX_AHEAD, MAX_OWED, MAX_POSTS, MAX_STRAYS, NotPosted, Pool, Refused};
 pub use share::{Share, merged, shares_of};
+pub use task_list::TaskList;
 pub use waking::{
     IdleWorkers, LOOKS, TASKS_AT_ONCE, UnsignalledPosts, WAIT_QUEUES, WaitQueues, wait_queue_of,
     wake,

@@ -7,7 +7,8 @@ ghost use Rattle.lj_pool.specs.Seen.{Seen, SameOwed, ArePosted, IsPosted, IsHand
 ghost use Rattle.lj_pool.specs.Accounts.{IsKnownByName};
 ghost use Rattle.lj_pool.specs.Refusals.{task_of, IsClosed};
 
-use lj_tile::{Done, DoneRef, Task};
+use crate::task_list::TaskList;
+use lj_tile::{Done, DoneRef, Task, TaskRef};
 use thiserror::Error;
 
 /// The most tasks that may be owed to an end of a pool at once.
@@ -67,7 +68,7 @@ pub trait Pool {
     ghost most: { ℕ };
 
     /// Posts a task. With `wait` it waits for room, and never refuses the task as `Full`.
-    fn post_from(&mut self, task: &Task, wait: bool) -> Result<(), NotPosted>
+    fn post_from(&mut self, task: &TaskRef<'_>, wait: bool) -> Result<(), NotPosted>
         requires room { length (seen self.old).owed < MAX_OWED }
         requires alone { wait ≡ true → (seen self.old).owed ≡ [] }
         ensures posted { OnOk result (IsPosted task.now (seen self.old) (seen self.new)) }
@@ -154,7 +155,7 @@ pub trait Pool {
         ensures { result ≡ last self.now };
 
     /// Posts tasks in order and never waits. Returns how many were posted: the first ones, and no others.
-    fn post_some(&mut self, tasks: &[Task]) -> usize
+    fn post_some(&mut self, tasks: &TaskList<'_>) -> usize
         requires few { length tasks.now ≤ MAX_POSTS }
         requires room { length (seen self.old).owed + length tasks.now ≤ MAX_OWED }
         ensures most { result ≤ length tasks.now }
@@ -164,7 +165,7 @@ pub trait Pool {
             → for_others self.new user ≡ for_others self.old user }
     {
         for here in 0..tasks.len() {
-            if self.post_from(&tasks[here], false).is_err() {
+            if self.post_from(tasks.at(here), false).is_err() {
                 return here;
             }
         }
@@ -183,7 +184,7 @@ pub trait Pool {
         ensures stays_closed { StaysClosed (seen self.old) (seen self.new) }
         ensures own { let user = task.name.label.user in for_others self.new user ≡ for_others self.old user }
     {
-        match self.post_from(&task, wait) {
+        match self.post_from(&task.by_ref(), wait) {
             Ok(()) => Ok(()),
             Err(NotPosted::Full) => Err(Refused::Full(task)),
             Err(NotPosted::Closed) => Err(Refused::Closed(task)),

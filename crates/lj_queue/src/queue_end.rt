@@ -14,7 +14,7 @@ use crate::poster::Poster;
 use crate::queue_pool::QueuePool;
 use lj_book::TaskBox;
 use lj_pool::{Account, MAX_OWED, NotPosted, Pool, TASKS_AT_ONCE, UnsignalledPosts};
-use lj_tile::{DoneRef, Task};
+use lj_tile::{DoneRef, TaskRef};
 use std::marker::Model;
 use std::mem;
 use std::sync::Wait;
@@ -116,7 +116,7 @@ impl<'p, L: PoolIdentity, R: Wait> Pool for QueueEnd<'p, L, R> {
 
     ghost is_uncounted = { λ _. ⊤ };
 
-    fn post_from(&mut self, task: &Task, wait: bool) -> Result<(), NotPosted>
+    fn post_from(&mut self, task: &TaskRef<'_>, wait: bool) -> Result<(), NotPosted>
         requires room { length self.old.seen.owed < MAX_OWED }
         ensures pushed { OnOk result (HasPushed task.now self.old self.new) }
         ensures nothing { OnErr result (HasPushedNothing self.old self.new) }
@@ -284,7 +284,7 @@ impl<'p, L: PoolIdentity, R: Wait> QueueEnd<'p, L, R> {
     }
 
     /// Posts a task in one of the boxes that it keeps, or in a spare one of the pool.
-    fn push(&mut self, task: &Task, wait: bool) -> Result<(), PostFault>
+    fn push(&mut self, task: &TaskRef<'_>, wait: bool) -> Result<(), PostFault>
         ensures pushed { OnOk result (HasPushed task.now self.old self.new) }
         ensures nothing { OnErr result (HasPushedNothing self.old self.new) }
         ensures unchanged { self.new ≡ record self.old { pass = self.new.pass; boxes = self.new.boxes } }

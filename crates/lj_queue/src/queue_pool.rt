@@ -19,7 +19,7 @@ use crate::rule::{OpenTasks, TaskPass};
 use crate::spares::Spares;
 use lj_book::{DoneBox, MAX_ENTRIES, TaskBox};
 use lj_pool::{IdleWorkers, LOOKS, MAX_ENDS, Share, WAIT_QUEUES, shares_of, wait_queue_of, wake};
-use lj_tile::Task;
+use lj_tile::TaskRef;
 use std::alloc::{AllocError, Global};
 use std::marker::Model;
 use std::sync::atomic::{AtomicBool, AtomicUsize, Ordering};
@@ -185,7 +185,7 @@ impl<L: PoolIdentity> QueuePool<L> {
         &self,
         rt: &R,
         poster: &mut Poster<L>,
-        task: &Task,
+        task: &TaskRef<'_>,
         wait: bool,
     ) -> Result<(), PostFault>
         ensures pushed { OnOk result (poster.new ≡ record (with_post poster.old task.now) { next = poster.new.next }) }
@@ -212,7 +212,7 @@ impl<L: PoolIdentity> QueuePool<L> {
         &self,
         rt: &R,
         poster: &mut Poster<L>,
-        task: &Task,
+        task: &TaskRef<'_>,
     ) -> Result<(), FullCause>
         ensures pushed { OnOk result (poster.new ≡ record (with_post poster.old task.now) { next = poster.new.next }) }
         ensures nothing { OnErr result (poster.new ≡ record poster.old { next = poster.new.next }) }
@@ -226,7 +226,7 @@ impl<L: PoolIdentity> QueuePool<L> {
     }
 
     /// Copies a task into the next box; where there is none, takes a spare one for it. Returns false if none is spare either.
-    fn fill<R: Wait>(&self, rt: &R, task: &Task, next: &mut Option<TaskBox>) -> bool
+    fn fill<R: Wait>(&self, rt: &R, task: &TaskRef<'_>, next: &mut Option<TaskBox>) -> bool
         ensures filled { result ≡ true → next.new ≡ Some task.now }
         ensures none { result ≡ false → next.old ≡ None }
         ensures unchanged { result ≡ false → next.new ≡ None }
@@ -236,7 +236,7 @@ impl<L: PoolIdentity> QueuePool<L> {
         }
         match next {
             Some(room) => {
-                room.copy_from(task);
+                room.remake(task);
                 true
             }
             None => false,
@@ -270,7 +270,7 @@ impl<L: PoolIdentity> QueuePool<L> {
         &self,
         rt: &R,
         poster: &mut Poster<L>,
-        task: &Task,
+        task: &TaskRef<'_>,
     ) -> Result<(), PostFault>
         ensures pushed { OnOk result (poster.new ≡ record (with_post poster.old task.now) { next = poster.new.next }) }
         ensures nothing { OnErr result (poster.new ≡ record poster.old { next = poster.new.next }) }

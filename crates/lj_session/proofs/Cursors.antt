@@ -6,9 +6,9 @@ use Rattle.std.proofs.lemmas.Bool.{true≢false}
 use Rattle.std.proofs.lemmas.Option.{same_Some}
 use Rattle.lj_tile.specs.Task.{Task}
 use Rattle.lj_session.specs.declared.tile_cursor.TileCursor.{TileCursor}
-use Rattle.lj_session.specs.Cursors.{IsPostedTo}
+use Rattle.lj_session.specs.Cursors.{IsAtFirst, IsPostedTo}
 use Rattle.lj_session.specs.Owner.{Owner, label_of, next_task_of, task_of_session, next_session, state_changed_in, with_state, with_task_posted}
-use Rattle.lj_session.specs.UserState.{LiveSession, UserState, IsNextTile, NoTaskBefore, live_session, names, next_of}
+use Rattle.lj_session.specs.UserState.{LiveSession, UserState, NoTaskBefore, live_session, names, next_of}
 use Rattle.lj_session.specs.UserState.{with_posted, with_session_changed}
 use Rattle.lj_session.proofs.Entries.{named-put_any}
 use Rattle.lj_session.proofs.Firsts.{find-at}
@@ -16,26 +16,25 @@ use Rattle.lj_session.proofs.Holding.{changed-some}
 use Rattle.lj_session.proofs.Others.{names-changed, others-changed}
 
 -- the session of the next tile has no task posted beyond those that it has passed
-pub first-cursor : (owner : Owner) (cursor : TileCursor) (k : ℕ) (next : IsNextTile owner.state cursor.session k)
-    → next.held.passed ≡ cursor.from → cursor.label ≡ label_of owner next.name → IsPostedTo cursor owner owner
-first-cursor owner cursor k next passed label = record {
-  name = next.name;
-  named = next.named;
-  label = label;
-  held = next.held;
-  at = next.at;
-  there = next.there ∙ ap (λ n. Some (record next.held { passed = n })) passed;
-  before = next.before;
+pub first-cursor : (owner : Owner) (cursor : TileCursor) → IsAtFirst cursor owner → IsPostedTo cursor cursor.from owner owner
+first-cursor owner cursor first = record {
+  name = first.next.name;
+  named = first.next.named;
+  label = first.label;
+  held = first.next.held;
+  at = first.next.at;
+  there = first.next.there ∙ ap (λ n. Some (record first.next.held { passed = n })) first.passed;
+  before = first.next.before;
   same_names = refl;
   number = refl;
 }
 
-module _ (cursor : TileCursor) (owner later : Owner) (p : IsPostedTo cursor owner later) (work : Task)
-    (is : next_of (label_of owner p.name) (Some (record p.held { passed = cursor.from })) ≡ Some work) where
+module _ (cursor : TileCursor) (from : ℕ) (owner later : Owner) (p : IsPostedTo cursor from owner later) (work : Task)
+    (is : next_of (label_of owner p.name) (Some (record p.held { passed = from })) ≡ Some work) where
   -- the session of the cursor has this task
   of_session : task_of_session later p.name ≡ Some work
   of_session = ap (next_of (label_of later p.name)) p.there
-      ∙ ap (λ user. next_of (record { user = user; session = p.name }) (Some (record p.held { passed = cursor.from }))) p.number
+      ∙ ap (λ user. next_of (record { user = user; session = p.name }) (Some (record p.held { passed = from }))) p.number
       ∙ is
 
   -- and is the first that has one
@@ -52,10 +51,10 @@ module _ (cursor : TileCursor) (owner later : Owner) (p : IsPostedTo cursor owne
   posted_is : with_task_posted later ≡ with_state state_after later
   posted_is = ap (λ o. with_state (state_changed_in o with_posted later.state) later) is_first
 
-  there_after : live_session state_after p.name ≡ Some (with_posted (record p.held { passed = cursor.from }))
+  there_after : live_session state_after p.name ≡ Some (with_posted (record p.held { passed = from }))
   there_after = ap (λ (o : UserState). live_session o p.name)
-      (changed-some later.state p.name with_posted (record p.held { passed = cursor.from }) p.there)
-      ∙ named-put_any p.name later.state.sessions (with_posted (record p.held { passed = cursor.from }))
+      (changed-some later.state p.name with_posted (record p.held { passed = from }) p.there)
+      ∙ named-put_any p.name later.state.sessions (with_posted (record p.held { passed = from }))
 
   before_after : NoTaskBefore state_after cursor.session
   before_after user k other below at =
@@ -67,9 +66,9 @@ module _ (cursor : TileCursor) (owner later : Owner) (p : IsPostedTo cursor owne
       ∙ p.before user k other below there
 
   pub cursor-behind : (next : ℕ)
-      → with_posted (record p.held { passed = cursor.from }) ≡ record p.held { passed = next }
-      → IsPostedTo (record cursor { from = next }) owner (with_task_posted later)
-  cursor-behind next passes = subst (IsPostedTo (record cursor { from = next }) owner) (sym posted_is) (record {
+      → with_posted (record p.held { passed = from }) ≡ record p.held { passed = next }
+      → IsPostedTo cursor next owner (with_task_posted later)
+  cursor-behind next passes = subst (IsPostedTo cursor next owner) (sym posted_is) (record {
     name = p.name;
     named = p.named;
     label = p.label;

@@ -16,7 +16,7 @@ ghost use Rattle.lj_session.specs.UserState.{settled_session, with_simulation, w
 use lj_base::{Label, Name};
 use lj_branch::{Branches, NoBranch, SaveFault};
 use lj_step::{Displacement, MAX_STEP, NotAwaited, Sim};
-use lj_tile::{DoneRef, Kind, Task};
+use lj_tile::{DoneRef, Kind, TaskRef};
 use lj_xyz::Symbol;
 use std::marker::Model;
 
@@ -241,31 +241,29 @@ impl LiveSession {
         None
     }
 
-    /// Writes the task of the first awaited tile from `from` on to `out`. Returns the position after it.
-    pub(crate) fn task_from_into(&self, from: usize, label: &Label, out: &mut Task) -> Option<usize>
+    /// Returns the task of the first awaited tile from `from` on, by reference, and the position after it.
+    pub(crate) fn task_from<'a>(
+        &'a self,
+        from: usize,
+        label: &'a Label,
+    ) -> Option<(TaskRef<'a>, usize)>
         ensures task { let held = record self.now { passed = from } in
-            IfSome result (λ _. states.next_of label.now (Some held) ≡ Some out.new) }
+            IfSome result (λ found. states.next_of label.now (Some held) ≡ Some found.0) }
         ensures passes { let held = record self.now { passed = from } in
-            IfSome result (λ next. states.with_posted held ≡ record held { passed = next }) }
-        ensures unchanged { IfNone result (out.new ≡ out.old) }
+            IfSome result (λ found. states.with_posted held ≡ record held { passed = found.1 }) }
     {
         let i = self.next_tile_from(from)?;
         let _tiles = self.sim.tiles();
-        if self.sim.task_into(i, label, out) {
-            Some(i + 1)
-        } else {
-            None
-        }
+        let task = self.sim.task_ref(i, label)?;
+        Some((task, i + 1))
     }
 
-    /// Writes the task of the first tile that is neither posted nor in, the i-th of the cover, to `out`.
-    pub(crate) fn task_into(&self, i: usize, label: &Label, out: &mut Task) -> bool
+    /// Returns the task of the first tile that is neither posted nor in, the i-th of the cover, by reference.
+    pub(crate) fn task_ref<'a>(&'a self, i: usize, label: &'a Label) -> Option<TaskRef<'a>>
         requires { states.next_tile self.now ≡ Some i }
-        ensures some { result ≡ true → states.next_of label.now (Some self.now) ≡ Some out.new }
-        ensures none { result ≡ false → states.next_of label.now (Some self.now) ≡ None }
-        ensures unchanged { result ≡ false → out.new ≡ out.old }
+        ensures { result ≡ states.next_of label.now (Some self.now) }
     {
-        self.sim.task_into(i, label, out)
+        self.sim.task_ref(i, label)
     }
 
     /// Notes the first tile that is neither posted nor in, the i-th of the cover, as posted.

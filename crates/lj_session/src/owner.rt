@@ -12,7 +12,7 @@ ghost use Rattle.lj_session.specs.Owner.{WaitsAlike};
 ghost use Rattle.lj_session.specs.Owner.{state_begun, command_left};
 ghost use Rattle.lj_session.specs.Owner.{user_in, owner_of_state, has_pending, is_busy, turns_left, is_waited_for};
 ghost use Rattle.lj_session.specs.Owner.{Owner, label_of, next_task_of};
-ghost use Rattle.lj_session.specs.Cursors.{IsPostedTo};
+ghost use Rattle.lj_session.specs.Cursors.{IsAtFirst, IsPostedTo};
 ghost use Rattle.lj_session.specs.Owner.{with_task_posted, with_task_in, ready_session, owner_turned};
 ghost use Rattle.lj_session.specs.OwnerCalls.{AnswersAtOnce, AnswersAtTurn, WaitsForTurns, KeptByCommand, KeptByTurn};
 ghost use Rattle.lj_session.specs.Begins.{IfAnswered, OnRunning, OnRefused, OnRefusal, reply_of};
@@ -24,7 +24,7 @@ use crate::state::UserState;
 use crate::tile_cursor::TileCursor;
 use lj_base::{Label, Name};
 use lj_step::{NotAwaited, Stray};
-use lj_tile::{Done, DoneRef, Kind, Task};
+use lj_tile::{Done, DoneRef, Kind, Task, TaskRef};
 use std::marker::Model;
 use std::mem;
 
@@ -113,68 +113,59 @@ impl Owner {
     pub fn next_task(&self) -> Option<Task>
         ensures { result ≡ next_task_of self.now }
     {
-        let mut out = Task::blank();
-        if self.next_task_into(&mut out) {
-            Some(out)
-        } else {
-            None
-        }
-    }
-
-    /// Writes the task that `next_task` returns to `out`. Returns false if there is none; `out` is unchanged then.
-    pub fn next_task_into(&self, out: &mut Task) -> bool
-        ensures some { result ≡ true → next_task_of self.now ≡ Some out.new }
-        ensures none { result ≡ false → next_task_of self.now ≡ None }
-        ensures unchanged { result ≡ false → out.new ≡ out.old }
-    {
-        let Some((i, k)) = self.state.next_tile() else {
-            return false;
-        };
-        let label = self.label(self.state.name_at(i).copy());
-        self.state.task_into(i, k, &label, out)
+        let cursor = self.first_tile()?;
+        let task = self.first_task(&cursor)?;
+        Some(task.to_task())
     }
 
     /// Returns the cursor at the task that `next_task` returns.
     pub fn first_tile(&self) -> Option<TileCursor>
-        ensures some { IfSome result (λ cursor. IsPostedTo cursor self.now self.now) }
+        ensures first { IfSome result (λ cursor. IsAtFirst cursor self.now) }
+        ensures posted { IfSome result (λ cursor. IsPostedTo cursor cursor.from self.now self.now) }
         ensures none { IfNone result (next_task_of self.now ≡ None) }
     {
-        let Some((session, _)) = self.state.next_tile() else {
+        let Some((session, tile)) = self.state.next_tile() else {
             return None;
         };
         let from = self.state.passed_at(session);
         let label = self.label(self.state.name_at(session).copy());
         Some(TileCursor {
             session,
+            tile,
             from,
             label,
         })
     }
 
-    /// Writes the task at a cursor to `out`, and moves the cursor behind it. This task is the next one once all before
-    /// the cursor are posted; it posts none. Returns false if the session of the cursor has no task there; nothing has
-    /// changed then.
-    pub fn task_from_into(&self, cursor: &mut TileCursor, out: &mut Task) -> bool
-        ensures task { result ≡ true → (later : Owner) → IsPostedTo cursor.old self.now later
-            → next_task_of later ≡ Some out.new }
-        ensures moved { result ≡ true → (later : Owner) → IsPostedTo cursor.old self.now later
-            → IsPostedTo cursor.new self.now (with_task_posted later) }
-        ensures unchanged { result ≡ false → out.new ≡ out.old }
-        ensures stays { result ≡ false → cursor.new ≡ cursor.old }
+    /// Returns the task that `next_task` returns, by reference, at the cursor that `first_tile` returns.
+    pub fn first_task<'a>(&'a self, cursor: &'a TileCursor) -> Option<TaskRef<'a>>
+        requires { IsAtFirst cursor.now self.now }
+        ensures { result ≡ next_task_of self.now }
+    {
+        self.state
+            .task_ref(cursor.session, cursor.tile, &cursor.label)
+    }
+
+    /// Returns the first task from a position of the cursor's session on, by reference, and the position after it. This task
+    /// is the next one once all before the position are posted; it posts none.
+    pub fn task_from<'a>(
+        &'a self,
+        cursor: &'a TileCursor,
+        from: usize,
+    ) -> Option<(TaskRef<'a>, usize)>
+        ensures task { IfSome result (λ found. (later : Owner) → IsPostedTo cursor.now from self.now later
+            → next_task_of later ≡ Some found.0) }
+        ensures moved { IfSome result (λ found. (later : Owner) → IsPostedTo cursor.now from self.now later
+            → IsPostedTo cursor.now found.1 self.now (with_task_posted later)) }
     {
         if cursor.session >= self.state.len() {
-            return false;
+            return None;
         }
-        let TileCursor {
-            session,
-            from,
-            label,
-        } = cursor;
-        let Some(next) = self.state.task_from_into(*session, *from, label, out) else {
-            return false;
+        let found = self.state.task_from(cursor.session, from, &cursor.label);
+        let Some((task, next)) = found else {
+            return None;
         };
-        cursor.from = next;
-        true
+        Some((task, next))
     }
 
     /// Notes the tile of the task that `next_task` returns as posted.

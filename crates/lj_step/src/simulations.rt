@@ -23,7 +23,7 @@ use crate::snapshots::Snapshot;
 use crate::tile_id::TileId;
 use lj_base::Label;
 use lj_ring::{Edge, Mix, Place};
-use lj_tile::{BLOCK, Done, DoneRef, Kind, Push, Task, TaskNameRef};
+use lj_tile::{BLOCK, BlockRef, Done, DoneRef, Kind, Push, Task, TaskNameRef, TaskRef};
 use std::alloc::{AllocError, Global};
 use std::marker::Model;
 use std::mem;
@@ -302,37 +302,28 @@ impl Sim {
         ensures value { result ≡ steps.task_at self.now label.now i }
         ensures tile { IfSome result (HasTileValue self.now i) }
     {
-        let mut out = Task::blank();
-        if self.task_into(i, label, &mut out) {
-            Some(out)
-        } else {
-            None
-        }
+        let task = self.task_ref(i, label)?;
+        Some(task.to_task())
     }
 
-    /// Writes the task of the i-th tile of the open step's cover to `out`. Returns false past the last one, and if no
-    /// step is open; `out` is unchanged then.
+    /// Returns the task that `task` returns, by reference to the places of the frame, and copies none.
     ///
     /// ```rust
-    /// // `sim` as in the example of `new`, with a force step open; `label` and `task` are any
-    /// assert!(sim.task_into(0, &label, &mut task));
-    /// assert_eq!(task.name().kind, Kind::Force);
-    /// assert!(!sim.task_into(1, &label, &mut task));
+    /// // `sim` as in the example of `new`, with a force step open; `label` is any
+    /// assert_eq!(sim.task_ref(0, &label).unwrap().to_task().name().kind, Kind::Force);
+    /// assert!(sim.task_ref(1, &label).is_none());
     /// ```
-    pub fn task_into(&self, i: usize, label: &Label, out: &mut Task) -> bool
-        ensures some { result ≡ true → steps.task_at self.now label.now i ≡ Some out.new }
-        ensures none { result ≡ false → steps.task_at self.now label.now i ≡ None }
-        ensures unchanged { result ≡ false → out.new ≡ out.old }
-        ensures tile { result ≡ true → HasTileValue self.now i out.new }
+    pub fn task_ref<'a>(&'a self, i: usize, label: &'a Label) -> Option<TaskRef<'a>>
+        ensures value { result ≡ steps.task_at self.now label.now i }
+        ensures tile { IfSome result (HasTileValue self.now i) }
     {
         let Some(kind) = self.partial.kind else {
-            return false;
+            return None;
         };
         let Some(tile) = self.partial.tiles.as_slice().get(i) else {
-            return false;
+            return None;
         };
-        self.write_task(label, kind, *tile, out);
-        true
+        Some(self.tile_task(label, kind, *tile))
     }
 
     /// Returns whether the open step still awaits the i-th tile of its cover.
@@ -487,27 +478,23 @@ impl Sim {
         requires within { tile < BLOCK * steps.blocks (length self.now.sim.cur) }
         ensures { IsTrue result ↔ (task.now ≡ steps.task_of self.now label.now kind tile) }
     {
-        let name = self.name_of(label, kind, tile);
-        let (first, second) = (tile.first(), tile.second());
-        let a = (self.block(first), self.atoms.species_bits(first));
-        let b = (self.block(second), self.atoms.species_bits(second));
-        task.is_of(&name, self.atoms.mix(), a, b)
+        task.is_of(&self.tile_task(label, kind, tile))
     }
 
-    /// Writes the task of a tile of the present step to `out`.
-    fn write_task(&self, label: &Label, kind: Kind, tile: TileId, out: &mut Task)
+    /// Returns the task of a tile of the present step, by reference to the places of the frame.
+    #[inline]
+    fn tile_task<'a>(&'a self, label: &'a Label, kind: Kind, tile: TileId) -> TaskRef<'a>
         requires tile { steps.is_tile self.now.composition self.now.sim.cur tile ≡ true }
         requires within { tile < BLOCK * steps.blocks (length self.now.sim.cur) }
-        ensures { out.new ≡ steps.task_of self.now label.now kind tile }
+        ensures { result ≡ steps.task_of self.now label.now kind tile }
     {
-        let name = self.name_of(label, kind, tile);
         let (first, second) = (tile.first(), tile.second());
-        out.remake(
-            &name,
+        TaskRef::new(
+            self.name_of(label, kind, tile),
             self.atoms.mix(),
-            (self.block(first), self.atoms.species_bits(first)),
-            (self.block(second), self.atoms.species_bits(second)),
-        );
+            BlockRef::new(self.block(first), self.atoms.species_bits(first)),
+            BlockRef::new(self.block(second), self.atoms.species_bits(second)),
+        )
     }
 
     /// Returns the name of the task of a tile of the present step.

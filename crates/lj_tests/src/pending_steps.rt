@@ -7,7 +7,7 @@ use lj_pool::{InlinePool, NotPosted, Pool, Served, serve};
 use lj_quota::Quota;
 use lj_session::UserState;
 use lj_table::Table;
-use lj_tile::{DoneRef, Task};
+use lj_tile::{DoneRef, TaskRef};
 use lj_wire::{Reading, Writing};
 use std::alloc::{AllocGlobal, Global};
 
@@ -54,7 +54,7 @@ impl Pool for ClosingPool {
 
     ghost most = { 1 };
 
-    fn post_from(&mut self, task: &Task, wait: bool) -> Result<(), NotPosted> {
+    fn post_from(&mut self, task: &TaskRef<'_>, wait: bool) -> Result<(), NotPosted> {
         if !self.is_open() {
             self.closed = true;
             return Err(NotPosted::Closed);

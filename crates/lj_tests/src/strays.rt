@@ -6,7 +6,7 @@ use lj_pool::{NotPosted, Pool, Served, serve_lines};
 use lj_quota::Quota;
 use lj_session::UserState;
 use lj_table::Table;
-use lj_tile::{Done, DoneRef, Task, compute};
+use lj_tile::{Done, DoneRef, TaskRef, compute};
 use lj_wire::{LineReader, Reading, Writing};
 use std::alloc::Global;
 
@@ -91,7 +91,7 @@ impl Pool for OddPool {
 
     ghost most = { 1 };
 
-    fn post_from(&mut self, task: &Task, _wait: bool) -> Result<(), NotPosted> {
+    fn post_from(&mut self, task: &TaskRef<'_>, _wait: bool) -> Result<(), NotPosted> {
         if self.posts == 0 {
             self.closed = true;
             return Err(NotPosted::Closed);
@@ -100,7 +100,7 @@ impl Pool for OddPool {
             return Err(NotPosted::Full);
         }
         self.posts -= 1;
-        self.owed = Some(compute(task.copy(), &self.table));
+        self.owed = Some(compute(task.to_task(), &self.table));
         Ok(())
     }
 

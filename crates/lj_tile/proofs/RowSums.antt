@@ -1,5 +1,5 @@
 -- The sums of the rows of a set, and of those of two sets.
-use Rattle.std.proofs.Common.{ℕ, zero, suc, ◌+◌, ◌-◌, ◌%◌, ◌^◌, ◌<◌, ◌≤◌, ◌≡◌, ◌≢◌, ◌==◌, true, false, nat_lt, List, []}
+use Rattle.std.proofs.Common.{ℕ, zero, suc, ◌+◌, ◌%◌, ◌^◌, ◌<◌, ◌≤◌, ◌≡◌, ◌≢◌, ◌==◌, true, false, nat_lt, List, []}
 use Rattle.std.proofs.Common.{length, slice_index_or, refl, sym, ap, ◌∙◌, inl, inr, add-one, if◌then◌else◌, arith}
 use Rattle.std.specs.Int.{bit_at}
 use Rattle.std.proofs.lemmas.Bool.{cases_lt, cases_eq}
@@ -7,7 +7,7 @@ use Rattle.std.proofs.lemmas.Bool.Decides.{nat_tests}
 use Rattle.lj_ring.specs.Scale.{Scale}
 use Rattle.lj_tile.specs.declared.pairs.Push.{Push}
 use Rattle.lj_tile.specs.declared.sums.ForceSums.{ForceSums}
-use Rattle.lj_tile.specs.Pushes.{push, no_push, sum_of_pushes}
+use Rattle.lj_tile.specs.Pushes.{no_push, sum_of_pushes}
 use Rattle.lj_tile.specs.Species.{is_in}
 use Rattle.lj_tile.specs.Task.{Task}
 use Rattle.lj_tile.specs.Rows.{IsSilent}
@@ -17,7 +17,7 @@ use Rattle.lj_tile.specs.Pairs.{IsMore, HavePushes, total_of_two, HaveRow, HaveR
 use Rattle.lj_tile.proofs.Opposites.{same_push}
 use Rattle.lj_tile.proofs.RowLemmas.{row_silent, second_more}
 use Rattle.lj_tile.proofs.PairSums.{sums_joined, more_none}
-use Rattle.lj_tile.proofs.RowPairs.{chosen, not_chosen, none_behind, other_pairs}
+use Rattle.lj_tile.proofs.RowPairs.{chosen, not_chosen, none_behind}
 
 is_before : (t n : ℕ) → t < n → nat_lt t n ≡ true
 is_before t n h = grind (arith, nat_tests)

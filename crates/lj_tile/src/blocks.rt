@@ -90,37 +90,37 @@ impl Block {
         Block::new(self.places(), self.species_bits())
     }
 
-    /// Makes this block equal to the other.
+    /// Returns the block by reference.
     ///
     /// ```rust
-    /// let mut block = Block::new(&[Place { x: 0, y: 0, z: 0 }; 2], 0);
-    /// block.copy_from(&Block::new(&[Place { x: 1, y: 2, z: 3 }], 1));
-    /// assert!(block.has(&[Place { x: 1, y: 2, z: 3 }], 1));
+    /// let block = Block::new(&[Place { x: 1, y: 2, z: 3 }], 1);
+    /// assert_eq!(block.by_ref().places, block.places());
     /// ```
-    pub fn copy_from(&mut self, other: &Block)
-        ensures { self.new ≡ other.now }
+    #[inline]
+    pub fn by_ref(&self) -> BlockRef<'_>
+        ensures { result ≡ self.now }
     {
-        self.remake(other.places(), other.species_bits());
+        BlockRef::new(self.places(), self.species_bits())
     }
 
-    /// Makes this the block of these places; the bits of `species_bits` mark those of the second species.
+    /// Makes this block equal to one that is given by reference.
     ///
     /// ```rust
     /// let mut block = Block::new(&[Place { x: 0, y: 0, z: 0 }; 2], 0);
-    /// block.remake(&[Place { x: 1, y: 2, z: 3 }], 1);
-    /// assert!(block.has(&[Place { x: 1, y: 2, z: 3 }], 1));
+    /// block.remake(&Block::new(&[Place { x: 1, y: 2, z: 3 }], 1).by_ref());
+    /// assert!(block.is(&Block::new(&[Place { x: 1, y: 2, z: 3 }], 1)));
     /// ```
-    pub fn remake(&mut self, places: &[Place], species_bits: u64)
-        requires { length places.now ≤ BLOCK }
-        ensures { self.new ≡ record { places = places.now; species_bits = species_bits } }
+    pub fn remake(&mut self, block: &BlockRef<'_>)
+        requires { length block.now.places ≤ BLOCK }
+        ensures { self.new ≡ block.now }
     {
-        if self.places.len() == places.len() {
-            self.places.as_mut_slice().copy_from_slice(places);
+        if self.places.len() == block.places.len() {
+            self.places.as_mut_slice().copy_from_slice(block.places);
         } else {
             self.places.clear();
-            let _fits = self.places.try_extend_from_slice(places);
+            let _fits = self.places.try_extend_from_slice(block.places);
         }
-        self.species_bits = species_bits;
+        self.species_bits = block.species_bits;
     }
 
     /// Writes to each cache line, of 64 bytes: puts every fifth place to x = 0, and all atoms to the first species.
@@ -134,18 +134,23 @@ impl Block {
         self.species_bits = 0;
     }
 
-    /// Returns whether this is the block of these places and species.
-    ///
-    /// ```rust
-    /// let block = Block::new(&[Place { x: 1, y: 2, z: 3 }], 1);
-    /// assert!(block.has(&[Place { x: 1, y: 2, z: 3 }], 1));
-    /// assert!(!block.has(&[Place { x: 1, y: 2, z: 3 }], 0));
-    /// ```
+    /// Returns whether this block has as many places as the other, and its species. It reads no place.
     #[inline]
-    pub fn has(&self, places: &[Place], species_bits: u64) -> bool
-        ensures { IsTrue result ↔ (self.now ≡ record { places = places.now; species_bits = species_bits }) }
+    pub(crate) fn fits(&self, other: &BlockRef<'_>) -> bool
+        ensures { IsTrue result ↔ ((length self.now.places ≡ length other.now.places)
+            × (self.now.species_bits ≡ other.now.species_bits)) }
     {
-        self.species_bits() == species_bits && are_same(self.places(), places)
+        (self.places().len() == other.places.len()) & (self.species_bits() == other.species_bits)
+    }
+
+    /// Returns whether the places of this block are these, of which there are as many.
+    #[inline]
+    #[tactic(auto, using(crate::proofs::SameLemmas::places_Decides))]
+    pub(crate) fn has_places(&self, places: &[Place]) -> bool
+        requires { length self.now.places ≡ length places.now }
+        ensures { IsTrue result ↔ (self.now.places ≡ places.now) }
+    {
+        is_same_list(self.places(), places)
     }
 
     /// Returns whether the other block is equal.
@@ -158,15 +163,41 @@ impl Block {
     pub fn is(&self, other: &Block) -> bool
         ensures { IsTrue result ↔ (self.now ≡ other.now) }
     {
-        self.has(other.places(), other.species_bits())
+        self.fits(&other.by_ref()) && self.has_places(other.places())
     }
 }
 
-#[inline]
-fn are_same(a: &[Place], b: &[Place]) -> bool
-    ensures { IsTrue result ↔ (a.now ≡ b.now) }
-{
-    a.len() == b.len() && is_same_list(a, b)
+/// A block by reference to its places, which may lie in a frame.
+#[derive(Drop)]
+pub struct BlockRef<'a> {
+    pub places: &'a [Place],
+    pub species_bits: u64,
+}
+
+impl<'a> Model for BlockRef<'a> {
+    ghost use Rattle.lj_tile.specs.Block.{Block};
+
+    ghost Value = { Block };
+
+    ghost view = { λ b. record { places = b.places.now; species_bits = b.species_bits } };
+}
+
+impl<'a> BlockRef<'a> {
+    /// Returns the block of these places; the bits of `species_bits` mark those of the second species.
+    ///
+    /// ```rust
+    /// let block = BlockRef::new(&[Place { x: 1, y: 2, z: 3 }], 0b1);
+    /// assert_eq!((block.places.len(), block.species_bits), (1, 0b1));
+    /// ```
+    #[inline]
+    pub fn new(places: &'a [Place], species_bits: u64) -> BlockRef<'a>
+        ensures { result ≡ record { places = places.now; species_bits = species_bits } }
+    {
+        BlockRef {
+            places,
+            species_bits,
+        }
+    }
 }
 
 /// Returns whether two lists of one length have the same places. It compares all of them, several at once.

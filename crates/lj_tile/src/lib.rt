@@ -13,9 +13,9 @@ mod sums;
 mod task_name;
 mod tasks;
 
-pub use blocks::{BLOCK, Block, MAX_BLOCKS};
+pub use blocks::{BLOCK, Block, BlockRef, MAX_BLOCKS};
 pub use lj_base::{Label, Name};
 pub use pairs::{Push, pair_push};
 pub use results::{Done, DoneRef, Sums, compute, compute_into, compute_sums};
 pub use task_name::{Kind, TaskName, TaskNameRef};
-pub use tasks::Task;
+pub use tasks::{Task, TaskRef};

@@ -9,7 +9,7 @@ ghost use Rattle.lj_tile.specs.Results.{AreSums};
 use crate::pairs::Push;
 use crate::sums::{ForceSums, energy_sum, sum_forces};
 use crate::task_name::Kind;
-use crate::tasks::Task;
+use crate::tasks::{Task, TaskRef};
 use lj_table::Table;
 use std::marker::Model;
 
@@ -326,16 +326,17 @@ pub fn compute(task: Task, table: &Table) -> Done
 /// ```rust
 /// // `task` as in the example of `Task`
 /// let mut done = Done::blank();
-/// compute_into(&task, &Table::new(), &mut done);
+/// compute_into(&task.by_ref(), &Table::new(), &mut done);
 /// assert_eq!(done.sum_at(0), [589, 0, 0]);
 /// ```
 ///
 /// Promise: the result is of that very task.
-pub fn compute_into(task: &Task, table: &Table, out: &mut Done)
+pub fn compute_into(task: &TaskRef<'_>, table: &Table, out: &mut Done)
     ensures { out.new ≡ task.now }
 {
-    compute_sums(task, table, &mut out.sums);
-    out.task.copy_from(task);
+    let Done { task: copy, sums } = out;
+    copy.remake(task);
+    compute_sums(copy, table, sums);
 }
 
 /// Computes the sums of a task, and overwrites older ones.

@@ -4,7 +4,7 @@ ghost use Rattle.lj_tile.specs.declared.task_name.Kind.TheVariants.{Energy};
 ghost use Rattle.lj_tile.specs.Task.{IsTask};
 ghost use Rattle.lj_tile.specs.Blank.{blank_task};
 
-use crate::blocks::{BLOCK, Block, MAX_BLOCKS};
+use crate::blocks::{BLOCK, Block, BlockRef, MAX_BLOCKS};
 use crate::task_name::{TaskName, TaskNameRef};
 use lj_ring::{Mix, Place, Scale};
 use std::marker::Model;
@@ -143,12 +143,7 @@ impl Task {
     pub fn copy_from(&mut self, other: &Task)
         ensures { self.new ≡ other.now }
     {
-        self.name.copy_from(&other.name);
-        if !self.mix.is(&other.mix) {
-            self.mix = other.mix;
-        }
-        self.first.copy_from(&other.first);
-        self.second.copy_from(&other.second);
+        self.remake(&other.by_ref());
     }
 
     /// Writes to each cache line of the name and of two different blocks, so that the processor has these lines for itself before
@@ -172,41 +167,41 @@ impl Task {
         }
     }
 
-    /// Makes this the task of this name over two blocks, each of places and the bits of those of the second species.
-    /// The blocks are the same if the name has one index twice.
+    /// Makes this task equal to one that is given by reference.
     ///
     /// ```rust
-    /// // `task`, `mix` and `places` as in the example of `Task`
+    /// // `task` as in the example of `Task`
     /// let mut other = Task::blank();
-    /// other.remake(&task.name().by_ref(), &mix, (&places, 0), (&places, 0));
+    /// other.remake(&task.by_ref());
     /// assert!(other.is(&task));
     /// ```
-    pub fn remake(
-        &mut self,
-        name: &TaskNameRef<'_>,
-        mix: &Mix,
-        a: (&[Place], u64),
-        b: (&[Place], u64),
-    )
-        requires some_first { 1 ≤ length a.0.now }
-        requires some_second { 1 ≤ length b.0.now }
-        requires most_first { length a.0.now ≤ BLOCK }
-        requires most_second { length b.0.now ≤ BLOCK }
-        requires first_index { name.now.bi < MAX_BLOCKS }
-        requires second_index { name.now.bj < MAX_BLOCKS }
-        requires diagonal { name.now.bi ≡ name.now.bj → (a.0.now ≡ b.0.now) × (a.1 ≡ b.1) }
-        requires in_order { name.now.bi ≤ name.now.bj }
-        ensures { self.new ≡ record {
-          name = name.now;
-          mix = mix.now;
-          a = record { places = a.entry.0.now; species_bits = a.entry.1 };
-          b = record { places = b.entry.0.now; species_bits = b.entry.1 };
-        } }
+    pub fn remake(&mut self, task: &TaskRef<'_>)
+        ensures { self.new ≡ task.now }
     {
-        self.name.remake(name);
-        self.mix = *mix;
-        self.first.remake(a.0, a.1);
-        self.second.remake(b.0, b.1);
+        self.name.remake(&task.name);
+        if !self.mix.is(task.mix) {
+            self.mix = *task.mix;
+        }
+        self.first.remake(&task.first);
+        self.second.remake(&task.second);
+    }
+
+    /// Returns the task by reference.
+    ///
+    /// ```rust
+    /// // `task` as in the example of `Task`
+    /// assert!(task.is_of(&task.by_ref()));
+    /// ```
+    #[inline]
+    pub fn by_ref(&self) -> TaskRef<'_>
+        ensures { result ≡ self.now }
+    {
+        TaskRef {
+            name: self.name.by_ref(),
+            mix: &self.mix,
+            first: self.first.by_ref(),
+            second: self.second.by_ref(),
+        }
     }
 
     /// Returns whether the other task is equal: its name, its mixture and its two blocks.
@@ -225,33 +220,85 @@ impl Task {
             && self.second.is(&other.second)
     }
 
-    /// Returns whether this is the task of this name and mixture over two blocks, each of places and the bits of those
-    /// of the second species. It copies no places.
+    /// Returns whether this is the task that is given by reference. It copies no places.
+    ///
+    /// ```rust
+    /// // `task` as in the example of `Task`
+    /// assert!(task.is_of(&task.by_ref()));
+    /// assert!(!Task::blank().is_of(&task.by_ref()));
+    /// ```
+    #[inline]
+    pub fn is_of(&self, task: &TaskRef<'_>) -> bool
+        ensures { IsTrue result ↔ (self.now ≡ task.now) }
+    {
+        let fits = self.first.fits(&task.first) & self.second.fits(&task.second);
+        fits && self.name.is_of(&task.name)
+            && self.mix.is(task.mix)
+            && self.first.has_places(task.first.places)
+            && self.second.has_places(task.second.places)
+    }
+}
+
+/// A task by reference: to its label, its mixture and the places of its blocks, which may lie in a frame. So a task is
+/// written from its frame to where it is needed, and nowhere else.
+#[derive(Drop)]
+pub struct TaskRef<'a> {
+    name: TaskNameRef<'a>,
+    mix: &'a Mix,
+    first: BlockRef<'a>,
+    second: BlockRef<'a>,
+}
+
+impl<'a> Model for TaskRef<'a> {
+    ghost use Rattle.lj_tile.specs.Task.{Task, IsTask};
+
+    ghost Value = { Task };
+
+    ghost view = { λ t. record { name = t.name; mix = t.mix.now; a = t.first; b = t.second } };
+
+    ghost invariant = { λ t. IsTask (record { name = t.name; mix = t.mix.now; a = t.first; b = t.second }) };
+}
+
+impl<'a> TaskRef<'a> {
+    /// Returns the task of this name over two blocks, which are the same if the name has one index twice.
     ///
     /// ```rust
     /// // `task`, `mix` and `places` as in the example of `Task`
-    /// let name = task.name().by_ref();
-    /// assert!(task.is_of(&name, &mix, (&places, 0), (&places, 0)));
-    /// assert!(!task.is_of(&name, &mix, (&places, 1), (&places, 1)));
+    /// let (first, second) = (BlockRef::new(&places, 0), BlockRef::new(&places, 0));
+    /// let other = TaskRef::new(task.name().by_ref(), &mix, first, second);
+    /// assert!(task.is_of(&other));
     /// ```
     #[inline]
-    pub fn is_of(
-        &self,
-        name: &TaskNameRef<'_>,
-        mix: &Mix,
-        a: (&[Place], u64),
-        b: (&[Place], u64),
-    ) -> bool
-        ensures { IsTrue result ↔ (self.now ≡ record {
-          name = name.now;
-          mix = mix.now;
-          a = record { places = a.entry.0.now; species_bits = a.entry.1 };
-          b = record { places = b.entry.0.now; species_bits = b.entry.1 };
-        }) }
+    pub fn new(name: TaskNameRef<'a>, mix: &'a Mix, a: BlockRef<'a>, b: BlockRef<'a>) -> TaskRef<'a>
+        requires some_first { 1 ≤ length a.places }
+        requires some_second { 1 ≤ length b.places }
+        requires most_first { length a.places ≤ BLOCK }
+        requires most_second { length b.places ≤ BLOCK }
+        requires first_index { name.bi < MAX_BLOCKS }
+        requires second_index { name.bj < MAX_BLOCKS }
+        requires diagonal { name.bi ≡ name.bj → a ≡ b }
+        requires in_order { name.bi ≤ name.bj }
+        ensures { result ≡ record { name = name.entry; mix = mix.now; a = a.entry; b = b.entry } }
     {
-        self.name.is_of(name)
-            && self.mix.is(mix)
-            && self.first.has(a.0, a.1)
-            && self.second.has(b.0, b.1)
+        TaskRef {
+            name,
+            mix,
+            first: a,
+            second: b,
+        }
+    }
+
+    /// Returns a copy of the task.
+    ///
+    /// ```rust
+    /// // `task` as in the example of `Task`
+    /// assert!(task.by_ref().to_task().is(&task));
+    /// ```
+    pub fn to_task(&self) -> Task
+        ensures { result ≡ self.now }
+    {
+        let mut task = Task::blank();
+        task.remake(self);
+        task
     }
 }

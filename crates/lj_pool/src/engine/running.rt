@@ -1,6 +1,6 @@
-//! Runs the pending steps of sessions over a pool, while a command waits for them and before the next command is read. Tasks
-//! are written in slots that the caller owns.
+//! Runs the pending steps of sessions over a pool, while a command waits for them and before the next command is read.
 ghost use Rattle.std.specs.Prelude.{◌≡◌, ◌+◌, ◌<◌, ◌≤◌, length, ℕ, Bool, true, false, [], Some, None, Ok, IsSome, IfOk, IfErr, IfSome, OnErr};
+ghost use Rattle.lj_session.specs.Cursors.{IsPostedTo};
 ghost use Rattle.lj_session.specs.Owner.{next_task_of, ready_session};
 ghost use Rattle.lj_pool.specs.declared.engine.running.Halt.TheVariants.{TooManyStrays};
 ghost use Rattle.lj_pool.specs.Seen.{IsStray, SameOwed};
@@ -11,12 +11,9 @@ ghost use Rattle.lj_pool.specs.Posting.{AreNext, after_posts};
 ghost use Rattle.lj_pool.specs.Running.{AnswersNext, AnswersPending, FetchesStray, IsHalted, IsSameUser, LeavesUnanswered};
 
 use crate::pool::{MAX_AHEAD, MAX_POSTS, MAX_STRAYS, NotPosted, Pool};
-use lj_session::{Begin, Owner, Refusal, Reply};
-use lj_tile::Task;
+use crate::task_list::TaskList;
+use lj_session::{Begin, Owner, Refusal, Reply, TileCursor};
 use lj_wire::Item;
-
-/// Slots for the tasks that are posted together.
-pub(crate) type TaskSlots = [Task; MAX_POSTS];
 
 /// Why the work was aborted.
 #[derive(Clone, Copy, PartialEq, Eq, Debug)]
@@ -30,7 +27,6 @@ pub(crate) fn answer<P: Pool>(
     owner: &mut Owner,
     pool: &mut P,
     item: &mut Item,
-    slots: &mut TaskSlots,
 ) -> Result<Reply, Halt>
     requires idle { owner.old.waiting ≡ None }
     requires gathers { Gathers owner.old (P.seen pool.old).owed }
@@ -45,14 +41,14 @@ pub(crate) fn answer<P: Pool>(
     match item {
         Item::Command(command) => match owner.begin_from(command) {
             Begin::Answered(reply) => Ok(reply),
-            Begin::Running => run(owner, pool, slots),
+            Begin::Running => run(owner, pool),
         },
         Item::Bad(fault) | Item::Last(fault) => Ok(Reply::Refused(Refusal::from(*fault))),
     }
 }
 
 /// Runs the steps of all sessions until the waiting command is answered.
-fn run<P: Pool>(owner: &mut Owner, pool: &mut P, slots: &mut TaskSlots) -> Result<Reply, Halt>
+fn run<P: Pool>(owner: &mut Owner, pool: &mut P) -> Result<Reply, Halt>
     requires waits { IsSome owner.old.waiting }
     requires gathers { Gathers owner.old (P.seen pool.old).owed }
     ensures answered { IfOk result (λ reply.
@@ -69,11 +65,11 @@ fn run<P: Pool>(owner: &mut Owner, pool: &mut P, slots: &mut TaskSlots) -> Resul
                 return Ok(reply);
             }
             poll_next(owner, pool);
-            post_next(owner, pool, &mut slots[0], false)?;
+            post_next(owner, pool, false)?;
             strays = 0;
-        } else if !post_or_wait(owner, pool, &mut slots[0])? {
+        } else if !post_or_wait(owner, pool)? {
             strays = strays_after(strays, fetch_next(owner, pool)?)?;
-            if poll_and_post(owner, pool, slots) {
+            if poll_and_post(owner, pool) {
                 strays = 0;
             }
         }
@@ -87,7 +83,6 @@ pub(crate) fn work_ahead<P: Pool>(
     owner: &mut Owner,
     pool: &mut P,
     has_pending: bool,
-    slots: &mut TaskSlots,
 ) -> Result<bool, Halt>
     requires idle { owner.old.waiting ≡ None }
     requires gathers { Gathers owner.old (P.seen pool.old).owed }
@@ -100,8 +95,8 @@ pub(crate) fn work_ahead<P: Pool>(
         return Ok(false);
     }
     poll_all(owner, pool);
-    turn_whole(owner, pool, slots);
-    post_all(owner, pool, slots);
+    turn_whole(owner, pool);
+    post_all(owner, pool);
     fetch_down(owner, pool)?;
     poll_all(owner, pool);
     Ok(owner.is_busy())
@@ -126,7 +121,7 @@ fn poll_all<P: Pool>(owner: &mut Owner, pool: &mut P) -> bool
 
 /// Turns sessions until none is whole. Between two turns it takes in a result and posts a task, so that a session whose steps
 /// have no tiles does not hold the others up.
-fn turn_whole<P: Pool>(owner: &mut Owner, pool: &mut P, slots: &mut TaskSlots)
+fn turn_whole<P: Pool>(owner: &mut Owner, pool: &mut P)
     requires idle { owner.old.waiting ≡ None }
     requires gathers { Gathers owner.old (P.seen pool.old).owed }
     ensures goes_on { GoesOn owner.old (P.seen pool.old) owner.new (P.seen pool.new) }
@@ -135,51 +130,57 @@ fn turn_whole<P: Pool>(owner: &mut Owner, pool: &mut P, slots: &mut TaskSlots)
     while let Some(name) = owner.ready_session() {
         let _none = owner.turn_session(&name);
         poll_next(owner, pool);
-        let _posted = post_next(owner, pool, &mut slots[0], false);
+        let _posted = post_next(owner, pool, false);
     }
 }
 
 /// Posts tasks while there is room, several at once if the pool has room for several.
-fn post_all<P: Pool>(owner: &mut Owner, pool: &mut P, slots: &mut TaskSlots)
+fn post_all<P: Pool>(owner: &mut Owner, pool: &mut P)
     requires gathers { Gathers owner.old (P.seen pool.old).owed }
     ensures goes_on { GoesOn owner.old (P.seen pool.old) owner.new (P.seen pool.new) }
     ensures own { let user = owner.old.number in P.for_others pool.new user ≡ P.for_others pool.old user }
 {
-    while post_some(owner, pool, slots) {}
+    while post_some(owner, pool) {}
 }
 
 /// Posts the next tasks together, as many as there is room for. Returns false if there was none, or if not all were posted.
-fn post_some<P: Pool>(owner: &mut Owner, pool: &mut P, slots: &mut TaskSlots) -> bool
+fn post_some<P: Pool>(owner: &mut Owner, pool: &mut P) -> bool
     requires gathers { Gathers owner.old (P.seen pool.old).owed }
     ensures goes_on { GoesOn owner.old (P.seen pool.old) owner.new (P.seen pool.new) }
     ensures fewer { result ≡ true → posts_coming owner.new < posts_coming owner.old }
     ensures own { let user = owner.old.number in P.for_others pool.new user ≡ P.for_others pool.old user }
 {
-    let written = write_next(owner, pool.room().min(MAX_POSTS), slots);
-    if written == 0 {
+    let Some(cursor) = owner.first_tile() else {
+        return false;
+    };
+    let tasks = next_tasks(owner, &cursor, pool.room().min(MAX_POSTS));
+    let count = tasks.len();
+    if count == 0 {
         return false;
     }
-    let posted = pool.post_some(&slots[..written]);
+    let posted = pool.post_some(&tasks);
+    drop(tasks);
     note_posted(owner, posted);
-    posted == written
+    posted == count
 }
 
-/// Writes at most `most` of the next tasks to the slots, and posts none. Returns how many it wrote.
-fn write_next(owner: &Owner, most: usize, slots: &mut TaskSlots) -> usize
-    requires { most ≤ MAX_POSTS }
-    ensures most { result ≤ most }
-    ensures next { AreNext result slots.new owner.now }
-    ensures slots { length slots.new ≡ MAX_POSTS }
+/// Returns at most `most` of the next tasks, from the cursor at the first of them on, and posts none.
+fn next_tasks<'a>(owner: &'a Owner, cursor: &'a TileCursor, most: usize) -> TaskList<'a>
+    requires first { IsPostedTo cursor.now cursor.now.from owner.now owner.now }
+    requires few { most ≤ MAX_POSTS }
+    ensures most { length result ≤ most }
+    ensures next { AreNext (length result) result owner.now }
 {
-    let Some(mut cursor) = owner.first_tile() else {
-        return 0;
-    };
-    for here in 0..most {
-        if !owner.task_from_into(&mut cursor, &mut slots[here]) {
-            return here;
-        }
+    let mut tasks = TaskList::new();
+    let mut from = cursor.from();
+    for _here in 0..most {
+        let Some((task, next)) = owner.task_from(cursor, from) else {
+            return tasks;
+        };
+        tasks.push(task);
+        from = next;
     }
-    most
+    tasks
 }
 
 /// Records the next `posted` tasks as posted.
@@ -210,7 +211,7 @@ fn fetch_down<P: Pool>(owner: &mut Owner, pool: &mut P) -> Result<(), Halt>
 
 /// Posts the next task, and waits for room only if nothing is owed. Returns false if there is no task or no room; then something
 /// is owed.
-fn post_or_wait<P: Pool>(owner: &mut Owner, pool: &mut P, slot: &mut Task) -> Result<bool, Halt>
+fn post_or_wait<P: Pool>(owner: &mut Owner, pool: &mut P) -> Result<bool, Halt>
     requires waits { IsSome owner.old.waiting }
     requires none_ready { ready_session owner.old ≡ None }
     requires gathers { Gathers owner.old (P.seen pool.old).owed }
@@ -222,16 +223,11 @@ fn post_or_wait<P: Pool>(owner: &mut Owner, pool: &mut P, slot: &mut Task) -> Re
     ensures own { let user = owner.old.number in P.for_others pool.new user ≡ P.for_others pool.old user }
 {
     let wait = pool.owed() == 0;
-    post_next(owner, pool, slot, wait)
+    post_next(owner, pool, wait)
 }
 
-/// Writes the next task to `slot` and posts it. Returns false if there is none, or if the pool has no room now.
-fn post_next<P: Pool>(
-    owner: &mut Owner,
-    pool: &mut P,
-    slot: &mut Task,
-    wait: bool,
-) -> Result<bool, Halt>
+/// Posts the next task. Returns false if there is none, or if the pool has no room now.
+fn post_next<P: Pool>(owner: &mut Owner, pool: &mut P, wait: bool) -> Result<bool, Halt>
     requires gathers { Gathers owner.old (P.seen pool.old).owed }
     requires alone { wait ≡ true → (P.seen pool.old).owed ≡ [] }
     ensures goes_on { GoesOn owner.old (P.seen pool.old) owner.new (P.seen pool.new) }
@@ -246,10 +242,13 @@ fn post_next<P: Pool>(
     if pool.is_full() {
         return Ok(false);
     }
-    if !owner.next_task_into(slot) {
+    let Some(cursor) = owner.first_tile() else {
         return Ok(false);
-    }
-    match pool.post_from(slot, wait) {
+    };
+    let Some(task) = owner.first_task(&cursor) else {
+        return Ok(false);
+    };
+    match pool.post_from(&task, wait) {
         Ok(()) => {
             owner.posted();
             Ok(true)
@@ -261,14 +260,14 @@ fn post_next<P: Pool>(
 
 /// Takes in the results that are there now, and then posts tasks while there is room, so that the workers get many at once.
 /// Returns whether one of the results was of an awaited tile.
-fn poll_and_post<P: Pool>(owner: &mut Owner, pool: &mut P, slots: &mut TaskSlots) -> bool
+fn poll_and_post<P: Pool>(owner: &mut Owner, pool: &mut P) -> bool
     requires gathers { Gathers owner.old (P.seen pool.old).owed }
     ensures goes_on { GoesOn owner.old (P.seen pool.old) owner.new (P.seen pool.new) }
     ensures fewer { result ≡ true → tiles_coming owner.new < tiles_coming owner.old }
     ensures own { let user = owner.old.number in P.for_others pool.new user ≡ P.for_others pool.old user }
 {
     let taken = poll_all(owner, pool);
-    post_all(owner, pool, slots);
+    post_all(owner, pool);
     taken
 }
 

@@ -10,10 +10,8 @@ use crate::engine::served::{Served, ending_of};
 use crate::engine::writing::put_reply;
 use crate::pool::Pool;
 use lj_session::{Command, Owner, UserState};
-use lj_tile::Task;
 use lj_wire::{Fault, Item, Line, LineReader, ReadFault, Sink, Source, WriteFault};
 use std::alloc::Global;
-use std::array;
 
 /// Serves a stream of commands from a user's state on, over a pool that owes nothing, and writes the replies to what it reads.
 /// Returns the state, with the pending steps of its sessions, unless the pool was given up; how serving ended; and the reader.
@@ -65,11 +63,10 @@ pub fn serve_lines<R: Source, W: Sink, P: Pool>(
 {
     let mut owner = Owner::new(state, user);
     let mut line = Line::new();
-    let mut slots = array::from_fn(|_| Task::blank());
     let mut item = Item::Bad(Fault::Syntax);
     let mut has_pending = true;
     'items: loop {
-        has_pending = match work_ahead(&mut owner, pool, has_pending, &mut slots) {
+        has_pending = match work_ahead(&mut owner, pool, has_pending) {
             Ok(has_pending) => has_pending,
             Err(halt) => return given_up(owner, halt),
         };
@@ -80,7 +77,7 @@ pub fn serve_lines<R: Source, W: Sink, P: Pool>(
         }
         let ending = ending_of(&item);
         has_pending = has_pending || matches!(&item, Item::Command(Command::Start { .. }));
-        let reply = match answer(&mut owner, pool, &mut item, &mut slots) {
+        let reply = match answer(&mut owner, pool, &mut item) {
             Ok(reply) => reply,
             Err(halt) => return given_up(owner, halt),
         };

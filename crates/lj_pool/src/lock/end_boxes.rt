@@ -7,9 +7,10 @@ ghost use Rattle.lj_pool.specs.EndBoxes.{HandsOut, IsFirstOf, box_count, no_boxe
 ghost use Rattle.lj_pool.specs.Posting.{AreCopies};
 
 use crate::pool::MAX_POSTS;
+use crate::task_list::TaskList;
 use arrayvec::ArrayVec;
 use lj_book::{DoneBox, TaskBox};
-use lj_tile::{Done, DoneRef, Task};
+use lj_tile::{Done, DoneRef, TaskRef};
 use std::marker::Model;
 use std::mem;
 
@@ -125,7 +126,7 @@ impl EndBoxes {
     }
 
     /// Takes a spare box, if there is one, and copies a task into it.
-    pub(crate) fn copy_of(&mut self, task: &Task) -> Option<TaskBox>
+    pub(crate) fn copy_of(&mut self, task: &TaskRef<'_>) -> Option<TaskBox>
         ensures copy { IfSome result (λ boxed. boxed ≡ task.now) }
         ensures some { OnSome result (self.old ≡ record self.new { spare = self.new.spare + 1 }) }
         ensures place { OnSome result (length self.new.hand + self.new.spare < MAX_SPARE) }
@@ -133,13 +134,13 @@ impl EndBoxes {
         ensures unchanged { IfNone result (self.new ≡ self.old) }
     {
         let mut boxed = self.pop_spare()?;
-        boxed.copy_from(task);
+        boxed.remake(task);
         Some(boxed)
     }
 
     /// Takes spare boxes, as far as there are some, and copies tasks into them.
     #[tactic(auto, using(crate::proofs::Posts::are_copies))]
-    pub(crate) fn copies_of(&mut self, tasks: &[Task]) -> TaskCopies
+    pub(crate) fn copies_of(&mut self, tasks: &TaskList<'_>) -> TaskCopies
         requires few { length tasks.now ≤ MAX_POSTS }
         ensures copies { AreCopies result.items tasks.now }
         ensures boxes { (k : ℕ) → k < length result.items → is_some (slice_index_or result.items k None) ≡ true }
@@ -150,7 +151,7 @@ impl EndBoxes {
         self.are_placed();
         let mut copies = ArrayVec::new();
         for here in 0..tasks.len() {
-            let Some(copy) = self.copy_of(&tasks[here]) else {
+            let Some(copy) = self.copy_of(tasks.at(here)) else {
                 return copies;
             };
             copies.push(Some(copy));

@@ -10,7 +10,8 @@ use crate::account::Account;
 use crate::lock::end_boxes::EndBoxes;
 use crate::lock::lock_pool::LockPool;
 use crate::pool::{MAX_OWED, MAX_POSTS, NotPosted, Pool};
-use lj_tile::{DoneRef, Task};
+use crate::task_list::TaskList;
+use lj_tile::{DoneRef, TaskRef};
 use std::marker::Model;
 use std::sync::Wait;
 use std::sync::ledger::Ledger;
@@ -83,7 +84,7 @@ impl<'p, L: Ledger, R: Wait> Pool for LockEnd<'p, L, R> {
 
     ghost most = { MAX_OWED };
 
-    fn post_from(&mut self, task: &Task, wait: bool) -> Result<(), NotPosted>
+    fn post_from(&mut self, task: &TaskRef<'_>, wait: bool) -> Result<(), NotPosted>
         requires room { length self.old.seen.owed < MAX_OWED }
         ensures last { self.new.last ≡ self.old.last }
         ensures hand { self.new.hand ≡ self.old.hand }
@@ -104,7 +105,7 @@ impl<'p, L: Ledger, R: Wait> Pool for LockEnd<'p, L, R> {
         posted
     }
 
-    fn post_some(&mut self, tasks: &[Task]) -> usize
+    fn post_some(&mut self, tasks: &TaskList<'_>) -> usize
         requires few { length tasks.now ≤ MAX_POSTS }
         requires room { length self.old.seen.owed + length tasks.now ≤ MAX_OWED }
         ensures last { self.new.last ≡ self.old.last }

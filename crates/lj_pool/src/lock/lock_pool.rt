@@ -13,9 +13,10 @@ use crate::lock::lock_end::LockEnd;
 use crate::lock::pool_state::PoolState;
 use crate::pool::NotPosted;
 use crate::share::{Share, shares_of};
+use crate::task_list::TaskList;
 use crate::waking::{LOOKS, TASKS_AT_ONCE, WAIT_QUEUES, wait_queue_of, wake};
 use lj_book::{BoxBook, Counts, LentDone, LentTask, MAX_ENTRIES, TaskBox};
-use lj_tile::{Done, Task};
+use lj_tile::{Done, TaskRef};
 use std::alloc::{AllocError, Global};
 use std::sync::atomic::{AtomicBool, Ordering};
 use std::sync::ledger::{self, Blank, Ledger};
@@ -130,7 +131,7 @@ impl<L: Ledger> LockPool<L> {
         &self,
         rt: &R,
         boxed: &mut Option<TaskBox>,
-        task: &Task,
+        task: &TaskRef<'_>,
         wait: bool,
     ) -> Result<(), NotPosted>
         requires { ForSome boxed.old (λ work. work ≡ task.now) }
@@ -160,7 +161,7 @@ impl<L: Ledger> LockPool<L> {
         &self,
         rt: &R,
         copies: &mut TaskCopies,
-        tasks: &[Task],
+        tasks: &TaskList<'_>,
     ) -> usize
         requires { AreCopies copies.old.items tasks.now }
         ensures most { result ≤ length tasks.now }
@@ -285,6 +286,7 @@ impl<L: Ledger> LockPool<L> {
             self.not_full.notify_all();
         }
         if taken.is_none() {
+            thread::yield_now();
             return self.take(rt);
         }
         taken

@@ -5,6 +5,7 @@ ghost use Rattle.std.specs.Option.{ForSome};
 ghost use Rattle.lj_book.specs.Book.{entry_count, user_of, HasRoom, IsOpenAt};
 ghost use Rattle.lj_book.specs.Boxes.{boxes as boxes_of, GivesBox, HandsBackBox, IsOut, TakesBox, WithdrawsBox};
 ghost use Rattle.lj_book.specs.Picks.{IsPick};
+ghost use Rattle.lj_tile.specs.Task.{Task};
 ghost use Rattle.lj_pool.specs.declared.pool.NotPosted.TheVariants.{Closed};
 ghost use Rattle.lj_pool.specs.EndBoxes.{SameResults, box_count};
 ghost use Rattle.lj_pool.specs.PoolStates.{FetchesEach, FetchesInHand, HasBox, HasNoResult, HasPosted, NoneIsLost, PostsEach, PostsIn, PutsBy, open_pool};
@@ -14,9 +15,10 @@ ghost use Rattle.lj_pool.specs.Waking.{due_at, due_of, with_given, with_waiting,
 use crate::lock::end_boxes::{EndBoxes, MAX_IN_HAND, TaskCopies};
 use crate::pool::NotPosted;
 use crate::share::Share;
+use crate::task_list::TaskList;
 use crate::waking::{IdleWorkers, UnsignalledPosts, WaitQueues};
 use lj_book::{BoxBook, Counts, Key, LentDone, LentTask, MAX_ENTRIES, TaskBox};
-use lj_tile::Task;
+use lj_tile::TaskRef;
 use std::marker::Model;
 use std::sync::ledger::{self, Ledger};
 
@@ -70,7 +72,11 @@ impl<L: Ledger> PoolState<L> {
 
     /// Posts a task in the box at hand if there is one, else a copy of it in a spare box. If it is not posted, the box at hand is
     /// handed back.
-    pub(crate) fn post(&mut self, boxed: &mut Option<TaskBox>, task: &Task) -> Result<(), NotPosted>
+    pub(crate) fn post(
+        &mut self,
+        boxed: &mut Option<TaskBox>,
+        task: &TaskRef<'_>,
+    ) -> Result<(), NotPosted>
         requires { ForSome boxed.old (λ work. work ≡ task.now) }
         ensures room { IsOk result
             ↔ ((self.old.closed ≡ false) × HasRoom self.old.book.inner × HasBox self.old.book boxed.old) }
@@ -99,7 +105,7 @@ impl<L: Ledger> PoolState<L> {
     /// Posts tasks in their order: in the boxes of their copies as far as there are some, else copies of them in spare boxes.
     /// Returns how many of them were posted, the first ones. The boxes of the others are handed back.
     #[tactic(auto, using(crate::proofs::Posts::posts_next))]
-    pub(crate) fn post_some(&mut self, copies: &mut TaskCopies, tasks: &[Task]) -> usize
+    pub(crate) fn post_some(&mut self, copies: &mut TaskCopies, tasks: &TaskList<'_>) -> usize
         requires { AreCopies copies.old.items tasks.now }
         ensures most { result ≤ length tasks.now }
         ensures posts { PostsEach (take result tasks.now) self.old.book self.new.book }
@@ -108,7 +114,7 @@ impl<L: Ledger> PoolState<L> {
         ensures stays { self.new ≡ record self.old { book = self.new.book; unsignalled = self.new.unsignalled } }
     {
         for here in 0..tasks.len() {
-            if self.post_at(here, copies, &tasks[here]).is_err() {
+            if self.post_at(here, copies, tasks.at(here)).is_err() {
                 return here;
             }
         }
@@ -121,7 +127,7 @@ impl<L: Ledger> PoolState<L> {
         &mut self,
         here: usize,
         copies: &mut TaskCopies,
-        task: &Task,
+        task: &TaskRef<'_>,
     ) -> Result<(), NotPosted>
         requires { ForSome (slice_index_or copies.old.items here None) (λ work. work ≡ task.now) }
         ensures posts { OnOk result (HasPosted task.now self.old.book self.new.book) }
@@ -142,7 +148,7 @@ impl<L: Ledger> PoolState<L> {
     }
 
     /// Posts a copy of a task in a spare box.
-    fn post_copy(&mut self, task: &Task) -> Result<(), NotPosted>
+    fn post_copy(&mut self, task: &TaskRef<'_>) -> Result<(), NotPosted>
         ensures room { IsOk result ↔ (HasRoom self.old.book.inner × (0 < self.old.book.spare)) }
         ensures posts { OnOk result (PostsIn None task.now self.old.book self.new.book) }
         ensures unsignalled { OnOk result (1 ≤ self.new.unsignalled) }
@@ -154,7 +160,7 @@ impl<L: Ledger> PoolState<L> {
         let Some(mut spare) = self.book.lend() else {
             return Err(NotPosted::Full);
         };
-        spare.copy_from(task);
+        spare.remake(task);
         if let Err(refused) = self.book.post_box(spare) {
             self.book.put_by(refused);
             return Err(NotPosted::Full);

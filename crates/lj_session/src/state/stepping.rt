@@ -14,7 +14,7 @@ ghost use Rattle.lj_session.specs.UserState as states;
 use crate::state::UserState;
 use lj_base::{Label, Name};
 use lj_step::NotAwaited;
-use lj_tile::{DoneRef, Kind, Task};
+use lj_tile::{DoneRef, Kind, TaskRef};
 
 impl UserState {
     /// Opens a step of a kind in a session. No tile of it is posted or in.
@@ -65,15 +65,18 @@ impl UserState {
         None
     }
 
-    /// Writes the task of the next tile, the k-th of the i-th session, to `out`.
-    pub(crate) fn task_into(&self, i: usize, k: usize, label: &Label, out: &mut Task) -> bool
+    /// Returns the task of the next tile, the k-th of the i-th session, by reference.
+    pub(crate) fn task_ref<'a>(
+        &'a self,
+        i: usize,
+        k: usize,
+        label: &'a Label,
+    ) -> Option<TaskRef<'a>>
         requires next { IsNextTile self.now i k }
         requires label { slice_get (names self.now) i ≡ Some label.now.session }
-        ensures some { result ≡ true → states.next_task self.now label.now ≡ Some out.new }
-        ensures none { result ≡ false → states.next_task self.now label.now ≡ None }
-        ensures unchanged { result ≡ false → out.new ≡ out.old }
+        ensures { result ≡ states.next_task self.now label.now }
     {
-        self.at(i).task_into(k, label, out)
+        self.at(i).task_ref(k, label)
     }
 
     /// Returns how many tiles of the i-th session were posted, or skipped because they were in.
@@ -84,23 +87,21 @@ impl UserState {
         self.at(i).passed()
     }
 
-    /// Writes the task of the first awaited tile of the i-th session, from a position of its cover on, to `out`.
-    /// Returns the position after it.
-    pub(crate) fn task_from_into(
-        &self,
+    /// Returns the task of the first awaited tile of the i-th session, from a position of its cover on, by reference, and
+    /// the position after it.
+    pub(crate) fn task_from<'a>(
+        &'a self,
         i: usize,
         from: usize,
-        label: &Label,
-        out: &mut Task,
-    ) -> Option<usize>
+        label: &'a Label,
+    ) -> Option<(TaskRef<'a>, usize)>
         requires { i < length self.now.sessions }
-        ensures task { IfSome result (λ _. (held : LiveSession) → live_session_at self.now i ≡ Some held
-            → states.next_of label.now (Some (record held { passed = from })) ≡ Some out.new) }
-        ensures passes { IfSome result (λ next. (held : LiveSession) → live_session_at self.now i ≡ Some held
-            → with_posted (record held { passed = from }) ≡ record held { passed = next }) }
-        ensures unchanged { IfNone result (out.new ≡ out.old) }
+        ensures task { IfSome result (λ found. (held : LiveSession) → live_session_at self.now i ≡ Some held
+            → states.next_of label.now (Some (record held { passed = from })) ≡ Some found.0) }
+        ensures passes { IfSome result (λ found. (held : LiveSession) → live_session_at self.now i ≡ Some held
+            → with_posted (record held { passed = from }) ≡ record held { passed = found.1 }) }
     {
-        self.at(i).task_from_into(from, label, out)
+        self.at(i).task_from(from, label)
     }
 
     /// Notes the next tile, the k-th of the i-th session, as posted.

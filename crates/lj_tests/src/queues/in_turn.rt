@@ -5,7 +5,7 @@ use super::scenario::{Scenario, Seen};
 use super::test_pool::{Host, TestPool, beside_worker};
 use super::{check_both, post_one};
 use crate::sample_task::task;
-use lj_pool::{Gate, Pool};
+use lj_pool::{Gate, Pool, TaskList};
 use lj_tile::TaskName;
 use std::process::Abort;
 use std::rt::Clock;
@@ -70,7 +70,11 @@ fn post_fourth<P: Pool, R: Clock + Abort>(rt: &R, held: &Barrier<'_, R>, end: &m
 fn post_three<P: Pool, R: Abort>(rt: &R, end: &mut P) {
     post_one(rt, end, task(rt, USER, 1));
     if end.owed() == 1 {
-        let posted = end.post_some(&[task(rt, USER, 2), task(rt, USER, 3)]);
+        let (second, third) = (task(rt, USER, 2), task(rt, USER, 3));
+        let mut both = TaskList::new();
+        both.push(second.by_ref());
+        both.push(third.by_ref());
+        let posted = end.post_some(&both);
         assert!(rt; posted == 2);
     }
 }

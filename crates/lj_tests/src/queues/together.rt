@@ -6,7 +6,7 @@ use super::scenario::{Scenario, Seen};
 use super::test_pool::{Host, TestPool};
 use super::{LAST, check_both, leave_all};
 use crate::sample_task::task;
-use lj_pool::{MAX_OWED, MAX_POSTS, Pool};
+use lj_pool::{MAX_OWED, MAX_POSTS, Pool, TaskList};
 use std::alloc::AllocError;
 use std::process::Abort;
 use std::test::Fail;
@@ -24,7 +24,12 @@ fn post_four<P: Pool, R: Abort>(rt: &R, end: &mut P) -> PostsOutcome {
     let tasks = [0, 1, 2, 3].map(|step| task(rt, LAST, step));
     let has_room = end.owed() <= MAX_OWED - MAX_POSTS;
     assert!(rt; has_room);
-    let posted = end.post_some(&tasks);
+    let mut list = TaskList::new();
+    list.push(tasks[0].by_ref());
+    list.push(tasks[1].by_ref());
+    list.push(tasks[2].by_ref());
+    list.push(tasks[3].by_ref());
+    let posted = end.post_some(&list);
     PostsOutcome {
         posted,
         owed: end.owed(),

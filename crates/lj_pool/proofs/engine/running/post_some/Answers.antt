@@ -1,20 +1,19 @@
-use Rattle.std.proofs.Common.{sym, subst, arith}
+use Rattle.std.proofs.Common.{length, nat_eq, true, ◌≡◌, sym, subst, ◌∙◌}
 use Rattle.lj_session.specs.Owner.{Owner}
 use Rattle.lj_pool.proofs.Posts.{PostsFront, posts_front, users_front}
 use Rattle.lj_pool.proofs.engine.running.post_some.Given.{Over}
 use Rattle.lj_pool.proofs.engine.running.post_some.Goals.{After-note_posted}
 use Rattle.lj_pool.proofs.engine.running.post_some.Goals as goal
 
--- the tasks posted of those written to the slots
+-- the tasks posted of the next ones
 posts : (g : Over) (c : After-note_posted g)
-    → PostsFront c.args.owner.now (g.P.Pool.seen c.args.pool.now) c.write_next-written.result
+    → PostsFront c.args.owner.now (g.P.Pool.seen c.args.pool.now) (length c.next_tasks-tasks.result)
     c.post_some-posted.result c.note_posted.new.owner (g.P.Pool.seen c.post_some-posted.new.self)
 posts g c =
-    subst (λ (o : Owner). PostsFront c.args.owner.now (g.P.Pool.seen c.args.pool.now) c.write_next-written.result
+    subst (λ (o : Owner). PostsFront c.args.owner.now (g.P.Pool.seen c.args.pool.now) (length c.next_tasks-tasks.result)
     c.post_some-posted.result o (g.P.Pool.seen c.post_some-posted.new.self)) (sym c.note_posted.ensures)
-    (posts_front c.args.owner.now (g.P.Pool.seen c.args.pool.now) c.requires.gathers c.write_next-written.new.slots
-    c.write_next-written.result (omega arith) c.write_next-written.ensures.next
-    c.post_some-posted.result c.post_some-posted.ensures.most
+    (posts_front c.args.owner.now (g.P.Pool.seen c.args.pool.now) c.requires.gathers c.next_tasks-tasks.result
+    c.next_tasks-tasks.ensures.next c.post_some-posted.result c.post_some-posted.ensures.most
     (g.P.Pool.seen c.post_some-posted.new.self) c.post_some-posted.ensures.posted)
 
 pub returns-clause-goes_on : goal.returns-clause-goes_on
@@ -22,10 +21,13 @@ returns-clause-goes_on g c = (posts g (goal.at.returns-clause-goes_on g c).After
 
 pub returns-clause-fewer : goal.returns-clause-fewer
 returns-clause-fewer g c = λ all.
-    (posts g (goal.at.returns-clause-fewer g c).After-note_posted).fewer all c.if-written-eq0.false
+    let count = c.len-count.ensures.value in
+    (posts g (goal.at.returns-clause-fewer g c).After-note_posted).fewer
+    (subst (λ n. nat_eq c.post_some-posted.result n ≡ true) count all)
+    (λ none. c.if-count-eq0.false (count ∙ none))
 
 pub returns-clause-own : goal.returns-clause-own
 returns-clause-own g c =
     c.post_some-posted.ensures.own c.args.owner.now.number
-    (users_front c.args.owner.now (g.P.Pool.seen c.args.pool.now) c.requires.gathers c.write_next-written.new.slots
-    c.write_next-written.result (omega arith) c.write_next-written.ensures.next)
+    (users_front c.args.owner.now (g.P.Pool.seen c.args.pool.now) c.requires.gathers c.next_tasks-tasks.result
+    c.next_tasks-tasks.ensures.next)

@@ -20,5 +20,5 @@ kept g c =
 pub returns-clause-boxes_kept : goal.returns-clause-boxes_kept
 returns-clause-boxes_kept g c = kept g (goal.at.returns-clause-boxes_kept g c).After-take_back
 
-pub returns-then-posted-tasks-clause-boxes_kept : goal.returns-then-posted-tasks-clause-boxes_kept
-returns-then-posted-tasks-clause-boxes_kept g c = kept g (goal.at.returns-then-posted-tasks-clause-boxes_kept g c).After-take_back
+pub returns-then-posted-len-clause-boxes_kept : goal.returns-then-posted-len-clause-boxes_kept
+returns-then-posted-len-clause-boxes_kept g c = kept g (goal.at.returns-then-posted-len-clause-boxes_kept g c).After-take_back
