@@ -80,7 +80,7 @@ impl TaskName {
     ///
     /// ```rust
     /// // `task`, `mix` and `places` as in the example of `Task`
-    /// assert!(task.is_of(&task.name().by_ref(), &mix, (&places, 0), (&places, 0)));
+    /// assert!(task.is_of(&TaskRef::new(task.name().by_ref(), &mix, BlockRef::new(&places, 0), BlockRef::new(&places, 0))));
     /// ```
     #[inline]
     pub fn by_ref(&self) -> TaskNameRef<'_>
@@ -149,7 +149,7 @@ impl<'a> TaskNameRef<'a> {
     /// ```rust
     /// // `task`, `mix` and `places` as in the example of `Task`, `label` as in that of `TaskName`
     /// let name = TaskNameRef::new(&label, 0, Kind::Force, 0, 0);
-    /// assert!(task.is_of(&name, &mix, (&places, 0), (&places, 0)));
+    /// assert!(task.is_of(&TaskRef::new(name, &mix, BlockRef::new(&places, 0), BlockRef::new(&places, 0))));
     /// ```
     #[inline]
     pub fn new(label: &'a Label, step: i64, kind: Kind, bi: u8, bj: u8) -> TaskNameRef<'a>
