@@ -63,19 +63,6 @@ impl TaskName {
         }
     }
 
-    /// Makes this name equal to the other.
-    ///
-    /// ```rust
-    /// // `name` as in the example of `TaskName`; `later` is equal but for its step, 7
-    /// name.copy_from(&later);
-    /// assert_eq!(name.step, 7);
-    /// ```
-    pub fn copy_from(&mut self, other: &TaskName)
-        ensures { self.new ≡ other.now }
-    {
-        self.remake(&other.by_ref());
-    }
-
     /// Returns the name by reference.
     ///
     /// ```rust

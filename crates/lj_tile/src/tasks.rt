@@ -214,10 +214,7 @@ impl Task {
     pub fn is(&self, other: &Task) -> bool
         ensures { IsTrue result ↔ (self.now ≡ other.now) }
     {
-        self.name.is(&other.name)
-            && self.mix.is(&other.mix)
-            && self.first.is(&other.first)
-            && self.second.is(&other.second)
+        self.is_of(&other.by_ref())
     }
 
     /// Returns whether this is the task that is given by reference. It copies no places.
