@@ -161,11 +161,7 @@ impl Owner {
         if cursor.session >= self.state.len() {
             return None;
         }
-        let found = self.state.task_from(cursor.session, from, &cursor.label);
-        let Some((task, next)) = found else {
-            return None;
-        };
-        Some((task, next))
+        self.state.task_from(cursor.session, from, &cursor.label)
     }
 
     /// Notes the tile of the task that `next_task` returns as posted.

@@ -1,40 +1,49 @@
 use Rattle.std.proofs.Common.{◌≡◌, ◌∙◌, ℕ, Some, ap, sym}
+use Rattle.std.specs.Prelude.{IfSome, Option, None}
 use Rattle.lj_tile.specs.Task.{Task}
 use Rattle.lj_session.specs.declared.tile_cursor.TileCursor.{TileCursor}
 use Rattle.lj_session.specs.Cursors.{IsPostedTo}
-use Rattle.lj_session.specs.Owner.{Owner, label_of}
-use Rattle.lj_session.specs.UserState.{LiveSession, UserState, live_session_at, next_of}
+use Rattle.lj_session.specs.Owner.{Owner, label_of, next_task_of, with_task_posted}
+use Rattle.lj_session.specs.UserState.{LiveSession, UserState, live_session_at, next_of, with_posted}
 use Rattle.lj_session.proofs.Cursors.{cursor-behind, task-at}
-use Rattle.lj_session.proofs.owner.Owner.task_from.Goals.{In-Some}
 use Rattle.lj_session.proofs.owner.Owner.task_from.Goals as goal
 
-module _ (state : UserState) (owner : Owner) (view : state ≡ owner.state) (cursor : TileCursor) (from : ℕ) (later : Owner)
-    (p : IsPostedTo cursor from owner later) where
-  -- what is found in the session that stands there is found in the cursor's
-  at_cursor : live_session_at state cursor.session ≡ Some p.held
-  at_cursor = ap (λ (o : UserState). live_session_at o cursor.session) view ∙ p.at
+module _ (state : UserState) (owner : Owner) (view : state ≡ owner.state) (cursor : TileCursor) (from : ℕ) where
+  -- what is found in the session that stands there
+  abbrev HasTask : Task → Type 0
+  HasTask work = (held : LiveSession) → live_session_at state cursor.session ≡ Some held
+      → next_of cursor.label (Some (record held { passed = from })) ≡ Some work
 
-  of_label : (work : Task) → ((held : LiveSession) → live_session_at state cursor.session ≡ Some held
-      → next_of cursor.label (Some (record held { passed = from })) ≡ Some work)
+  abbrev Passes : ℕ → Type 0
+  Passes next = (held : LiveSession) → live_session_at state cursor.session ≡ Some held
+      → with_posted (record held { passed = from }) ≡ record held { passed = next }
+
+  -- is found in the cursor's
+  next_is : (work : Task) → HasTask work → (later : Owner) (p : IsPostedTo cursor from owner later)
       → next_of (label_of owner p.name) (Some (record p.held { passed = from })) ≡ Some work
-  of_label work found = ap (λ l. next_of l (Some (record p.held { passed = from }))) (sym p.label) ∙ found p.held at_cursor
+  next_is work found later p =
+      ap (λ l. next_of l (Some (record p.held { passed = from }))) (sym p.label)
+      ∙ found p.held (ap (λ (o : UserState). live_session_at o cursor.session) view ∙ p.at)
 
--- the task that is found is the next one from the position on
-next_is : (c : In-Some) (later : Owner) (p : IsPostedTo c.args.cursor.now c.args.from c.args.self.now later)
-    → next_of (label_of c.args.self.now p.name) (Some (record p.held { passed = c.args.from })) ≡ Some c.in-Some.task
-next_is c later p =
-    of_label c.self.inside.state c.args.self.now (ap (λ (o : Owner). o.state) c.self.view_is) c.args.cursor.now c.args.from later p
-    c.in-Some.task c.in-Some.ensures.task
+  task_is : (found : Option (Task × ℕ)) → IfSome found (λ f. HasTask f.0)
+      → IfSome found (λ f. (later : Owner) → IsPostedTo cursor from owner later → next_task_of later ≡ Some f.0)
+  task_is (Some f) task = λ later p. task-at cursor from owner later p f.0 (next_is f.0 task later p)
+  task_is None task = task
+
+  moves : (found : Option (Task × ℕ)) → IfSome found (λ f. HasTask f.0) → IfSome found (λ f. Passes f.1)
+      → IfSome found (λ f. (later : Owner) → IsPostedTo cursor from owner later
+      → IsPostedTo cursor f.1 owner (with_task_posted later))
+  moves (Some f) task passes = λ later p.
+      cursor-behind cursor from owner later p f.0 (next_is f.0 task later p) f.1
+      (passes p.held (ap (λ (o : UserState). live_session_at o cursor.session) view ∙ p.at))
+  moves None task passes = task
 
 pub returns-clause-task : goal.returns-clause-task
-returns-clause-task c = λ later p.
-    task-at c.args.cursor.now c.args.from c.args.self.now later p c.in-Some.task
-    (next_is (goal.at.returns-clause-task c).In-Some later p)
+returns-clause-task c =
+    task_is c.self.inside.state c.args.self.now (ap (λ (o : Owner). o.state) c.self.view_is) c.args.cursor.now c.args.from
+    c.task_from.result c.task_from.ensures.task
 
 pub returns-clause-moved : goal.returns-clause-moved
-returns-clause-moved c = λ later p.
-    let cursor = c.args.cursor.now in
-    let view = ap (λ (o : Owner). o.state) c.self.view_is in
-    cursor-behind cursor c.args.from c.args.self.now later p c.in-Some.task
-    (next_is (goal.at.returns-clause-moved c).In-Some later p) c.in-Some.next
-    (c.in-Some.ensures.passes p.held (at_cursor c.self.inside.state c.args.self.now view cursor c.args.from later p))
+returns-clause-moved c =
+    moves c.self.inside.state c.args.self.now (ap (λ (o : Owner). o.state) c.self.view_is) c.args.cursor.now c.args.from
+    c.task_from.result c.task_from.ensures.task c.task_from.ensures.passes
