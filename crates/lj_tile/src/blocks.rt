@@ -170,8 +170,8 @@ impl Block {
 /// A block by reference to its places, which may lie in a frame.
 #[derive(Drop)]
 pub struct BlockRef<'a> {
-    pub places: &'a [Place],
     pub species_bits: u64,
+    pub places: &'a [Place],
 }
 
 impl<'a> Model for BlockRef<'a> {

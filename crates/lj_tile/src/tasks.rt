@@ -224,7 +224,9 @@ impl Task {
     /// assert!(task.is_of(&task.by_ref()));
     /// assert!(!Task::blank().is_of(&task.by_ref()));
     /// ```
-    #[inline]
+    // Inlined, so that lengths and species are compared in registers. Read back from the stack, 16 bytes at once, they wait for
+    // all stores before them.
+    #[inline(always)]
     pub fn is_of(&self, task: &TaskRef<'_>) -> bool
         ensures { IsTrue result ↔ (self.now ≡ task.now) }
     {
