@@ -3,12 +3,13 @@ use Rattle.std.proofs.Common.{◌≡◌, ℕ, zero, suc, ◌+◌, ◌-◌, ◌<�
 use Rattle.std.proofs.Common.{Option, Some, None, length, take, drop, get_or, set, cond, refl, sym, ap, ◌∙◌}
 use Rattle.std.proofs.Common.{inl, inr, arith, length-append, length-set, get_or-set_same, get_or-set_other}
 use Rattle.std.proofs.Common.{append_assoc, drop-cons}
-use Rattle.std.specs.Prelude.{nat_eq, nat_lt, IsTrue, ◌↔◌}
+use Rattle.std.specs.Prelude.{◌≢◌, map, nat_eq, nat_lt, IsTrue, ◌↔◌}
 use Rattle.std.specs.List.{Contains, remove}
 use Rattle.std.proofs.lemmas.Bool.{cases_Bool, cases_eq, eq-eqb, ne_eqb, ltb-true, ltb-false, lt-ltb, le-ltb, false≢true}
 use Rattle.std.proofs.lemmas.List.{get_or_default, take_more, take-append-drop, take-append-le, length-take-le, length_push, get_or-take}
 use Rattle.std.proofs.lemmas.List.Edits.{length-remove, remove-append_left}
 use Rattle.std.proofs.lemmas.List.Sums.{sum_by-cons, sum_by_push, sum_by_more, sum_by-take-le, sum_by-remove, get_or-le-sum_by}
+use Rattle.lj_step.specs.OpenSteps.{tile_number_of}
 use Rattle.lj_tile.specs.Blank.{blank_task}
 use Rattle.lj_tile.specs.Task.{Task}
 use Rattle.lj_pool.specs.declared.pool.TheConstants.{MAX_OWED}
@@ -222,6 +223,19 @@ task_at tasks places owed here kept within d =
     let len : length (take owed places) ≡ owed = length-take-le owed places (omega (arith, kept.all, kept.most)) in
     ap (λ k. get_or tasks k None) (sym (get_or-take owed places here 0 within))
     ∙ works_at tasks (take owed places) here d (kept.count ∙ sym len) (omega (arith, len, within))
+
+-- each image of the list without the item that stands here
+pub map_remove : {X Y : Type 0} (f : X → Y) (xs : List X) (here : ℕ) → map f (remove xs here) ≡ remove (map f xs) here
+map_remove f [] zero = refl
+map_remove f [] (suc here) = refl
+map_remove f (x ∷ xs) zero = refl
+map_remove f (x ∷ xs) (suc here) = ap (λ ys. f x ∷ ys) (map_remove f xs here)
+
+-- what is true of tasks of one tile number alone, of a task of another one
+pub of_another_tile : (tile : ℕ) (task : Task) (answer : Bool) (P : Type 0) → (P → tile_number_of task ≡ tile)
+    → (tile_number_of task ≢ tile) × (answer ≡ false) → IsTrue answer ↔ P
+of_another_tile tile task answer P tiled other =
+    (λ yes. absurd (false≢true (sym other.1 ∙ yes)), λ is. absurd (other.0 (tiled is)))
 
 -- where a predicate returns for each task that is owed whether it is this one
 module _ (Returns : Task → Bool → Type 0) (task : Task) (old : Seen) where

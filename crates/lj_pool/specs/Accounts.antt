@@ -1,7 +1,8 @@
 -- How an end stores the tasks that are owed to it: each in a place, and the places in the order of the posts.
-use Rattle.std.specs.Prelude.{◌≡◌, ℕ, ◌<◌, ◌≤◌, Bool, true, false, List, [], ◌∷◌, ◌++◌, Option, None, length, take, cond, nat_lt}
-use Rattle.std.specs.Prelude.{slice_index_or}
+use Rattle.std.specs.Prelude.{◌≡◌, ℕ, ◌<◌, ◌≤◌, ◌≢◌, ◌⊎◌, Bool, true, false, List, [], ◌∷◌, ◌++◌, Option, None, length, take, cond}
+use Rattle.std.specs.Prelude.{nat_lt, slice_index_or}
 use Rattle.std.specs.List.{Contains}
+use Rattle.lj_step.specs.OpenSteps.{tile_number_of}
 use Rattle.lj_tile.specs.Blank.{blank_task}
 use Rattle.lj_tile.specs.Task.{Task}
 use Rattle.lj_pool.specs.declared.pool.TheConstants.{MAX_OWED}
@@ -24,6 +25,10 @@ pub record IsKept (tasks : List (Option Task)) (places : List ℕ) (owed : ℕ) 
 -- each owed task of this name is this task
 abbrev pub IsKnownByName : List Task → Task → Type 0
 IsKnownByName owed task = (other : Task) → Contains owed other → other.name ≡ task.name → other ≡ task
+
+-- what a predicate returns for the tasks of this tile number, and false for all others
+abbrev pub AnswersOf : ℕ → (Task → Bool → Type 0) → Task → Bool → Type 0
+AnswersOf tile Returns task answer = Returns task answer ⊎ ((tile_number_of task ≢ tile) × (answer ≡ false))
 
 -- A predicate returns true for the task at this position, and false for those before it.
 pub record IsFirst (Returns : Task → Bool → Type 0) (owed : List Task) (here : ℕ) : Type 0 where

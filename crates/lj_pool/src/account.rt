@@ -5,12 +5,14 @@ ghost use Rattle.std.specs.List.{remove};
 ghost use Rattle.lj_pool.specs.declared.pool.NotPosted.TheVariants.{Closed, Full};
 ghost use Rattle.lj_pool.specs.Seen.{ArePosted, IsHandedOut, IsPosted, SameOwed, StaysClosed, nothing_seen, one_more};
 ghost use Rattle.lj_pool.specs.Gathering.{times};
-ghost use Rattle.lj_pool.specs.Accounts.{IsFirst, IsKnownByName, IsNowhere};
+ghost use Rattle.lj_pool.specs.Accounts.{AnswersOf, IsFirst, IsKnownByName, IsNowhere};
+ghost use Rattle.lj_step.specs.OpenSteps.{tile_number_of};
+ghost use Rattle.lj_tile.specs.Blank.{blank_task};
 
 use crate::pool::{MAX_OWED, NotPosted};
 use crate::task_list::TaskList;
 use arrayvec::ArrayVec;
-use lj_tile::{Task, TaskRef};
+use lj_tile::{BLOCK, Task, TaskRef};
 use std::array;
 use std::marker::Model;
 
@@ -19,6 +21,8 @@ use std::marker::Model;
 pub struct Account {
     tasks: [Option<Task>; MAX_OWED],
     places: ArrayVec<u8, MAX_OWED>,
+    /// The tile numbers of the tasks that are owed, in their order, so that a search reads the names of few tasks.
+    tiles: ArrayVec<u16, MAX_OWED>,
     owed: usize,
     expected: u64,
     strays: u64,
@@ -26,9 +30,10 @@ pub struct Account {
 }
 
 impl Model for Account {
-    ghost use Rattle.std.specs.Prelude.{take};
+    ghost use Rattle.std.specs.Prelude.{◌≡◌, map, take};
     ghost use Rattle.lj_pool.specs.Seen.{Seen};
     ghost use Rattle.lj_pool.specs.Accounts.{IsKept, tasks_owed};
+    ghost use Rattle.lj_step.specs.OpenSteps.{tile_number_of};
 
     ghost Value = { Seen };
 
@@ -39,7 +44,8 @@ impl Model for Account {
       closed = a.closed;
     } };
 
-    ghost invariant = { λ a. IsKept a.tasks a.places.items a.owed };
+    ghost invariant = { λ a. IsKept a.tasks a.places.items a.owed
+        × (a.tiles.items ≡ map tile_number_of (tasks_owed a.tasks (take a.owed a.places.items))) };
 }
 
 impl Account {
@@ -50,6 +56,7 @@ impl Account {
         Account {
             tasks: array::from_fn(|_| None),
             places: all_places(),
+            tiles: ArrayVec::new(),
             owed: 0,
             expected: 0,
             strays: 0,
@@ -64,7 +71,8 @@ impl Account {
         ensures closed { self.new.closed ≡ self.old.closed }
     {
         let place = usize::from(self.places[self.owed]);
-        keep(&mut self.tasks[place], task);
+        let tile = keep(&mut self.tasks[place], task);
+        self.tiles.push(tile);
         self.owed += 1;
     }
 
@@ -101,7 +109,7 @@ impl Account {
         ensures handed_out { IsHandedOut task.now self.old self.new }
         ensures closed { self.new.closed ≡ self.old.closed }
     {
-        match self.find(|owed| owed.is(task)) {
+        match self.find(tile_number_of(task), |owed| owed.is(task)) {
             Some(here) => self.count_owed(here),
             None => self.count_stray(),
         }
@@ -113,7 +121,7 @@ impl Account {
         ensures handed_out { IsHandedOut task.now self.old self.new }
         ensures closed { self.new.closed ≡ self.old.closed }
     {
-        match self.find(|owed| owed.name().is(task.name())) {
+        match self.find(tile_number_of(task), |owed| owed.name().is(task.name())) {
             Some(here) => self.count_owed(here),
             None => self.count_stray(),
         }
@@ -172,13 +180,16 @@ impl Account {
         self.closed
     }
 
-    /// Finds the first task for which `is_wanted` is true.
-    fn find<F: Fn(&Task) -> bool>(&self, is_wanted: F) -> Option<usize>
+    /// Finds the first task of this tile number for which `is_wanted` is true.
+    fn find<F: Fn(&Task) -> bool>(&self, tile: u16, is_wanted: F) -> Option<usize>
         requires { F.IsAlwaysCallable is_wanted }
-        ensures some { IfSome result (IsFirst (FnReturnsAt F.Fn is_wanted) self.now.owed) }
-        ensures none { IfNone result (IsNowhere (FnReturnsAt F.Fn is_wanted) self.now.owed) }
+        ensures some { IfSome result (IsFirst (AnswersOf tile (FnReturnsAt F.Fn is_wanted)) self.now.owed) }
+        ensures none { IfNone result (IsNowhere (AnswersOf tile (FnReturnsAt F.Fn is_wanted)) self.now.owed) }
     {
         for here in 0..self.owed() {
+            if self.tile_at(here) != tile {
+                continue;
+            }
             if let Some(owed) = self.at(here) {
                 if is_wanted(owed) {
                     return Some(here);
@@ -186,6 +197,14 @@ impl Account {
             }
         }
         None
+    }
+
+    /// Returns the tile number of the task at this position.
+    fn tile_at(&self, here: usize) -> u16
+        requires { here < length self.now.owed }
+        ensures { result ≡ tile_number_of (slice_index_or self.now.owed here blank_task) }
+    {
+        self.tiles[here]
     }
 
     /// Returns the task at this position.
@@ -207,18 +226,36 @@ impl Account {
     {
         let place = self.places.remove(here);
         self.places.push(place);
+        self.tiles.remove(here);
         self.owed -= 1;
     }
 }
 
-/// Stores a copy of the task, in place of an older one if there is one.
-fn keep(kept: &mut Option<Task>, task: &TaskRef<'_>)
-    ensures { kept.new ≡ Some task.now }
+/// Stores a copy of the task, in place of an older one if there is one. Returns its tile number.
+fn keep(kept: &mut Option<Task>, task: &TaskRef<'_>) -> u16
+    ensures kept { kept.new ≡ Some task.now }
+    ensures tile { result ≡ tile_number_of task.now }
 {
     match kept {
-        Some(older) => older.remake(task),
-        None => *kept = Some(task.to_task()),
+        Some(older) => {
+            older.remake(task);
+            tile_number_of(older)
+        }
+        None => {
+            let copy = task.to_task();
+            let tile = tile_number_of(&copy);
+            *kept = Some(copy);
+            tile
+        }
     }
+}
+
+/// Returns the tile number of the task.
+fn tile_number_of(task: &Task) -> u16
+    ensures { result ≡ tile_number_of task.now }
+{
+    let name = task.name();
+    BLOCK as u16 * u16::from(name.bi) + u16::from(name.bj)
 }
 
 /// Returns all places, each once.

@@ -8,7 +8,7 @@ use Rattle.lj_pool.proofs.account.Account.at.Goals as goal
 
 pub bounds-self-inside-place : goal.bounds-self-inside-place
 bounds-self-inside-place c =
-    let kept = c.self.invariant in
+    let kept = c.self.invariant.0 in
     let inside : c.args.here < c.self.inside.owed =
     omega (arith, c.requires, kept.count, ap (λ s. length s.owed) c.self.view_is) in
     let is = c.from-place.ensures ∙ ap (λ xs. get_or xs c.args.here 0) c.deref.ensures.0 in
@@ -16,11 +16,11 @@ bounds-self-inside-place c =
     (place_within c.self.inside.places.items kept.once c.args.here (omega (arith, kept.all, kept.most, inside)))
 
 pub listed : goal.listed
-listed c = omega (arith, bounds-self-inside-place c, c.self.invariant.size)
+listed c = omega (arith, bounds-self-inside-place c, c.self.invariant.0.size)
 
 pub returns : goal.returns
 returns c =
-    let kept = c.self.invariant in
+    let kept = c.self.invariant.0 in
     let tasks = c.self.inside.tasks in
     let here = c.args.here in
     let inside : here < c.self.inside.owed =
