@@ -15,7 +15,7 @@ use thiserror::Error;
 pub const MAX_OWED: usize = 64;
 
 /// The most tasks that one call posts.
-pub const MAX_POSTS: usize = 8;
+pub const MAX_POSTS: usize = 16;
 
 /// The number of consecutive strays that ends the work for a user.
 pub const MAX_STRAYS: u64 = 4096;
