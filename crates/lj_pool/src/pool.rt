@@ -156,7 +156,6 @@ pub trait Pool {
 
     /// Posts tasks in order and never waits. Returns how many were posted: the first ones, and no others.
     fn post_some(&mut self, tasks: &TaskList<'_>) -> usize
-        requires few { length tasks.now ≤ MAX_POSTS }
         requires room { length (seen self.old).owed + length tasks.now ≤ MAX_OWED }
         ensures most { result ≤ length tasks.now }
         ensures posted { ArePosted (take result tasks.now) (seen self.old) (seen self.new) }

@@ -141,7 +141,6 @@ impl EndBoxes {
     /// Takes spare boxes, as far as there are some, and copies tasks into them.
     #[tactic(auto, using(crate::proofs::Posts::are_copies))]
     pub(crate) fn copies_of(&mut self, tasks: &TaskList<'_>) -> TaskCopies
-        requires few { length tasks.now ≤ MAX_POSTS }
         ensures copies { AreCopies result.items tasks.now }
         ensures boxes { (k : ℕ) → k < length result.items → is_some (slice_index_or result.items k None) ≡ true }
         ensures most { length result.items ≤ length tasks.now }

@@ -106,7 +106,6 @@ impl<'p, L: Ledger, R: Wait> Pool for LockEnd<'p, L, R> {
     }
 
     fn post_some(&mut self, tasks: &TaskList<'_>) -> usize
-        requires few { length tasks.now ≤ MAX_POSTS }
         requires room { length self.old.seen.owed + length tasks.now ≤ MAX_OWED }
         ensures last { self.new.last ≡ self.old.last }
         ensures hand { self.new.hand ≡ self.old.hand }
