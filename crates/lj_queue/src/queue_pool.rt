@@ -18,13 +18,15 @@ use crate::root_pass::{RootPass, passes_of};
 use crate::rule::{OpenTasks, TaskPass};
 use crate::spares::Spares;
 use lj_book::{DoneBox, MAX_ENTRIES, TaskBox};
-use lj_pool::{IdleWorkers, LOOKS, MAX_ENDS, Share, WAIT_QUEUES, shares_of, wait_queue_of, wake};
+use lj_pool::{
+    IdleWorkers, LOOKS, MAX_ENDS, Share, WAIT_QUEUES, lock_soon, shares_of, wait_queue_of, wake,
+};
 use lj_tile::TaskRef;
 use std::alloc::{AllocError, Global};
 use std::marker::Model;
 use std::sync::atomic::{AtomicBool, AtomicUsize, Ordering};
 use std::sync::ledger::{self, Blank};
-use std::sync::{Condvar, Mutex, Wait};
+use std::sync::{Condvar, Mutex, MutexGuard, Wait};
 use std::{array, thread};
 
 /// The most tasks that are open at once in the pool with a queue.
@@ -154,7 +156,7 @@ impl<L: PoolIdentity> QueuePool<L> {
         ensures pass { result.pass ≡ pass }
         ensures user { result.user ≡ user }
     {
-        let entered = self.mailboxes.lock(rt).enter(rt, user, &self.spares);
+        let entered = self.lock_mailboxes(rt).enter(rt, user, &self.spares);
         if entered.is_none() {
             self.close(rt);
         }
@@ -164,7 +166,7 @@ impl<L: PoolIdentity> QueuePool<L> {
     /// Closes the pool: from now on no task is posted or taken and no result fetched.
     pub fn close<R: Wait>(&self, rt: &R) {
         self.closed.store(true, Ordering::SeqCst);
-        self.mailboxes.lock(rt).close();
+        self.lock_mailboxes(rt).close();
         // A worker that read `closed` before it was set holds this lock until it waits, and is woken below.
         drop(self.idle.lock(rt));
         self.not_empty.notify_all();
@@ -176,7 +178,7 @@ impl<L: PoolIdentity> QueuePool<L> {
 
     /// Drops the user's results, and removes the present end: results that come for it later are dropped too.
     pub fn withdraw<R: Wait>(&self, rt: &R, user: u8) {
-        self.mailboxes.lock(rt).withdraw(rt, user, &self.spares);
+        self.lock_mailboxes(rt).withdraw(rt, user, &self.spares);
     }
 
     /// Posts a task in the next box of the poster or a spare one. With `wait` it waits while there is no room, and fails only where
@@ -277,7 +279,7 @@ impl<L: PoolIdentity> QueuePool<L> {
         ensures box_kept { OnErr result (boxes_in poster.old.next ≤ boxes_in poster.new.next) }
         ensures closed { IfErr result (λ fault. fault ≡ Closed) }
     {
-        let mut mailboxes = self.mailboxes.lock(rt);
+        let mut mailboxes = self.lock_mailboxes(rt);
         self.waiting_posters.fetch_add(1, Ordering::SeqCst);
         for _ in rt.forever() {
             if mailboxes.is_closed() {
@@ -318,7 +320,7 @@ impl<L: PoolIdentity> QueuePool<L> {
             None => self.take_later(rt, pass),
         };
         if self.waiting_posters.load(Ordering::SeqCst) > 0 {
-            drop(self.mailboxes.lock(rt));
+            drop(self.lock_mailboxes(rt));
             self.not_full.notify_all();
         }
         taken
@@ -413,7 +415,7 @@ impl<L: PoolIdentity> QueuePool<L> {
         ensures not_credited { OnErr result (share.new ≡ share.old) }
         ensures refused { IfErr result (λ refused. refused ≡ done) }
     {
-        let mut mailboxes = self.mailboxes.lock(rt);
+        let mut mailboxes = self.lock_mailboxes(rt);
         let kept = mailboxes.keep(end, user, done, share);
         let wakes = kept.is_ok() && mailboxes.wait_queues.note_given(user);
         drop(mailboxes);
@@ -421,6 +423,11 @@ impl<L: PoolIdentity> QueuePool<L> {
             self.results_ready[wait_queue_of(user)].notify_all();
         }
         kept
+    }
+
+    /// Locks the mailboxes.
+    fn lock_mailboxes<R: Wait>(&self, rt: &R) -> MutexGuard<'_, Mailboxes<L>> {
+        lock_soon(rt, &self.mailboxes)
     }
 
     /// Returns whether the pool is closed.
@@ -440,7 +447,7 @@ impl<L: PoolIdentity> QueuePool<L> {
         requires { hand.old ≡ empty_list user }
         ensures { Fetches user result hand.old hand.new }
     {
-        let mut mailboxes = self.mailboxes.lock(rt);
+        let mut mailboxes = self.lock_mailboxes(rt);
         for _ in rt.forever() {
             let fetched = mailboxes.hand_out(user, hand);
             if fetched || mailboxes.is_closed() {
@@ -458,7 +465,7 @@ impl<L: PoolIdentity> QueuePool<L> {
         requires { hand.old ≡ empty_list user }
         ensures { Fetches user result hand.old hand.new }
     {
-        self.mailboxes.lock(rt).hand_out(user, hand)
+        self.lock_mailboxes(rt).hand_out(user, hand)
     }
 
     /// Returns the number of results given, which is the amount of all parts of the ledger together.
@@ -466,6 +473,6 @@ impl<L: PoolIdentity> QueuePool<L> {
         requires { all.old.parts ≡ L.parts }
         ensures { result ≡ all.old.amount }
     {
-        self.mailboxes.lock(rt).audited(all)
+        self.lock_mailboxes(rt).audited(all)
     }
 }

@@ -11,6 +11,7 @@ ghost use Rattle.lj_tile.specs.Blank.{blank_task};
 use crate::lock::end_boxes::{EndBoxes, MAX_END_BOXES, TaskCopies};
 use crate::lock::lock_end::LockEnd;
 use crate::lock::pool_state::PoolState;
+use crate::locking::lock_soon;
 use crate::pool::NotPosted;
 use crate::share::{Share, shares_of};
 use crate::task_list::TaskList;
@@ -89,7 +90,7 @@ impl<L: Ledger> LockPool<L> {
     /// Closes the pool: from now on no task is posted or taken and no result fetched.
     pub fn close<R: Wait>(&self, rt: &R) {
         self.closed.store(true, Ordering::SeqCst);
-        self.state.lock(rt).close();
+        self.lock(rt).close();
         self.not_empty.notify_all();
         self.not_full.notify_all();
         for queue in &self.results_ready {
@@ -104,13 +105,18 @@ impl<L: Ledger> LockPool<L> {
         ensures balance { result.posted ≡ result.fetched + result.withdrawn + result.entries }
         ensures given_posted { result.given ≤ result.posted }
     {
-        self.state.lock(rt).counts()
+        self.lock(rt).counts()
     }
 
     /// Withdraws every entry of the user, also those whose tasks are out.
     pub fn withdraw<R: Wait>(&self, rt: &R, user: u8) {
-        self.state.lock(rt).withdraw(user);
+        self.lock(rt).withdraw(user);
         self.not_full.notify_all();
+    }
+
+    /// Locks the state.
+    fn lock<R: Wait>(&self, rt: &R) -> MutexGuard<'_, PoolState<L>> {
+        lock_soon(rt, &self.state)
     }
 
     /// Returns whether the pool is closed.
@@ -139,7 +145,7 @@ impl<L: Ledger> LockPool<L> {
         ensures handed_back { OnErr result (boxed.new ≡ boxed.old) }
         ensures full { wait ≡ true → IfErr result (λ why. why ≡ Closed) }
     {
-        let mut state = self.state.lock(rt);
+        let mut state = self.lock(rt);
         for _ in rt.forever() {
             match state.post(boxed, task) {
                 Err(NotPosted::Full) if wait => {}
@@ -167,7 +173,7 @@ impl<L: Ledger> LockPool<L> {
         ensures most { result ≤ length tasks.now }
         ensures hands_over { HandsOver result copies.old.items copies.new.items }
     {
-        let mut state = self.state.lock(rt);
+        let mut state = self.lock(rt);
         let posted = state.post_some(copies, tasks);
         let workers = state.take_woken(TASKS_AT_ONCE);
         drop(state);
@@ -190,7 +196,7 @@ impl<L: Ledger> LockPool<L> {
         if own.hand_out(user) {
             return true;
         }
-        let mut state = self.state.lock(rt);
+        let mut state = self.lock(rt);
         for _ in rt.forever() {
             match self.fetch_from(state, user, own) {
                 Ok(fetched) => return fetched,
@@ -220,7 +226,7 @@ impl<L: Ledger> LockPool<L> {
         if own.forget_fetch() {
             return false;
         }
-        let state = self.state.lock(rt);
+        let state = self.lock(rt);
         self.fetch_from(state, user, own).unwrap_or(false)
     }
 
@@ -273,7 +279,7 @@ impl<L: Ledger> LockPool<L> {
         ensures one_at_most { share.new ≤ share.old + 1 }
     {
         let user = done.done().task().name().label.user;
-        let mut state = self.state.lock(rt);
+        let mut state = self.lock(rt);
         let was_full = state.is_full();
         let given = state.give(done, share);
         let wakes = given && state.note_given(user);
@@ -295,7 +301,7 @@ impl<L: Ledger> LockPool<L> {
     /// Hands a task back, which is then open again, and wakes waiting workers. Then takes an open task, perhaps the same one, and
     /// waits until there is one. None where the pool is closed.
     pub(crate) fn hand_back<R: Wait>(&self, rt: &R, lent: LentTask) -> Option<LentTask> {
-        let mut state = self.state.lock(rt);
+        let mut state = self.lock(rt);
         let was_full = state.is_full();
         let was_out = state.hand_back(lent);
         let workers = state.take_woken(1);
@@ -319,7 +325,7 @@ impl<L: Ledger> LockPool<L> {
     /// Takes an open task. None where there was none at any look.
     fn take_soon<R: Wait>(&self, rt: &R) -> Option<LentTask> {
         for _ in 0..LOOKS {
-            let taken = self.state.lock(rt).take();
+            let taken = self.lock(rt).take();
             if taken.is_some() {
                 return taken;
             }
@@ -330,7 +336,7 @@ impl<L: Ledger> LockPool<L> {
 
     /// Waits for an open task, and takes it. None where the pool is closed.
     fn take_later<R: Wait>(&self, rt: &R) -> Option<LentTask> {
-        let mut state = self.state.lock(rt);
+        let mut state = self.lock(rt);
         for _ in rt.forever() {
             let taken = state.take();
             if taken.is_some() || state.is_closed() {
@@ -344,7 +350,7 @@ impl<L: Ledger> LockPool<L> {
 
     /// Adds all boxes of an end to the spare ones of the pool.
     pub(crate) fn put_all_by<R: Wait>(&self, rt: &R, own: EndBoxes) {
-        let mut state = self.state.lock(rt);
+        let mut state = self.lock(rt);
         let was_full = state.is_full();
         state.put_all_by(own);
         drop(state);
@@ -358,6 +364,6 @@ impl<L: Ledger> LockPool<L> {
         requires { all.old.parts ≡ L.parts }
         ensures { result ≡ all.old.amount }
     {
-        self.state.lock(rt).audited(all)
+        self.lock(rt).audited(all)
     }
 }
