@@ -79,7 +79,7 @@ impl Keeps for TaskBox {
     }
 
     fn into_box(self) -> Option<TaskBox> {
-        Some(self)
+        Some(self.released())
     }
 }
 

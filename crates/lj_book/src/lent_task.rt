@@ -57,7 +57,7 @@ impl Keeps for Numbered {
     }
 
     fn into_box(self) -> Option<TaskBox> {
-        Some(self.task)
+        Some(self.task.released())
     }
 }
 

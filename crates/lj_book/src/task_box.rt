@@ -58,6 +58,13 @@ impl TaskBox {
         self.contents.task.remake(task);
     }
 
+    /// Returns the box, for another task. The one in it shares no frame any more.
+    pub fn released(self) -> TaskBox {
+        let mut contents = self.contents;
+        contents.as_mut().task.release();
+        TaskBox { contents }
+    }
+
     /// Computes the task, in its box.
     pub fn compute(self, table: &Table) -> DoneBox
         ensures { result ≡ self }
@@ -113,12 +120,13 @@ impl DoneBox {
         DoneRef::new(&self.contents.task, &self.contents.sums)
     }
 
-    /// Returns the box, for another task. The one in it is touched: so the cache lines, which a worker has read, come back while the
-    /// next result is taken in, and not when another task is copied to them.
+    /// Returns the box, for another task. The one in it shares no frame any more. If it shared none, its cache lines, which a worker
+    /// has read, come back while the next result is taken in, and not when another task is copied to them.
     pub fn into_task(self) -> TaskBox {
-        let mut contents = self.contents;
-        contents.as_mut().task.touch();
-        TaskBox { contents }
+        TaskBox {
+            contents: self.contents,
+        }
+        .released()
     }
 }
 

@@ -1,12 +1,12 @@
 -- Tasks in places, of which a list has each once and the first ones hold what is owed.
 use Rattle.std.proofs.Common.{◌≡◌, ℕ, zero, suc, ◌+◌, ◌-◌, ◌<◌, ◌≤◌, Bool, true, false, List, [], ◌∷◌, ◌++◌}
-use Rattle.std.proofs.Common.{Option, Some, None, length, take, drop, get_or, set, cond, refl, sym, ap, ◌∙◌}
+use Rattle.std.proofs.Common.{Option, Some, None, length, take, drop, get_or, set, cond, refl, sym, ap, subst, ◌∙◌}
 use Rattle.std.proofs.Common.{inl, inr, arith, length-append, length-set, get_or-set_same, get_or-set_other}
 use Rattle.std.proofs.Common.{append_assoc, drop-cons}
 use Rattle.std.specs.Prelude.{◌≢◌, map, nat_eq, nat_lt, IsTrue, ◌↔◌}
 use Rattle.std.specs.List.{Contains, remove}
 use Rattle.std.proofs.lemmas.Bool.{cases_Bool, cases_eq, eq-eqb, ne_eqb, ltb-true, ltb-false, lt-ltb, le-ltb, false≢true}
-use Rattle.std.proofs.lemmas.List.{get_or_default, take_more, take-append-drop, take-append-le, length-take-le, length_push, get_or-take}
+use Rattle.std.proofs.lemmas.List.{get_or_default, take_more, take-take, take-append-drop, take-append-le, length-take-le, length_push, get_or-take}
 use Rattle.std.proofs.lemmas.List.Edits.{length-remove, remove-append_left}
 use Rattle.std.proofs.lemmas.List.Sums.{sum_by-cons, sum_by_push, sum_by_more, sum_by-take-le, sum_by-remove, get_or-le-sum_by}
 use Rattle.lj_step.specs.OpenSteps.{tile_number_of}
@@ -104,16 +104,19 @@ at_most_one : (b : Bool) → cond b 1 0 ≤ 1
 at_most_one true = omega arith
 at_most_one false = omega arith
 
--- the place after those that hold tasks is none of them
-apart : (places : List ℕ) → ((n : ℕ) → times n places ≡ cond (nat_lt n MAX_OWED) 1 0) → (owed : ℕ)
-    → owed < length places → times (get_or places owed 0) (take owed places) ≡ 0
-apart places once owed within =
-    let place = get_or places owed 0 in
+-- a place behind those that hold tasks is none of them
+apart : (places : List ℕ) → ((n : ℕ) → times n places ≡ cond (nat_lt n MAX_OWED) 1 0) → (owed k : ℕ) → owed ≤ k
+    → k < length places → times (get_or places k 0) (take owed places) ≡ 0
+apart places once owed k behind within =
+    let place = get_or places k 0 in
     let f : ℕ → ℕ = λ j. cond (nat_eq j place) 1 0 in
-    let more = sum_by_more f places owed 0 within in
-    let le = sum_by-take-le f places (owed + 1) in
+    let more = sum_by_more f places k 0 within in
+    let le = sum_by-take-le f places (k + 1) in
+    let fewer : times place (take owed places) ≤ times place (take k places) =
+    subst (λ xs. times place xs ≤ times place (take k places)) (take-take owed k places behind)
+    (sum_by-take-le f (take k places) owed) in
     let one : bit (nat_eq place place) ≡ 1 = ap bit (eq-eqb place place refl) in
-    omega (arith, more, le, one, once place, at_most_one (nat_lt place MAX_OWED))
+    omega (arith, more, le, fewer, one, once place, at_most_one (nat_lt place MAX_OWED))
 
 -- a task is put into the next place
 pub works_posted : (tasks : List (Option Task)) (places : List ℕ) (owed : ℕ) (task : Task) → IsKept tasks places owed
@@ -128,7 +131,7 @@ works_posted tasks places owed task kept room =
     ap (tasks_owed put) (take_more places owed 0 within)
     ∙ works-append put (take owed places) (place ∷ [])
     ∙ ap (λ w. w ++ (tasks_in (get_or put place None) ++ []))
-    (works-other tasks place (Some task) (take owed places) (apart places kept.once owed within))
+    (works-other tasks place (Some task) (take owed places) (apart places kept.once owed owed (omega arith) within))
     ∙ ap (λ x. tasks_owed tasks (take owed places) ++ (tasks_in x ++ [])) (get_or-set_same tasks place (Some task) None fits)
 
 pub kept_posted : (tasks : List (Option Task)) (places : List ℕ) (owed : ℕ) (task : Task) → IsKept tasks places owed
@@ -142,6 +145,22 @@ kept_posted tasks places owed task kept room = record {
   count = ap length (works_posted tasks places owed task kept room)
       ∙ length_push (tasks_owed tasks (take owed places)) task ∙ ap (λ n. n + 1) kept.count;
 }
+
+-- what lies in a place behind those that hold tasks is changed
+module _ (tasks : List (Option Task)) (places : List ℕ) (owed k : ℕ) (slot : Option Task) (kept : IsKept tasks places owed)
+    (behind : owed ≤ k) (within : k < length places) where
+  pub works_released : tasks_owed (set tasks (get_or places k 0) slot) (take owed places) ≡ tasks_owed tasks (take owed places)
+  works_released =
+      works-other tasks (get_or places k 0) slot (take owed places) (apart places kept.once owed k behind within)
+
+  pub kept_released : IsKept (set tasks (get_or places k 0) slot) places owed
+  kept_released = record {
+    size = length-set tasks (get_or places k 0) slot ∙ kept.size;
+    once = kept.once;
+    all = kept.all;
+    most = kept.most;
+    count = ap length works_released ∙ kept.count;
+  }
 
 -- the first places, once the one that stands here has been put behind all
 places_left : (places : List ℕ) (owed here : ℕ) → owed ≤ length places → here < owed

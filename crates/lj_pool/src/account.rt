@@ -136,6 +136,7 @@ impl Account {
         ensures closed { self.new.closed ≡ self.old.closed }
     {
         self.take_off(here);
+        self.release_last();
         self.expected = self.expected.saturating_add(1);
     }
 
@@ -220,6 +221,7 @@ impl Account {
     fn take_off(&mut self, here: usize)
         requires { here < length self.old.owed }
         ensures owed { self.new.owed ≡ remove self.old.owed here }
+        ensures room { length self.new.owed < MAX_OWED }
         ensures expected { self.new.expected ≡ self.old.expected }
         ensures strays { self.new.strays ≡ self.old.strays }
         ensures closed { self.new.closed ≡ self.old.closed }
@@ -228,6 +230,22 @@ impl Account {
         self.places.push(place);
         self.tiles.remove(here);
         self.owed -= 1;
+    }
+
+    /// Gives up the frame that the task in the last place shares. It is owed no more.
+    fn release_last(&mut self)
+        requires { length self.old.owed < MAX_OWED }
+        ensures { self.new ≡ self.old }
+    {
+        let place = usize::from(self.places[MAX_OWED - 1]);
+        release(&mut self.tasks[place]);
+    }
+}
+
+/// Gives up the frame that a task shares, which is owed no more.
+fn release(kept: &mut Option<Task>) {
+    if let Some(older) = kept {
+        older.release();
     }
 }
 

@@ -93,13 +93,20 @@ impl<'p, L: PoolIdentity, R: Wait> QueueEnd<'p, L, R> {
     pub fn finish(self) -> PoolPass<L>
         ensures { result ≡ self.entry.pass }
     {
-        let mut unsignalled = self.unsignalled;
-        self.pool.wake_workers(self.rt, unsignalled.take_due(1));
-        let mut boxes = self.boxes;
-        self.pool
-            .spares
-            .clear(self.rt, &mut boxes.hand, self.poster.user);
-        PoolPass::new(self.poster.counted, boxes)
+        let QueueEnd {
+            rt,
+            pool,
+            poster,
+            boxes,
+            unsignalled,
+            ..
+        } = self;
+        let mut unsignalled = unsignalled;
+        pool.wake_workers(rt, unsignalled.take_due(1));
+        let Poster { counted, user, .. } = poster;
+        let mut boxes = boxes;
+        pool.spares.clear(rt, &mut boxes.hand, user);
+        PoolPass::new(counted, boxes)
     }
 }
 
@@ -305,7 +312,7 @@ impl<'p, L: PoolIdentity, R: Wait> QueueEnd<'p, L, R> {
         ensures unchanged { self.new ≡ record self.old { boxes = self.new.boxes } }
     {
         if let Some(unused) = self.poster.next.take() {
-            self.reuse(unused);
+            self.reuse(unused.released());
         }
     }
 

@@ -1,12 +1,14 @@
 -- What stays of a simulation in the code where its open step changes.
 use Rattle.std.proofs.Common.{◌≡◌, ◌≤◌, ◌+◌, ◌*◌, ◌^◌, ◌+ℤ◌, ◌-ℤ◌, unsigned_abs, false, true, length, slice_index_or}
 use Rattle.std.proofs.Common.{slice_set, vec_capacity, Some, None, refl, sym, ap, ◌∙◌, subst}
+use Rattle.std.proofs.lemmas.Bool.{true≢false}
 use Rattle.std.proofs.lemmas.List.{length-set}
 use Rattle.lj_base.specs.declared.names.Label.{Label}
 use Rattle.lj_tile.specs.declared.task_name.Kind.{Kind}
 use Rattle.lj_tile.specs.declared.task_name.Kind.TheVariants.{Energy}
 use Rattle.lj_tile.specs.Task.{Task, task_energy}
 use Rattle.lj_step.specs.declared.partial.Partial.{Partial}
+use Rattle.lj_step.specs.declared.step_frames.StepFrames.{StepFrames}
 use Rattle.lj_step.specs.declared.frames.TheConstants.{MAX_ATOMS}
 use Rattle.lj_step.specs.declared.simulations.TheConstants.{MAX_STEP}
 use Rattle.lj_step.specs.declared.simulations.Sim.TheInside.{Inside}
@@ -14,14 +16,15 @@ use Rattle.lj_step.specs.Kept.{IsSound, sim_of, sign_of}
 use Rattle.lj_step.specs.Laws.{AreOnRing}
 use Rattle.lj_step.specs.Sim.{Sim}
 use Rattle.lj_step.specs.OpenSteps.{blocks, tile_number_of, task_of, IsAwaitedTask}
+use Rattle.lj_step.specs.Shared.{IsOf}
 use Rattle.lj_step.specs.Sums.{CanAdd, HasAdded, HasRoom, IsPartial}
 use Rattle.lj_step.proofs.TakenIn.{awaited_at, accepts, partial_after}
 
--- with another open step
-pub with_partial : (a : Inside) (p : Partial) → IsSound a → HasRoom (length a.cur.items) p
-    → IsPartial a.atoms a.cur.items p p.kind
-    → IsSound (record a { partial = p })
-with_partial a p sound room partial = record {
+-- with another open step, and frames that its tasks share
+pub with_step : (a : Inside) (p : Partial) (shared : StepFrames) → IsSound a → HasRoom (length a.cur.items) p
+    → IsPartial a.atoms a.cur.items p p.kind → IsOf a.cur.items shared
+    → IsSound (record a { partial = p; shared = shared })
+with_step a p shared sound room partial frames = record {
   same = sound.same;
   some = sound.some;
   most = sound.most;
@@ -31,14 +34,22 @@ with_partial a p sound room partial = record {
   last_bound = sound.last_bound;
   room = room;
   partial = partial;
+  shared = frames;
 }
+
+-- with another open step
+pub with_partial : (a : Inside) (p : Partial) → IsSound a → HasRoom (length a.cur.items) p
+    → IsPartial a.atoms a.cur.items p p.kind
+    → IsSound (record a { partial = p })
+with_partial a p sound room partial = with_step a p a.shared sound room partial sound.shared
 
 -- with the present frame as the one before, another one as the present, and no step open
 pub with_frames : (a b : Inside) → IsSound a → b.prev.items ≡ a.cur.items
     → length b.cur.items ≡ length a.cur.items → AreOnRing b.cur.items
     → unsigned_abs b.step ≤ MAX_STEP → unsigned_abs (b.step -ℤ sign_of b.dir) ≤ MAX_STEP
-    → b.partial ≡ record a.partial { kind = None } → b.atoms ≡ a.atoms → IsSound b
-with_frames a b sound prev count cur step last partial atoms =
+    → b.partial ≡ record a.partial { kind = None } → b.atoms ≡ a.atoms
+    → b.shared ≡ record a.shared { is_written = false } → IsSound b
+with_frames a b sound prev count cur step last partial atoms shared =
     let room = subst (λ n. HasRoom n a.partial) (sym count) sound.room in
     record {
       same = ap length prev ∙ sym count;
@@ -51,6 +62,11 @@ with_frames a b sound prev count cur step last partial atoms =
       room = subst (HasRoom (length b.cur.items)) (sym partial)
           (record { pushes = room.pushes; awaited = room.awaited; tiles = room.tiles; arcs = room.arcs });
       partial = subst (λ p. IsPartial b.atoms b.cur.items p p.kind) (sym partial) tt;
+      shared = subst (IsOf b.cur.items) (sym shared) (record {
+        present = sound.shared.present ∙ sym count;
+        last = sound.shared.last ∙ sym count;
+        written = λ h. absurd (true≢false (sym h));
+      });
     }
 
 -- with one result more, of a task that is awaited

@@ -14,6 +14,7 @@ use Rattle.lj_step.specs.Laws.{AreOnRing}
 use Rattle.lj_step.specs.Sim.{Sim, OpenStep}
 use Rattle.lj_step.specs.OpenSteps.{block}
 use Rattle.lj_step.specs.Sums.{HasRoom, IsPartial}
+use Rattle.lj_step.specs.Shared.{IsOf}
 
 -- the arcs of a block of a frame
 abbrev pub block_arcs : List Place → ℕ → Arcs
@@ -41,7 +42,7 @@ sim_of a = record {
 }
 
 -- both frames have one count of atoms and lie on the ring, this and the last step number are at most MAX_STEP in size,
--- and the sums of the open step are those of the tiles that are in
+-- the sums of the open step are those of the tiles that are in, and what tasks share is the present frame
 pub record IsSound (a : Inside) : Type 0 where
   pub same : length a.prev.items ≡ length a.cur.items
   pub some : 1 ≤ length a.cur.items
@@ -52,3 +53,4 @@ pub record IsSound (a : Inside) : Type 0 where
   pub last_bound : unsigned_abs (a.step -ℤ sign_of a.dir) ≤ MAX_STEP
   pub room : HasRoom (length a.cur.items) a.partial
   pub partial : IsPartial a.atoms a.cur.items a.partial a.partial.kind
+  pub shared : IsOf a.cur.items a.shared

@@ -5,6 +5,7 @@ pub mod OpenSteps
 pub mod TileIds
 pub mod TileTasks
 pub mod Sums
+pub mod Shared
 pub mod Kept
 pub mod Saved
 pub mod Laws

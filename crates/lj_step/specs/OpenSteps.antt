@@ -1,6 +1,6 @@
 -- An open step: its cover by tiles of two blocks, the tasks of these tiles, and which of them are still awaited.
-use Rattle.std.specs.Prelude.{ℕ, ◌+◌, ◌*◌, ◌-◌, ◌/◌, ◌%◌, ◌≡◌, ◌&&◌, ◌==◌, not, if◌then◌else◌, Bool, true, false, nat_le, nat_lt, min, List, length}
-use Rattle.std.specs.Prelude.{map, count_by, slice_index_or, slice_set, slice_range, slice_get, Option, Some, None}
+use Rattle.std.specs.Prelude.{ℕ, ◌+◌, ◌*◌, ◌-◌, ◌/◌, ◌%◌, ◌≡◌, ◌&&◌, ◌==◌, not, if◌then◌else◌, Bool, true, false, nat_le, nat_lt, List, length}
+use Rattle.std.specs.Prelude.{map, count_by, slice_index_or, slice_set, slice_get, Option, Some, None}
 use Rattle.std.specs.List.{range_with_len, filter}
 use Rattle.std.specs.Option.{option_map, option_map_or}
 use Rattle.lj_ring.specs.declared.coordinates.Place.{Place}
@@ -13,6 +13,7 @@ use Rattle.lj_tile.specs.declared.task_name.Kind.{Kind}
 use Rattle.lj_tile.specs.declared.task_name.Kind.TheVariants.{Force, Energy}
 use Rattle.lj_tile.specs.Tiles.{Tile, force_tile, energy_tile}
 use Rattle.lj_tile.specs.Block.{Block}
+use Rattle.lj_tile.specs.Frames.{frame_block}
 use Rattle.lj_tile.specs.Task.{Task}
 use Rattle.lj_step.specs.Motion.{Simulation}
 use Rattle.lj_step.specs.Sim.{Sim, OpenStep}
@@ -34,7 +35,7 @@ second_block k = k % BLOCK
 
 -- the places of a block of a frame
 abbrev pub block : List Place → ℕ → List Place
-block frame b = slice_range frame (BLOCK * b) (min (BLOCK * b + BLOCK) (length frame))
+block frame b = frame_block frame b
 
 -- a block of a frame: its places, and which of them are of atoms of the second species
 abbrev pub sites_of : Composition → List Place → ℕ → Block

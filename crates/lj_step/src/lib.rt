@@ -10,6 +10,7 @@ mod partial;
 pub mod round_trip;
 mod simulations;
 mod snapshots;
+mod step_frames;
 mod tile_id;
 
 pub use frames::{Frame, Frames, MAX_ATOMS};

@@ -20,6 +20,7 @@ use crate::frames::{Frames, next_place, overwrite};
 use crate::measures::{self, Momentum};
 use crate::partial::Partial;
 use crate::snapshots::Snapshot;
+use crate::step_frames::StepFrames;
 use lj_ring::{Edge, Mix, Place};
 use lj_tile::{Done, Kind, Push};
 use std::alloc::{AllocError, Global};
@@ -89,6 +90,7 @@ pub struct Sim {
     step: i64,
     dir: Direction,
     partial: Partial,
+    shared: StepFrames,
 }
 
 impl Model for Sim {
@@ -132,6 +134,7 @@ impl Sim {
         }) }
     {
         let partial = Partial::new(alloc, frames.cur.count())?;
+        let shared = StepFrames::new(alloc, frames.cur.count())?;
         Ok(Sim {
             atoms: Atoms::new(mix, species_bits),
             prev: frames.prev.into_places(),
@@ -139,6 +142,7 @@ impl Sim {
             step: 0,
             dir: Direction::Forward,
             partial,
+            shared,
         })
     }
 
@@ -157,6 +161,7 @@ impl Sim {
         self.step -= self.dir.sign();
         self.dir = self.dir.turned();
         self.partial.kind = None;
+        self.shared.is_written = false;
     }
 
     /// Adds `d` to the displacement of atom `i` per step, by moving its previous place back. An open step is closed.
@@ -238,6 +243,7 @@ impl Sim {
         self.step = snapshot.step;
         self.dir = snapshot.dir;
         self.partial.kind = None;
+        self.shared.is_written = false;
     }
 
     /// Opens a step of a kind, which awaits the results of all its tiles: one for each two blocks of 64 atoms that may
@@ -253,6 +259,7 @@ impl Sim {
         ensures { self.new
             ≡ record self.old { part = Some (steps.opened_step kind self.old.composition self.old.sim.cur) } }
     {
+        self.shared.write(self.cur.as_slice());
         self.partial.open(kind, &self.atoms, self.cur.as_slice());
     }
 
@@ -308,6 +315,7 @@ impl Sim {
         mem::swap(&mut self.prev, &mut self.cur);
         self.step += self.dir.sign();
         self.partial.kind = None;
+        self.shared.is_written = false;
     }
 
     /// Returns the potential once an energy step is whole: the sum of the energies of all pairs, in units of 2^-24 ε.

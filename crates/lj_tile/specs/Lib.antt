@@ -3,6 +3,8 @@ pub mod Pushes
 pub mod Block
 pub mod Tiles
 pub mod Task
+pub mod Frames
+pub mod SameTasks
 pub mod Blank
 pub mod Rows
 pub mod Pairs

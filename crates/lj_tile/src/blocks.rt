@@ -123,6 +123,13 @@ impl Block {
         self.species_bits = block.species_bits;
     }
 
+    /// Sets which places are of atoms of the second species.
+    pub(crate) fn set_species(&mut self, species_bits: u64)
+        ensures { self.new ≡ record self.old { species_bits = species_bits } }
+    {
+        self.species_bits = species_bits;
+    }
+
     /// Writes to each cache line, of 64 bytes: puts every fifth place to x = 0, and all atoms to the first species.
     pub(crate) fn touch(&mut self)
         ensures { length self.new.places ≡ length self.old.places }
@@ -132,25 +139,6 @@ impl Block {
             places[5 * line].x = 0;
         }
         self.species_bits = 0;
-    }
-
-    /// Returns whether this block has as many places as the other, and its species. It reads no place.
-    #[inline]
-    pub(crate) fn fits(&self, other: &BlockRef<'_>) -> bool
-        ensures { IsTrue result ↔ ((length self.now.places ≡ length other.now.places)
-            × (self.now.species_bits ≡ other.now.species_bits)) }
-    {
-        (self.places().len() == other.places.len()) & (self.species_bits() == other.species_bits)
-    }
-
-    /// Returns whether the places of this block are these, of which there are as many.
-    #[inline]
-    #[tactic(auto, using(crate::proofs::SameLemmas::places_Decides))]
-    pub(crate) fn has_places(&self, places: &[Place]) -> bool
-        requires { length self.now.places ≡ length places.now }
-        ensures { IsTrue result ↔ (self.now.places ≡ places.now) }
-    {
-        is_same_list(self.places(), places)
     }
 
     /// Returns whether the other block is equal.
@@ -163,7 +151,8 @@ impl Block {
     pub fn is(&self, other: &Block) -> bool
         ensures { IsTrue result ↔ (self.now ≡ other.now) }
     {
-        self.fits(&other.by_ref()) && self.has_places(other.places())
+        let block = self.by_ref();
+        block.fits(&other.by_ref()) && block.has_places(other.places())
     }
 }
 
@@ -197,6 +186,49 @@ impl<'a> BlockRef<'a> {
             places,
             species_bits,
         }
+    }
+
+    /// Returns a copy of the block.
+    pub(crate) fn to_block(&self) -> Block
+        requires { length self.now.places ≤ BLOCK }
+        ensures { result ≡ self.now }
+    {
+        Block::new(self.places, self.species_bits)
+    }
+
+    /// Returns the places, in order.
+    #[inline]
+    pub(crate) fn places(&self) -> &'a [Place]
+        ensures value { result.now ≡ self.now.places }
+    {
+        self.places
+    }
+
+    /// Returns which places are of atoms of the second species, bit by bit.
+    #[inline]
+    pub(crate) fn species_bits(&self) -> u64
+        ensures { result ≡ self.now.species_bits }
+    {
+        self.species_bits
+    }
+
+    /// Returns whether this block has as many places as the other, and its species. It reads no place.
+    #[inline]
+    pub(crate) fn fits(&self, other: &BlockRef<'_>) -> bool
+        ensures { IsTrue result ↔ ((length self.now.places ≡ length other.now.places)
+            × (self.now.species_bits ≡ other.now.species_bits)) }
+    {
+        (self.places.len() == other.places.len()) & (self.species_bits == other.species_bits)
+    }
+
+    /// Returns whether the places of this block are these, of which there are as many.
+    #[inline]
+    #[tactic(auto, using(crate::proofs::SameLemmas::places_Decides))]
+    pub(crate) fn has_places(&self, places: &[Place]) -> bool
+        requires { length self.now.places ≡ length places.now }
+        ensures { IsTrue result ↔ (self.now.places ≡ places.now) }
+    {
+        is_same_list(self.places, places)
     }
 }
 

@@ -20,7 +20,7 @@ use crate::near::Columns;
 use crate::near_pairs::{FULL, NearPairs};
 use crate::pair_sums::{add_all, work_off};
 use crate::pairs::Push;
-use crate::tasks::Task;
+use crate::tasks::TaskRef;
 use lj_ring::{Class, Place, Scale, Species};
 use lj_table::Table;
 
@@ -82,14 +82,14 @@ impl ForceSums {
 
 /// Sums the pushes on the places of both blocks, in place of older sums. If the two are one block, the first sums have
 /// it all.
-pub(crate) fn sum_forces(task: &Task, table: &Table, sums: &mut ForceSums)
+pub(crate) fn sum_forces(task: &TaskRef<'_>, table: &Table, sums: &mut ForceSums)
     ensures first { (t : ℕ) → t < length task.now.a.places
         → slice_index_or sums.new.first t no_push ≡ task_force task.now t }
     ensures second { task.now.name.bi < task.now.name.bj → (s : ℕ) → s < length task.now.b.places →
         slice_index_or sums.new.second s no_push ≡ task_second task.now s }
 {
     sum_pairs(task, table, sums);
-    if task.name().bi == task.name().bj {
+    if task.has_one_block() {
         join(sums);
     }
 }
@@ -108,7 +108,7 @@ fn join(sums: &mut ForceSums)
 
 /// Sums over the pairs of atoms i < j, i in the first block and j in the second: it computes each pair once. It gathers
 /// the pairs of each class in a list until there are many of them.
-fn sum_pairs(task: &Task, table: &Table, sums: &mut ForceSums)
+fn sum_pairs(task: &TaskRef<'_>, table: &Table, sums: &mut ForceSums)
     ensures first { (t : ℕ) → t < length task.now.a.places →
         slice_index_or sums.new.first t no_push ≡ sum_on_first task.now t (length task.now.b.places) }
     ensures second { (s : ℕ) → s < length task.now.b.places →
@@ -186,7 +186,7 @@ fn read_sum(_sum: Push)
 /// Returns the places of the first block, bit by bit, that may interact with one of the second. For a block with itself
 /// it makes no test.
 #[inline]
-fn near_rows(task: &Task, columns: &Columns) -> u64
+fn near_rows(task: &TaskRef<'_>, columns: &Columns) -> u64
     requires columns { AreColumnsOf task.now columns.now }
     ensures within { (t : ℕ) → bit_at result t ≡ 1 → t < length task.now.a.places }
     ensures far { (t : ℕ) → t < length task.now.a.places → bit_at result t ≡ 0
@@ -194,7 +194,7 @@ fn near_rows(task: &Task, columns: &Columns) -> u64
 {
     let places = task.first().places();
     let all = lowest_bits(places.len());
-    if task.name().bi == task.name().bj {
+    if task.has_one_block() {
         return all;
     }
     all & columns.rows_near(places)
@@ -205,7 +205,7 @@ fn near_rows(task: &Task, columns: &Columns) -> u64
 fn add_rows(
     rows: u64,
     own: Species,
-    task: &Task,
+    task: &TaskRef<'_>,
     columns: &Columns,
     table: &Table,
     of_firsts: &mut NearPairs,
@@ -238,7 +238,7 @@ fn add_rows(
 fn add_row(
     t: usize,
     own: Species,
-    task: &Task,
+    task: &TaskRef<'_>,
     columns: &Columns,
     table: &Table,
     of_firsts: &mut NearPairs,
@@ -280,7 +280,7 @@ fn add_row(
 fn add_pairs(
     t: usize,
     set: u64,
-    task: &Task,
+    task: &TaskRef<'_>,
     scale: &Scale,
     table: &Table,
     pairs: &mut NearPairs,
@@ -316,12 +316,12 @@ fn lowest_bits(count: usize) -> u64
 
 /// Returns the places of the second block with a later atom than place `t` of the first, bit by bit.
 #[inline]
-fn later(t: usize, task: &Task) -> u64
+fn later(t: usize, task: &TaskRef<'_>) -> u64
     requires { t < length task.now.a.places }
     ensures { (s : ℕ) → is_in result s ≡ (nat_lt s (length task.now.b.places) && are_in_order task.now t s) }
 {
     let all = lowest_bits(task.second().places().len());
-    if task.name().bi < task.name().bj {
+    if !task.has_one_block() {
         return all;
     }
     all & !lowest_bits(t + 1)
@@ -329,7 +329,7 @@ fn later(t: usize, task: &Task) -> u64
 
 /// Returns the sum of the energies of the task's pairs. It gathers the pairs of each class in a list until there are
 /// many of them.
-pub(crate) fn energy_sum(task: &Task, table: &Table) -> i64
+pub(crate) fn energy_sum(task: &TaskRef<'_>, table: &Table) -> i64
     ensures { result ≡ task_energy task.now }
 {
     let (first, second) = (task.first().places(), task.second().places());
@@ -373,7 +373,7 @@ pub(crate) fn energy_sum(task: &Task, table: &Table) -> i64
 fn energy_of_rows(
     rows: u64,
     own: Species,
-    task: &Task,
+    task: &TaskRef<'_>,
     columns: &Columns,
     table: &Table,
     of_firsts: &mut NearPairs,
@@ -408,7 +408,7 @@ fn energy_of_rows(
 fn energy_of_row(
     t: usize,
     own: Species,
-    task: &Task,
+    task: &TaskRef<'_>,
     columns: &Columns,
     table: &Table,
     of_firsts: &mut NearPairs,
@@ -440,7 +440,7 @@ fn energy_of_row(
 fn energy_of_pairs(
     t: usize,
     set: u64,
-    task: &Task,
+    task: &TaskRef<'_>,
     class: &Class,
     table: &Table,
     pairs: &mut NearPairs,

@@ -118,8 +118,8 @@ pub struct TaskNameRef<'a> {
     label: &'a Label,
     step: i64,
     kind: Kind,
-    bi: u8,
-    bj: u8,
+    pub(crate) bi: u8,
+    pub(crate) bj: u8,
 }
 
 impl<'a> Model for TaskNameRef<'a> {

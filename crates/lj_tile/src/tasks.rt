@@ -3,8 +3,10 @@ ghost use Rattle.std.specs.Prelude.{◌≡◌, ◌≤◌, ◌<◌, ◌↔◌, le
 ghost use Rattle.lj_tile.specs.declared.task_name.Kind.TheVariants.{Energy};
 ghost use Rattle.lj_tile.specs.Task.{IsTask};
 ghost use Rattle.lj_tile.specs.Blank.{blank_task};
+ghost use Rattle.lj_tile.specs.Frames.{IsIn};
 
 use crate::blocks::{BLOCK, Block, BlockRef, MAX_BLOCKS};
+use crate::shared_frames::SharedFrame;
 use crate::task_name::{TaskName, TaskNameRef};
 use lj_ring::{Mix, Place, Scale};
 use std::marker::Model;
@@ -18,24 +20,26 @@ use std::marker::Model;
 /// let places = [Place { x: 0, y: 0, z: 0 }, Place { x: 25_165_824, y: 0, z: 0 }];
 /// let task = Task::new(name, mix, Block::new(&places, 0), Block::new(&places, 0));
 /// ```
-#[derive(PartialEq, Eq, Debug, Drop)]
+#[derive(Debug, Drop)]
 pub struct Task {
     name: TaskName,
     mix: Mix,
     first: Block,
     second: Block,
+    /// The frame that it shares, if it shares one. The places of its blocks are there, and `first` and `second` have their species
+    /// alone.
+    frame: Option<SharedFrame>,
 }
 
 impl Model for Task {
-    ghost use Rattle.lj_tile.specs.Task.{Task, IsTask};
+    ghost use Rattle.lj_tile.specs.Task.{Task};
+    ghost use Rattle.lj_tile.specs.Frames.{task_of, IsKept};
 
     ghost Value = { Task };
 
-    ghost view = { λ t. record { name = t.name; mix = t.mix; a = t.first; b = t.second } };
+    ghost view = { λ t. task_of t.name t.mix t.frame t.first t.second };
 
-    ghost inverse = { λ w. record { name = w.name; mix = w.mix; first = w.a; second = w.b } };
-
-    ghost invariant = { λ t. IsTask (record { name = t.name; mix = t.mix; a = t.first; b = t.second }) };
+    ghost invariant = { λ t. IsKept t.name t.mix t.frame t.first t.second };
 }
 
 impl Task {
@@ -60,6 +64,7 @@ impl Task {
             mix,
             first: a,
             second: b,
+            frame: None,
         }
     }
 
@@ -82,6 +87,13 @@ impl Task {
         )
     }
 
+    /// Returns copies of both blocks.
+    fn blocks(&self) -> (Block, Block)
+        ensures { result ≡ (self.now.a, self.now.b) }
+    {
+        (self.first().to_block(), self.second().to_block())
+    }
+
     /// Returns the name of the task.
     ///
     /// ```rust
@@ -95,27 +107,37 @@ impl Task {
         &self.name
     }
 
-    pub(crate) fn mix(&self) -> &Mix
-        ensures { result.now ≡ self.now.mix }
-    {
-        &self.mix
-    }
-
-    pub(crate) fn first(&self) -> &Block
-        ensures value { result.now ≡ self.now.a }
+    /// Returns the first block, by reference to its places.
+    #[inline]
+    pub(crate) fn first(&self) -> BlockRef<'_>
+        ensures value { result ≡ self.now.a }
         ensures sound { IsTask self.now }
     {
-        &self.first
+        match &self.frame {
+            Some(frame) => BlockRef::new(
+                frame.block(usize::from(self.name.bi)),
+                self.first.species_bits(),
+            ),
+            None => self.first.by_ref(),
+        }
     }
 
-    pub(crate) fn second(&self) -> &Block
-        ensures value { result.now ≡ self.now.b }
+    /// Returns the second block, by reference to its places.
+    #[inline]
+    pub(crate) fn second(&self) -> BlockRef<'_>
+        ensures value { result ≡ self.now.b }
         ensures sound { IsTask self.now }
     {
-        &self.second
+        match &self.frame {
+            Some(frame) => BlockRef::new(
+                frame.block(usize::from(self.name.bj)),
+                self.second.species_bits(),
+            ),
+            None => self.second.by_ref(),
+        }
     }
 
-    /// Returns an equal task.
+    /// Returns an equal task, which shares its frame if there is one.
     ///
     /// ```rust
     /// // `task` as in the example of `Task`
@@ -124,12 +146,7 @@ impl Task {
     pub fn copy(&self) -> Task
         ensures { result ≡ self.now }
     {
-        Task {
-            name: self.name.copy(),
-            mix: self.mix,
-            first: self.first.copy(),
-            second: self.second.copy(),
-        }
+        self.by_ref().to_task()
     }
 
     /// Makes this task equal to the other.
@@ -146,24 +163,30 @@ impl Task {
         self.remake(&other.by_ref());
     }
 
-    /// Writes to each cache line of the name and of two different blocks, so that the processor has these lines for itself before
-    /// the task is overwritten. Its step, its places and their species are unspecified afterwards.
+    /// Makes the task ready to be overwritten. It no longer shares a frame. If it shared none, it writes to each cache line of two
+    /// different blocks, so that the processor has these lines for itself before then. Its step, its blocks and their numbers are
+    /// unspecified afterwards.
     ///
     /// ```rust
     /// // `task` as in the example of `Task`
-    /// let mut touched = task.copy();
-    /// touched.touch();
-    /// assert_eq!(touched.name().kind, task.name().kind);
+    /// let mut released = task.copy();
+    /// released.release();
+    /// assert_eq!(released.name().kind, task.name().kind);
     /// ```
-    pub fn touch(&mut self)
+    pub fn release(&mut self)
         ensures label { self.new.name.label ≡ self.old.name.label }
         ensures kind { self.new.name.kind ≡ self.old.name.kind }
         ensures mix { self.new.mix ≡ self.old.mix }
     {
         self.name.step = 0;
-        if self.name.bi < self.name.bj {
-            self.first.touch();
-            self.second.touch();
+        self.name.bi = 0;
+        self.name.bj = 1;
+        match self.frame.take() {
+            Some(_shared) => {}
+            None => {
+                self.first.touch();
+                self.second.touch();
+            }
         }
     }
 
@@ -182,6 +205,12 @@ impl Task {
         if !self.mix.is(task.mix) {
             self.mix = *task.mix;
         }
+        self.frame = task.frame.and_then(|frame| frame.share());
+        if self.frame.is_some() {
+            self.first.set_species(task.first.species_bits);
+            self.second.set_species(task.second.species_bits);
+            return;
+        }
         self.first.remake(&task.first);
         self.second.remake(&task.second);
     }
@@ -199,8 +228,9 @@ impl Task {
         TaskRef {
             name: self.name.by_ref(),
             mix: &self.mix,
-            first: self.first.by_ref(),
-            second: self.second.by_ref(),
+            first: self.first(),
+            second: self.second(),
+            frame: self.frame.as_ref(),
         }
     }
 
@@ -230,32 +260,54 @@ impl Task {
     pub fn is_of(&self, task: &TaskRef<'_>) -> bool
         ensures { IsTrue result ↔ (self.now ≡ task.now) }
     {
-        let fits = self.first.fits(&task.first) & self.second.fits(&task.second);
+        let (first, second) = (self.first(), self.second());
+        let fits = first.fits(&task.first) & second.fits(&task.second);
         fits && self.name.is_of(&task.name)
             && self.mix.is(task.mix)
-            && self.first.has_places(task.first.places)
-            && self.second.has_places(task.second.places)
+            && first.has_places(task.first.places)
+            && second.has_places(task.second.places)
     }
 }
 
+impl PartialEq for Task {
+    ghost use Rattle.lj_tile.specs.SameTasks.{is_same_task, same_task_partial_equiv};
+
+    ghost eq = { is_same_task };
+
+    ghost laws = { same_task_partial_equiv };
+
+    fn eq(&self, other: &Task) -> bool {
+        self.name == other.name && self.mix == other.mix && self.blocks() == other.blocks()
+    }
+}
+
+impl Eq for Task {
+    ghost use Rattle.lj_tile.specs.SameTasks.{same_task_equiv};
+
+    ghost laws = { same_task_equiv };
+}
+
 /// A task by reference: to its label, its mixture and the places of its blocks, which may lie in a frame. So a task is
-/// written from its frame to where it is needed, and nowhere else.
+/// written from its frame to where it is needed, and nowhere else. If it shares the frame, no place is copied.
 #[derive(Drop)]
 pub struct TaskRef<'a> {
     name: TaskNameRef<'a>,
     mix: &'a Mix,
     first: BlockRef<'a>,
     second: BlockRef<'a>,
+    frame: Option<&'a SharedFrame>,
 }
 
 impl<'a> Model for TaskRef<'a> {
-    ghost use Rattle.lj_tile.specs.Task.{Task, IsTask};
+    ghost use Rattle.std.specs.Prelude.{option_copied};
+    ghost use Rattle.lj_tile.specs.Task.{Task};
+    ghost use Rattle.lj_tile.specs.Frames.{IsLent};
 
     ghost Value = { Task };
 
     ghost view = { λ t. record { name = t.name; mix = t.mix.now; a = t.first; b = t.second } };
 
-    ghost invariant = { λ t. IsTask (record { name = t.name; mix = t.mix.now; a = t.first; b = t.second }) };
+    ghost invariant = { λ t. IsLent (option_copied t.frame) (record { name = t.name; mix = t.mix.now; a = t.first; b = t.second }) };
 }
 
 impl<'a> TaskRef<'a> {
@@ -284,7 +336,72 @@ impl<'a> TaskRef<'a> {
             mix,
             first: a,
             second: b,
+            frame: None,
         }
+    }
+
+    /// Returns the task as one that shares the frame in which its blocks lie: its copies share the frame too, and copy no places.
+    ///
+    /// ```rust
+    /// // `task`, `places`, `mix` and `name` as in the example of `Task`
+    /// let mut frame = SharedFrame::new(alloc, 2)?;
+    /// assert!(frame.overwrite(&places));
+    /// let (first, second) = (BlockRef::new(frame.places(), 0), BlockRef::new(frame.places(), 0));
+    /// let shared = TaskRef::new(name.by_ref(), &mix, first, second).sharing(&frame);
+    /// assert!(task.is_of(&shared));
+    /// assert!(shared.to_task().is(&task));
+    /// ```
+    #[inline]
+    pub fn sharing(self, frame: &'a SharedFrame) -> TaskRef<'a>
+        requires { IsIn frame.now self }
+        ensures { result ≡ self.entry }
+    {
+        let TaskRef {
+            name,
+            mix,
+            first,
+            second,
+            ..
+        } = self;
+        TaskRef {
+            name,
+            mix,
+            first,
+            second,
+            frame: Some(frame),
+        }
+    }
+
+    /// Returns whether both blocks are the same.
+    #[inline]
+    pub(crate) fn has_one_block(&self) -> bool
+        ensures value { IsTrue result ↔ (self.now.name.bi ≡ self.now.name.bj) }
+        ensures sound { IsTask self.now }
+    {
+        self.name.bi == self.name.bj
+    }
+
+    #[inline]
+    pub(crate) fn mix(&self) -> &'a Mix
+        ensures { result.now ≡ self.now.mix }
+    {
+        self.mix
+    }
+
+    #[inline]
+    pub(crate) fn first(&self) -> &BlockRef<'a>
+        ensures value { result.now ≡ self.now.a }
+        ensures sound { IsTask self.now }
+    {
+        &self.first
+    }
+
+    #[inline]
+    pub(crate) fn second(&self) -> &BlockRef<'a>
+        ensures value { result.now ≡ self.now.b }
+        ensures sound { IsTask self.now }
+    {
+        &self.second
     }
 
     /// Returns a copy of the task.

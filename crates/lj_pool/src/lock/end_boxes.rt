@@ -171,12 +171,12 @@ impl EndBoxes {
         }
     }
 
-    /// Keeps a spare box.
+    /// Keeps a box whose task was not posted.
     pub(crate) fn push_spare(&mut self, spare: TaskBox)
         requires { length self.old.hand + self.old.spare < MAX_SPARE }
         ensures { self.new ≡ record self.old { spare = self.old.spare + 1 } }
     {
-        self.spare.push(Some(spare));
+        self.spare.push(Some(spare.released()));
     }
 
     /// Takes a result in hand, behind the others.

@@ -9,7 +9,7 @@ ghost use Rattle.lj_pool.specs.Seen.{ArePosted, IsHandedOut, IsPosted, SameOwed,
 use crate::account::Account;
 use crate::lock::end_boxes::EndBoxes;
 use crate::lock::lock_pool::LockPool;
-use crate::pool::{MAX_OWED, MAX_POSTS, NotPosted, Pool};
+use crate::pool::{MAX_OWED, NotPosted, Pool};
 use crate::task_list::TaskList;
 use lj_tile::{DoneRef, TaskRef};
 use std::marker::Model;

@@ -164,9 +164,32 @@ impl Sim {
         task.is_of(&self.tile_task(label, kind, tile))
     }
 
-    /// Returns the task of a tile of the present step, by reference to the places of the frame.
+    /// Returns the task of a tile of the present step, by reference to the places of the frame. It shares the frame if that is
+    /// written for tasks to share.
     #[inline]
     fn tile_task<'a>(&'a self, label: &'a Label, kind: Kind, tile: TileId) -> TaskRef<'a>
+        requires tile { steps.is_tile self.now.composition self.now.sim.cur tile ≡ true }
+        requires within { tile < BLOCK * steps.blocks (length self.now.sim.cur) }
+        ensures { result ≡ steps.task_of self.now label.now kind tile }
+    {
+        if !self.shared.is_written {
+            return self.task_over(self.cur.as_slice(), label, kind, tile);
+        }
+        let frame = &self.shared.present;
+        self.task_over(frame.places(), label, kind, tile)
+            .sharing(frame)
+    }
+
+    /// Returns the task of a tile of the present step, by reference to places, which are those of the frame.
+    #[inline]
+    fn task_over<'a>(
+        &'a self,
+        places: &'a [Place],
+        label: &'a Label,
+        kind: Kind,
+        tile: TileId,
+    ) -> TaskRef<'a>
+        requires frame { places.now ≡ self.now.sim.cur }
         requires tile { steps.is_tile self.now.composition self.now.sim.cur tile ≡ true }
         requires within { tile < BLOCK * steps.blocks (length self.now.sim.cur) }
         ensures { result ≡ steps.task_of self.now label.now kind tile }
@@ -175,8 +198,11 @@ impl Sim {
         TaskRef::new(
             self.name_of(label, kind, tile),
             self.atoms.mix(),
-            BlockRef::new(self.block(first), self.atoms.species_bits(first)),
-            BlockRef::new(self.block(second), self.atoms.species_bits(second)),
+            BlockRef::new(cover::block(places, first), self.atoms.species_bits(first)),
+            BlockRef::new(
+                cover::block(places, second),
+                self.atoms.species_bits(second),
+            ),
         )
     }
 
@@ -187,13 +213,5 @@ impl Sim {
     {
         let (first, second) = (tile.first() as u8, tile.second() as u8);
         TaskNameRef::new(label, self.step, kind, first, second)
-    }
-
-    /// Returns the places of a block.
-    fn block(&self, index: usize) -> &[Place]
-        requires { index < steps.blocks (length self.now.sim.cur) }
-        ensures { result.now ≡ steps.block self.now.sim.cur index }
-    {
-        cover::block(self.cur.as_slice(), index)
     }
 }

@@ -46,3 +46,14 @@ invariant_of-self c =
 pub returns-clause-owed : goal.returns-clause-owed
 returns-clause-owed c =
     tasks_left (goal.at.returns-clause-owed c).After-push ∙ ap (λ s. remove s.owed c.args.here) c.self.view_is
+
+pub returns-clause-room : goal.returns-clause-room
+returns-clause-room c =
+    let p = (goal.at.returns-clause-room c).After-push in
+    let kept = c.self.invariant.0 in
+    let left =
+    kept_left c.self.inside.tasks c.self.inside.places.items c.self.inside.owed c.args.here kept (inside p) in
+    let count : length (tasks_owed c.self.inside.tasks (take (c.self.inside.owed - 1) p.push.new.self.items)) ≡ c.self.inside.owed - 1 =
+    subst (λ xs. length (tasks_owed c.self.inside.tasks (take (c.self.inside.owed - 1) xs)) ≡ c.self.inside.owed - 1)
+    (sym (places_are p)) left.count in
+    omega (arith, count, kept.most, inside p)

@@ -8,4 +8,4 @@ invariant_of-self c =
     let cur = ap (λ v. v.items) c.swap.ensures.y_after in
     with_frames c.self.inside _ c.self.invariant (ap (λ v. v.items) c.swap.ensures.x_after)
     (ap length cur ∙ c.self.invariant.same)
-    (subst AreOnRing (sym cur) c.self.invariant.prev_on_ring) (search rules) (search rules) refl refl
+    (subst AreOnRing (sym cur) c.self.invariant.prev_on_ring) (search rules) (search rules) refl refl refl

@@ -13,11 +13,11 @@ use Rattle.lj_step.proofs.Steps.{whole_of, forces_of, frame_is, turned_is}
 use Rattle.lj_step.proofs.Sound.{with_frames}
 use Rattle.lj_step.proofs.simulations.Sim.turn.Goals as goal
 
-sum_bound : (c : goal.After-self-3-1) → unsigned_abs (c.self.inside.step +ℤ sign_of c.self.inside.dir) ≤ 10 ^ 12
+sum_bound : (c : goal.After-self-4-1) → unsigned_abs (c.self.inside.step +ℤ sign_of c.self.inside.dir) ≤ 10 ^ 12
 sum_bound c = let P : Sim → Type 0 =
     λ v. unsigned_abs (v.sim.step +ℤ v.sim.dir) ≤ 10 ^ 12 in subst P (sym c.self.view_is) c.requires.step
 
-next_step : (c : goal.After-self-3-1) → to_z w64 (of_z w64
+next_step : (c : goal.After-self-4-1) → to_z w64 (of_z w64
     (to_z w64 (of_z w64 c.self.inside.step) +ℤ to_z w64 (of_z w64 c.sign.result)))
     ≡ c.self.inside.step +ℤ sign_of c.self.inside.dir
 next_step c =
@@ -25,7 +25,7 @@ next_step c =
     (rw c.sign.ensures.value (sum_bound c))
     ∙ ap (λ d. c.self.inside.step +ℤ d) c.sign.ensures.value
 
-forces : (c : goal.After-self-3-1) (i : ℕ) → i < length c.as_slice.result.now
+forces : (c : goal.After-self-4-1) (i : ℕ) → i < length c.as_slice.result.now
     → slice_index_or c.as_slice-2.result.now i no_push ≡ force c.self.inside.atoms c.as_slice.result.now i
 forces c i h =
     let kind = ap (λ (v : Sim). kind_of v.part) c.self.view_is ∙ c.requires.kind in
@@ -37,7 +37,7 @@ forces c i h =
     c.self.invariant.partial whole within
     ∙ sym (ap (λ frame. force c.self.inside.atoms frame i) c.as_slice.ensures.value)
 
-next_is : (c : goal.After-self-3-1) → c.swap.new.y.items
+next_is : (c : goal.After-self-4-1) → c.swap.new.y.items
     ≡ next_frame c.self.inside.atoms c.self.inside.prev.items c.self.inside.cur.items
 next_is c =
     ap (λ v. v.items) c.swap.ensures.y_after
@@ -58,4 +58,4 @@ invariant_of-self c =
     with_frames a _ c.self.invariant (ap (λ v. v.items) c.swap.ensures.x_after)
     (ap length (next_is c) ∙ next_frame_length a.atoms a.prev.items a.cur.items)
     (subst AreOnRing (sym (next_is c)) (next_on_ring a.atoms a.prev.items a.cur.items))
-    (rw (next_step c) (sum_bound c)) (search rules) refl refl
+    (rw (next_step c) (sum_bound c)) (search rules) refl refl refl
