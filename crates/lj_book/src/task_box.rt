@@ -3,7 +3,7 @@ ghost use Rattle.std.specs.Prelude.{◌≡◌, ◌+◌, ◌≤◌, ◌<◌, ℕ,
 ghost use Rattle.std.specs.Vec.{vec_capacity};
 
 use lj_table::Table;
-use lj_tile::{Done, DoneRef, Sums, Task, TaskRef, compute_sums};
+use lj_tile::{Done, DoneRef, SharedFrame, Sums, Task, TaskRef, compute_sums};
 use std::alloc::{AllocError, Global};
 use std::marker::Model;
 
@@ -61,7 +61,7 @@ impl TaskBox {
     /// Returns the box, for another task. The one in it shares no frame any more.
     pub fn released(self) -> TaskBox {
         let mut contents = self.contents;
-        contents.as_mut().task.release();
+        drop(contents.as_mut().task.release());
         TaskBox { contents }
     }
 
@@ -120,13 +120,17 @@ impl DoneBox {
         DoneRef::new(&self.contents.task, &self.contents.sums)
     }
 
-    /// Returns the box, for another task. The one in it shares no frame any more. If it shared none, its cache lines, which a worker
-    /// has read, come back while the next result is taken in, and not when another task is copied to them.
+    /// Returns the box, for another task. The one in it shares no frame any more.
     pub fn into_task(self) -> TaskBox {
-        TaskBox {
-            contents: self.contents,
-        }
-        .released()
+        self.into_parts().0
+    }
+
+    /// Returns the box, for another task, and the frame that the one in it shared, if it shared one. To drop the frame waits for all
+    /// that was written before, so it is dropped later, when no cache line of the box is on its way any more.
+    pub fn into_parts(self) -> (TaskBox, Option<SharedFrame>) {
+        let mut contents = self.contents;
+        let frame = contents.as_mut().task.release();
+        (TaskBox { contents }, frame)
     }
 }
 

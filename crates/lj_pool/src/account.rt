@@ -245,7 +245,7 @@ impl Account {
 /// Gives up the frame that a task shares, which is owed no more.
 fn release(kept: &mut Option<Task>) {
     if let Some(older) = kept {
-        older.release();
+        drop(older.take_frame());
     }
 }
 

@@ -14,7 +14,7 @@ use crate::poster::Poster;
 use crate::queue_pool::QueuePool;
 use lj_book::TaskBox;
 use lj_pool::{Account, MAX_OWED, NotPosted, Pool, TASKS_AT_ONCE, UnsignalledPosts};
-use lj_tile::{DoneRef, TaskRef};
+use lj_tile::{DoneRef, SharedFrame, TaskRef};
 use std::marker::Model;
 use std::mem;
 use std::sync::Wait;
@@ -35,6 +35,8 @@ pub struct QueueEnd<'p, L: PoolIdentity, R: Wait> {
     unsignalled: UnsignalledPosts,
     /// Whether the last fetch took all results that were there, so that the next poll need not ask the pool.
     took_all: bool,
+    /// The frame that the task handed out before the last one shared, dropped with the next.
+    older_frame: Option<SharedFrame>,
     ghost whose: { boxes.hand.user ≡ poster.user },
 }
 
@@ -86,6 +88,7 @@ impl<'p, L: PoolIdentity, R: Wait> QueueEnd<'p, L, R> {
             boxes,
             unsignalled: UnsignalledPosts::new(),
             took_all: false,
+            older_frame: None,
         }
     }
 
@@ -285,8 +288,11 @@ impl<'p, L: PoolIdentity, R: Wait> QueueEnd<'p, L, R> {
         let Some(first) = self.boxes.hand.pop(self.poster.user) else {
             return false;
         };
+        self.older_frame = None;
         let older = mem::replace(&mut self.boxes.last, first);
-        self.reuse(older.into_task());
+        let (spare, frame) = older.into_parts();
+        self.older_frame = frame;
+        self.reuse(spare);
         true
     }
 

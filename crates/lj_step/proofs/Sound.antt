@@ -16,13 +16,13 @@ use Rattle.lj_step.specs.Kept.{IsSound, sim_of, sign_of}
 use Rattle.lj_step.specs.Laws.{AreOnRing}
 use Rattle.lj_step.specs.Sim.{Sim}
 use Rattle.lj_step.specs.OpenSteps.{blocks, tile_number_of, task_of, IsAwaitedTask}
-use Rattle.lj_step.specs.Shared.{IsOf}
+use Rattle.lj_step.specs.Shared.{AreFramesOf}
 use Rattle.lj_step.specs.Sums.{CanAdd, HasAdded, HasRoom, IsPartial}
 use Rattle.lj_step.proofs.TakenIn.{awaited_at, accepts, partial_after}
 
 -- with another open step, and frames that its tasks share
 pub with_step : (a : Inside) (p : Partial) (shared : StepFrames) → IsSound a → HasRoom (length a.cur.items) p
-    → IsPartial a.atoms a.cur.items p p.kind → IsOf a.cur.items shared
+    → IsPartial a.atoms a.cur.items p p.kind → AreFramesOf a.cur.items shared
     → IsSound (record a { partial = p; shared = shared })
 with_step a p shared sound room partial frames = record {
   same = sound.same;
@@ -62,7 +62,7 @@ with_frames a b sound prev count cur step last partial atoms shared =
       room = subst (HasRoom (length b.cur.items)) (sym partial)
           (record { pushes = room.pushes; awaited = room.awaited; tiles = room.tiles; arcs = room.arcs });
       partial = subst (λ p. IsPartial b.atoms b.cur.items p p.kind) (sym partial) tt;
-      shared = subst (IsOf b.cur.items) (sym shared) (record {
+      shared = subst (AreFramesOf b.cur.items) (sym shared) (record {
         present = sound.shared.present ∙ sym count;
         last = sound.shared.last ∙ sym count;
         written = λ h. absurd (true≢false (sym h));

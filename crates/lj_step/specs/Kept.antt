@@ -14,7 +14,7 @@ use Rattle.lj_step.specs.Laws.{AreOnRing}
 use Rattle.lj_step.specs.Sim.{Sim, OpenStep}
 use Rattle.lj_step.specs.OpenSteps.{block}
 use Rattle.lj_step.specs.Sums.{HasRoom, IsPartial}
-use Rattle.lj_step.specs.Shared.{IsOf}
+use Rattle.lj_step.specs.Shared.{AreFramesOf}
 
 -- the arcs of a block of a frame
 abbrev pub block_arcs : List Place → ℕ → Arcs
@@ -53,4 +53,4 @@ pub record IsSound (a : Inside) : Type 0 where
   pub last_bound : unsigned_abs (a.step -ℤ sign_of a.dir) ≤ MAX_STEP
   pub room : HasRoom (length a.cur.items) a.partial
   pub partial : IsPartial a.atoms a.cur.items a.partial a.partial.kind
-  pub shared : IsOf a.cur.items a.shared
+  pub shared : AreFramesOf a.cur.items a.shared

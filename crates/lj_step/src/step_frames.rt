@@ -1,6 +1,6 @@
 //! The frames that the tasks of steps share.
 ghost use Rattle.std.specs.Prelude.{◌≡◌, length, false, IfOk};
-ghost use Rattle.lj_step.specs.Shared.{IsOf};
+ghost use Rattle.lj_step.specs.Shared.{AreFramesOf};
 
 use lj_ring::Place;
 use lj_tile::SharedFrame;
@@ -36,7 +36,7 @@ impl StepFrames {
     pub fn write(&mut self, places: &[Place])
         requires present { length self.old.present ≡ length places.now }
         requires last { length self.old.last ≡ length places.now }
-        ensures { IsOf places.now self.new }
+        ensures { AreFramesOf places.now self.new }
     {
         mem::swap(&mut self.present, &mut self.last);
         self.is_written = self.present.overwrite(places);

@@ -3,6 +3,7 @@ use Rattle.std.specs.Prelude.{ℕ, ◌+◌, ◌*◌, ◌≡◌, ◌≤◌, min, 
 use Rattle.lj_ring.specs.declared.coordinates.Place.{Place}
 use Rattle.lj_tile.specs.declared.blocks.TheConstants.{BLOCK}
 use Rattle.lj_tile.specs.declared.task_name.TaskName.{TaskName}
+use Rattle.lj_tile.specs.declared.shared_frames.SharedBlocks.{SharedBlocks}
 use Rattle.lj_ring.specs.Mix.{Mix}
 use Rattle.lj_tile.specs.Block.{Block}
 use Rattle.lj_tile.specs.Task.{Task, IsTask}
@@ -11,10 +12,15 @@ use Rattle.lj_tile.specs.Task.{Task, IsTask}
 abbrev pub frame_block : List Place → ℕ → List Place
 frame_block frame b = slice_range frame (BLOCK * b) (min (BLOCK * b + BLOCK) (length frame))
 
--- a block: its places are its own, or those of block b of a frame that it shares
-abbrev pub block_in : Option (List Place) → ℕ → Block → Block
-block_in None b own = own
-block_in (Some frame) b own = record { places = frame_block frame b; species_bits = own.species_bits }
+-- the first block of a task: its own, or block b of a frame that it shares
+abbrev pub first_in : Option SharedBlocks → ℕ → Block → Block
+first_in None b own = own
+first_in (Some shared) b own = record { places = frame_block shared.frame b; species_bits = shared.first_species }
+
+-- its second block
+abbrev pub second_in : Option SharedBlocks → ℕ → Block → Block
+second_in None b own = own
+second_in (Some shared) b own = record { places = frame_block shared.frame b; species_bits = shared.second_species }
 
 -- the blocks of a task lie in a frame
 pub record IsIn (frame : List Place) (w : Task) : Type 0 where
@@ -28,20 +34,31 @@ abbrev pub IsInShared : Option (List Place) → Task → Type 0
 IsInShared None w = Unit {0}
 IsInShared (Some frame) w = IsIn frame w
 
+-- the blocks of a task are these of a frame
+pub record AreBlocksOf (shared : SharedBlocks) (w : Task) : Type 0 where
+  pub lies : IsIn shared.frame w
+  pub first_species : shared.first_species ≡ w.a.species_bits
+  pub second_species : shared.second_species ≡ w.b.species_bits
+
 -- a task by its parts
-abbrev pub task_of : TaskName → Mix → Option (List Place) → Block → Block → Task
-task_of name mix frame first second =
-    record { name = name; mix = mix; a = block_in frame name.bi first; b = block_in frame name.bj second }
+abbrev pub task_of : TaskName → Mix → Option SharedBlocks → Block → Block → Task
+task_of name mix shared first second =
+    record { name = name; mix = mix; a = first_in shared name.bi first; b = second_in shared name.bj second }
 
 -- a task by reference is sound, and lies in the frame that it shares
-pub record IsLent (frame : Option (List Place)) (w : Task) : Type 0 where
+pub record IsByRef (frame : Option (List Place)) (w : Task) : Type 0 where
   pub sound : IsTask w
   pub shared : IsInShared frame w
 
+-- the blocks of a task lie in the frame that it shares, if it shares one
+abbrev pub AreShared : Option SharedBlocks → Task → Type 0
+AreShared None w = Unit {0}
+AreShared (Some shared) w = IsIn shared.frame w
+
 -- the parts of a task make one, which lies in the frame that it shares, and the two blocks that it keeps have 1 to 64 places
-pub record IsKept (name : TaskName) (mix : Mix) (frame : Option (List Place)) (first second : Block) : Type 0 where
-  pub task : IsTask (task_of name mix frame first second)
-  pub shared : IsInShared frame (task_of name mix frame first second)
+pub record IsKept (name : TaskName) (mix : Mix) (shared : Option SharedBlocks) (first second : Block) : Type 0 where
+  pub task : IsTask (task_of name mix shared first second)
+  pub lies : AreShared shared (task_of name mix shared first second)
   pub some_first : 1 ≤ length first.places
   pub some_second : 1 ≤ length second.places
   pub most_first : length first.places ≤ BLOCK

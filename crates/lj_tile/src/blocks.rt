@@ -123,13 +123,6 @@ impl Block {
         self.species_bits = block.species_bits;
     }
 
-    /// Sets which places are of atoms of the second species.
-    pub(crate) fn set_species(&mut self, species_bits: u64)
-        ensures { self.new ≡ record self.old { species_bits = species_bits } }
-    {
-        self.species_bits = species_bits;
-    }
-
     /// Writes to each cache line, of 64 bytes: puts every fifth place to x = 0, and all atoms to the first species.
     pub(crate) fn touch(&mut self)
         ensures { length self.new.places ≡ length self.old.places }

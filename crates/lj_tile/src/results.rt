@@ -352,9 +352,9 @@ pub fn compute_into(task: &TaskRef<'_>, table: &Table, out: &mut Done)
 pub fn compute_sums(task: &Task, table: &Table, sums: &mut Sums)
     ensures { AreSums task.now sums.new }
 {
-    let lent = task.by_ref();
+    let by_ref = task.by_ref();
     match task.name().kind {
-        Kind::Force => sum_forces(&lent, table, &mut sums.pushes),
-        Kind::Energy => sums.energy = energy_sum(&lent, table),
+        Kind::Force => sum_forces(&by_ref, table, &mut sums.pushes),
+        Kind::Energy => sums.energy = energy_sum(&by_ref, table),
     }
 }

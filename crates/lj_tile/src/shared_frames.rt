@@ -119,3 +119,11 @@ impl SharedFrame {
         &places[start..end]
     }
 }
+
+/// The two blocks of a task in a frame that it shares: the frame, and which places are of atoms of the second species.
+#[derive(Drop)]
+pub(crate) struct SharedBlocks {
+    pub frame: SharedFrame,
+    pub first_species: u64,
+    pub second_species: u64,
+}

@@ -1,5 +1,5 @@
 //! Names of tasks.
-ghost use Rattle.std.specs.Prelude.{◌≡◌, ◌↔◌, IsTrue};
+ghost use Rattle.std.specs.Prelude.{◌≡◌, ◌↔◌, IsTrue, pos};
 ghost use Rattle.lj_tile.specs.Blank.{blank_task};
 
 use lj_base::{Label, Name};
@@ -85,6 +85,15 @@ impl TaskName {
         self.kind = name.kind;
         self.bi = name.bi;
         self.bj = name.bj;
+    }
+
+    /// Makes this the name of another task: of step 0, over the blocks 0 and 1.
+    pub(crate) fn rename(&mut self)
+        ensures { self.new ≡ record self.old { step = pos 0; bi = 0; bj = 1 } }
+    {
+        self.step = 0;
+        self.bi = 0;
+        self.bj = 1;
     }
 
     /// Returns whether the other name is equal. It compares first the blocks, in which the tasks of a step differ.

@@ -1,14 +1,15 @@
 //! Tasks.
-ghost use Rattle.std.specs.Prelude.{◌≡◌, ◌≤◌, ◌<◌, ◌↔◌, length, IsTrue};
+ghost use Rattle.std.specs.Prelude.{◌≡◌, ◌≤◌, ◌<◌, ◌↔◌, length, IsTrue, IfSome};
 ghost use Rattle.lj_tile.specs.declared.task_name.Kind.TheVariants.{Energy};
 ghost use Rattle.lj_tile.specs.Task.{IsTask};
 ghost use Rattle.lj_tile.specs.Blank.{blank_task};
-ghost use Rattle.lj_tile.specs.Frames.{IsIn};
+ghost use Rattle.lj_tile.specs.Frames.{AreBlocksOf, IsIn};
 
 use crate::blocks::{BLOCK, Block, BlockRef, MAX_BLOCKS};
-use crate::shared_frames::SharedFrame;
+use crate::shared_frames::{SharedBlocks, SharedFrame};
 use crate::task_name::{TaskName, TaskNameRef};
 use lj_ring::{Mix, Place, Scale};
+use std::fmt;
 use std::marker::Model;
 
 /// A task: one tile of a step, with all data to compute it. A force task gives the sums of the atoms of both its
@@ -20,15 +21,14 @@ use std::marker::Model;
 /// let places = [Place { x: 0, y: 0, z: 0 }, Place { x: 25_165_824, y: 0, z: 0 }];
 /// let task = Task::new(name, mix, Block::new(&places, 0), Block::new(&places, 0));
 /// ```
-#[derive(Debug, Drop)]
+#[derive(Drop)]
 pub struct Task {
+    /// Its blocks, if they lie in a frame that it shares. Then `first` and `second` are unspecified.
+    shared: Option<SharedBlocks>,
     name: TaskName,
     mix: Mix,
     first: Block,
     second: Block,
-    /// The frame that it shares, if it shares one. The places of its blocks are there, and `first` and `second` have their species
-    /// alone.
-    frame: Option<SharedFrame>,
 }
 
 impl Model for Task {
@@ -37,9 +37,9 @@ impl Model for Task {
 
     ghost Value = { Task };
 
-    ghost view = { λ t. task_of t.name t.mix t.frame t.first t.second };
+    ghost view = { λ t. task_of t.name t.mix t.shared t.first t.second };
 
-    ghost invariant = { λ t. IsKept t.name t.mix t.frame t.first t.second };
+    ghost invariant = { λ t. IsKept t.name t.mix t.shared t.first t.second };
 }
 
 impl Task {
@@ -60,11 +60,11 @@ impl Task {
         ensures { result ≡ record { name = name; mix = mix; a = a; b = b } }
     {
         Task {
+            shared: None,
             name,
             mix,
             first: a,
             second: b,
-            frame: None,
         }
     }
 
@@ -113,10 +113,10 @@ impl Task {
         ensures value { result ≡ self.now.a }
         ensures sound { IsTask self.now }
     {
-        match &self.frame {
-            Some(frame) => BlockRef::new(
-                frame.block(usize::from(self.name.bi)),
-                self.first.species_bits(),
+        match &self.shared {
+            Some(shared) => BlockRef::new(
+                shared.frame.block(usize::from(self.name.bi)),
+                shared.first_species,
             ),
             None => self.first.by_ref(),
         }
@@ -128,10 +128,10 @@ impl Task {
         ensures value { result ≡ self.now.b }
         ensures sound { IsTask self.now }
     {
-        match &self.frame {
-            Some(frame) => BlockRef::new(
-                frame.block(usize::from(self.name.bj)),
-                self.second.species_bits(),
+        match &self.shared {
+            Some(shared) => BlockRef::new(
+                shared.frame.block(usize::from(self.name.bj)),
+                shared.second_species,
             ),
             None => self.second.by_ref(),
         }
@@ -163,31 +163,44 @@ impl Task {
         self.remake(&other.by_ref());
     }
 
-    /// Makes the task ready to be overwritten. It no longer shares a frame. If it shared none, it writes to each cache line of two
-    /// different blocks, so that the processor has these lines for itself before then. Its step, its blocks and their numbers are
-    /// unspecified afterwards.
+    /// Takes the frame that the task shares, if it shares one. Its step, its blocks and their numbers are unspecified afterwards.
     ///
     /// ```rust
     /// // `task` as in the example of `Task`
-    /// let mut released = task.copy();
-    /// released.release();
-    /// assert_eq!(released.name().kind, task.name().kind);
+    /// let mut taken = task.copy();
+    /// assert!(taken.take_frame().is_none());
+    /// assert_eq!(taken.name().kind, task.name().kind);
     /// ```
-    pub fn release(&mut self)
+    pub fn take_frame(&mut self) -> Option<SharedFrame>
         ensures label { self.new.name.label ≡ self.old.name.label }
         ensures kind { self.new.name.kind ≡ self.old.name.kind }
         ensures mix { self.new.mix ≡ self.old.mix }
     {
-        self.name.step = 0;
-        self.name.bi = 0;
-        self.name.bj = 1;
-        match self.frame.take() {
-            Some(_shared) => {}
-            None => {
-                self.first.touch();
-                self.second.touch();
-            }
+        self.name.rename();
+        self.shared.take().map(|shared| shared.frame)
+    }
+
+    /// Makes the task ready to be overwritten by another thread than read it: takes its frame as `take_frame` does or, if it shared
+    /// none, writes to each cache line of its blocks, so that the processor has these lines for itself by then.
+    ///
+    /// ```rust
+    /// // `task` as in the example of `Task`
+    /// let mut released = task.copy();
+    /// assert!(released.release().is_none());
+    /// assert_eq!(released.name().kind, task.name().kind);
+    /// ```
+    pub fn release(&mut self) -> Option<SharedFrame>
+        ensures label { self.new.name.label ≡ self.old.name.label }
+        ensures kind { self.new.name.kind ≡ self.old.name.kind }
+        ensures mix { self.new.mix ≡ self.old.mix }
+    {
+        self.name.rename();
+        let shared = self.shared.take();
+        if shared.is_none() {
+            self.first.touch();
+            self.second.touch();
         }
+        shared.map(|shared| shared.frame)
     }
 
     /// Makes this task equal to one that is given by reference.
@@ -205,14 +218,11 @@ impl Task {
         if !self.mix.is(task.mix) {
             self.mix = *task.mix;
         }
-        self.frame = task.frame.and_then(|frame| frame.share());
-        if self.frame.is_some() {
-            self.first.set_species(task.first.species_bits);
-            self.second.set_species(task.second.species_bits);
-            return;
+        self.shared = task.shared_blocks();
+        if self.shared.is_none() {
+            self.first.remake(&task.first);
+            self.second.remake(&task.second);
         }
-        self.first.remake(&task.first);
-        self.second.remake(&task.second);
     }
 
     /// Returns the task by reference.
@@ -230,7 +240,7 @@ impl Task {
             mix: &self.mix,
             first: self.first(),
             second: self.second(),
-            frame: self.frame.as_ref(),
+            frame: self.shared.as_ref().map(|shared| &shared.frame),
         }
     }
 
@@ -269,6 +279,18 @@ impl Task {
     }
 }
 
+impl fmt::Debug for Task {
+    fn fmt<W: fmt::Write>(&self, f: &mut fmt::Formatter<W>) -> fmt::Result {
+        let (first, second) = self.blocks();
+        f.debug_struct("Task")
+            .field("name", &self.name)
+            .field("mix", &self.mix)
+            .field("first", &first)
+            .field("second", &second)
+            .finish()
+    }
+}
+
 impl PartialEq for Task {
     ghost use Rattle.lj_tile.specs.SameTasks.{is_same_task, same_task_partial_equiv};
 
@@ -301,13 +323,13 @@ pub struct TaskRef<'a> {
 impl<'a> Model for TaskRef<'a> {
     ghost use Rattle.std.specs.Prelude.{option_copied};
     ghost use Rattle.lj_tile.specs.Task.{Task};
-    ghost use Rattle.lj_tile.specs.Frames.{IsLent};
+    ghost use Rattle.lj_tile.specs.Frames.{IsByRef};
 
     ghost Value = { Task };
 
     ghost view = { λ t. record { name = t.name; mix = t.mix.now; a = t.first; b = t.second } };
 
-    ghost invariant = { λ t. IsLent (option_copied t.frame) (record { name = t.name; mix = t.mix.now; a = t.first; b = t.second }) };
+    ghost invariant = { λ t. IsByRef (option_copied t.frame) (record { name = t.name; mix = t.mix.now; a = t.first; b = t.second }) };
 }
 
 impl<'a> TaskRef<'a> {
@@ -370,6 +392,19 @@ impl<'a> TaskRef<'a> {
             second,
             frame: Some(frame),
         }
+    }
+
+    /// Returns its blocks as those of one more task that shares their frame, if they lie in one.
+    #[inline]
+    fn shared_blocks(&self) -> Option<SharedBlocks>
+        ensures { IfSome result (λ shared. AreBlocksOf shared self.now) }
+    {
+        let frame = self.frame?.share()?;
+        Some(SharedBlocks {
+            frame,
+            first_species: self.first.species_bits,
+            second_species: self.second.species_bits,
+        })
     }
 
     /// Returns whether both blocks are the same.

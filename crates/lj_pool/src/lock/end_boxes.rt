@@ -10,7 +10,7 @@ use crate::pool::MAX_POSTS;
 use crate::task_list::TaskList;
 use arrayvec::ArrayVec;
 use lj_book::{DoneBox, TaskBox};
-use lj_tile::{Done, DoneRef, TaskRef};
+use lj_tile::{Done, DoneRef, SharedFrame, TaskRef};
 use std::marker::Model;
 use std::mem;
 
@@ -34,6 +34,8 @@ pub(crate) struct EndBoxes {
     spare: ArrayVec<Option<TaskBox>, MAX_SPARE>,
     /// Whether the last fetch took all results that the pool had, so that the next poll need not ask it.
     took_all: bool,
+    /// The frame that the task handed out before the last one shared, dropped with the next.
+    older_frame: Option<SharedFrame>,
 }
 
 impl Model for EndBoxes {
@@ -62,6 +64,7 @@ impl EndBoxes {
             hand: ArrayVec::new(),
             spare: ArrayVec::new(),
             took_all: false,
+            older_frame: None,
         }
     }
 
@@ -194,8 +197,11 @@ impl EndBoxes {
         ensures { self.new
             ≡ record self.old { last = Some done; spare = self.old.spare + cond (is_some self.old.last) 1 0 } }
     {
+        self.older_frame = None;
         if let Some(older) = self.last.replace(done) {
-            self.spare.push(Some(older.into_task()));
+            let (spare, frame) = older.into_parts();
+            self.older_frame = frame;
+            self.spare.push(Some(spare));
         }
     }
 

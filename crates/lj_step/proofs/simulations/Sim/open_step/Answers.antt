@@ -1,6 +1,6 @@
 use Rattle.std.proofs.Common.{length, subst}
 use Rattle.lj_step.specs.Sums.{HasRoom}
-use Rattle.lj_step.specs.Shared.{IsOf}
+use Rattle.lj_step.specs.Shared.{AreFramesOf}
 use Rattle.lj_step.proofs.Sound.{with_step}
 use Rattle.lj_step.proofs.Steps.{opened_partial}
 use Rattle.lj_step.proofs.simulations.Sim.open_step.Goals as goal
@@ -15,4 +15,4 @@ invariant_of-self c =
     (opened_partial a.atoms c.as_slice-2.result.now a.cur.items c.open.new.self c.args.kind
     frame c.self.invariant.cur_on_ring c.self.invariant.most
     opened.kind opened.tiles opened.awaited opened.left opened.pushes opened.energy)
-    (subst (λ f. IsOf f c.write.new.self) c.as_slice.ensures.value c.write.ensures)
+    (subst (λ f. AreFramesOf f c.write.new.self) c.as_slice.ensures.value c.write.ensures)
