@@ -153,34 +153,35 @@ fn post_some<P: Pool>(owner: &mut Owner, pool: &mut P) -> bool
     let Some(cursor) = owner.first_tile() else {
         return false;
     };
-    let tasks = next_tasks(owner, &cursor, pool.room().min(MAX_POSTS));
-    let count = tasks.len();
-    if count == 0 {
-        return false;
-    }
-    let posted = pool.post_some(&tasks);
-    drop(tasks);
+    let (count, posted) = {
+        let mut tasks = TaskList::new();
+        add_next(owner, &cursor, pool.room().min(MAX_POSTS), &mut tasks);
+        let count = tasks.len();
+        if count == 0 {
+            return false;
+        }
+        (count, pool.post_some(&tasks))
+    };
     note_posted(owner, posted);
     posted == count
 }
 
-/// Returns at most `most` of the next tasks, from the cursor at the first of them on, and posts none.
-fn next_tasks<'a>(owner: &'a Owner, cursor: &'a TileCursor, most: usize) -> TaskList<'a>
+/// Adds at most `most` of the next tasks, from the cursor at the first of them on, to a list without tasks, and posts none.
+fn add_next<'a>(owner: &'a Owner, cursor: &'a TileCursor, most: usize, tasks: &mut TaskList<'a>)
     requires first { IsPostedTo cursor.now cursor.now.from owner.now owner.now }
     requires few { most ≤ MAX_POSTS }
-    ensures most { length result ≤ most }
-    ensures next { AreNext (length result) result owner.now }
+    requires empty { tasks.old ≡ [] }
+    ensures most { length tasks.new ≤ most }
+    ensures next { AreNext (length tasks.new) tasks.new owner.now }
 {
-    let mut tasks = TaskList::new();
     let mut from = cursor.from();
     for _here in 0..most {
         let Some((task, next)) = owner.task_from(cursor, from) else {
-            return tasks;
+            return;
         };
         tasks.push(task);
         from = next;
     }
-    tasks
 }
 
 /// Records the next `posted` tasks as posted.

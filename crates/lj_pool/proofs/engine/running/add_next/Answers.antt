@@ -3,7 +3,7 @@ use Rattle.std.proofs.lemmas.List.{length-append}
 use Rattle.lj_session.specs.Cursors.{IsPostedTo}
 use Rattle.lj_pool.specs.Posting.{AreNext, after_posts}
 use Rattle.lj_pool.proofs.Posts.{after_more, next_more}
-use Rattle.lj_pool.proofs.engine.running.next_tasks.Goals as goal
+use Rattle.lj_pool.proofs.engine.running.add_next.Goals as goal
 
 pub loop-here-preserved : goal.loop-here-preserved
 loop-here-preserved c =

@@ -1,7 +1,7 @@
 use Rattle.std.proofs.Common.{◌≡◌, length}
 use Rattle.lj_session.specs.Cursors.{IsPostedTo}
 use Rattle.lj_pool.specs.Posting.{AreNext, after_posts}
-use Rattle.lj_pool.proofs.engine.running.next_tasks.Given as goal
+use Rattle.lj_pool.proofs.engine.running.add_next.Given as goal
 
 abbrev pub invariant-loop-here : goal.invariant-loop-here
 invariant-loop-here l = record {
