@@ -136,7 +136,7 @@ impl Account {
         ensures closed { self.new.closed ≡ self.old.closed }
     {
         self.take_off(here);
-        self.release_last();
+        self.take_last_frame();
         self.expected = self.expected.saturating_add(1);
     }
 
@@ -232,18 +232,18 @@ impl Account {
         self.owed -= 1;
     }
 
-    /// Gives up the frame that the task in the last place shares. It is owed no more.
-    fn release_last(&mut self)
+    /// Takes the frame that the task in the last place shares. It is owed no more.
+    fn take_last_frame(&mut self)
         requires { length self.old.owed < MAX_OWED }
         ensures { self.new ≡ self.old }
     {
         let place = usize::from(self.places[MAX_OWED - 1]);
-        release(&mut self.tasks[place]);
+        take_frame(&mut self.tasks[place]);
     }
 }
 
-/// Gives up the frame that a task shares, which is owed no more.
-fn release(kept: &mut Option<Task>) {
+/// Takes the frame that a task shares, which is owed no more.
+fn take_frame(kept: &mut Option<Task>) {
     if let Some(older) = kept {
         drop(older.take_frame());
     }

@@ -100,14 +100,12 @@ impl<'p, L: PoolIdentity, R: Wait> QueueEnd<'p, L, R> {
             rt,
             pool,
             poster,
-            boxes,
-            unsignalled,
+            mut boxes,
+            mut unsignalled,
             ..
         } = self;
-        let mut unsignalled = unsignalled;
         pool.wake_workers(rt, unsignalled.take_due(1));
         let Poster { counted, user, .. } = poster;
-        let mut boxes = boxes;
         pool.spares.clear(rt, &mut boxes.hand, user);
         PoolPass::new(counted, boxes)
     }

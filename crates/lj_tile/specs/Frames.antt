@@ -1,5 +1,5 @@
 -- Frames, their blocks, and tasks whose blocks lie in one.
-use Rattle.std.specs.Prelude.{ℕ, ◌+◌, ◌*◌, ◌≡◌, ◌≤◌, min, List, length, slice_range, Option, Some, None}
+use Rattle.std.specs.Prelude.{ℕ, ◌+◌, ◌*◌, ◌≡◌, ◌≤◌, min, List, length, slice_range, Option, Some, None, option_map}
 use Rattle.lj_ring.specs.declared.coordinates.Place.{Place}
 use Rattle.lj_tile.specs.declared.blocks.TheConstants.{BLOCK}
 use Rattle.lj_tile.specs.declared.task_name.TaskName.{TaskName}
@@ -50,15 +50,10 @@ pub record IsByRef (frame : Option (List Place)) (w : Task) : Type 0 where
   pub sound : IsTask w
   pub shared : IsInShared frame w
 
--- the blocks of a task lie in the frame that it shares, if it shares one
-abbrev pub AreShared : Option SharedBlocks → Task → Type 0
-AreShared None w = Unit {0}
-AreShared (Some shared) w = IsIn shared.frame w
-
 -- the parts of a task make one, which lies in the frame that it shares, and the two blocks that it keeps have 1 to 64 places
 pub record IsKept (name : TaskName) (mix : Mix) (shared : Option SharedBlocks) (first second : Block) : Type 0 where
   pub task : IsTask (task_of name mix shared first second)
-  pub lies : AreShared shared (task_of name mix shared first second)
+  pub lies : IsInShared (option_map (λ s. s.frame) shared) (task_of name mix shared first second)
   pub some_first : 1 ≤ length first.places
   pub some_second : 1 ≤ length second.places
   pub most_first : length first.places ≤ BLOCK

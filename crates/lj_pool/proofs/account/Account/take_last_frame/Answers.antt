@@ -4,7 +4,7 @@ use Rattle.lj_pool.specs.declared.pool.TheConstants.{MAX_OWED}
 use Rattle.lj_pool.specs.Accounts.{IsKept, tasks_owed}
 use Rattle.lj_step.specs.OpenSteps.{tile_number_of}
 use Rattle.lj_pool.proofs.Places.{place_within, works_released, kept_released}
-use Rattle.lj_pool.proofs.account.Account.release_last.Goals as goal
+use Rattle.lj_pool.proofs.account.Account.take_last_frame.Goals as goal
 
 pub bounds-self-inside-place : goal.bounds-self-inside-place
 bounds-self-inside-place c =
@@ -25,11 +25,11 @@ invariant_of-self c =
     let behind : owed ≤ 63 = omega (arith, c.requires, kept.count, ap (λ s. length s.owed) c.self.view_is) in
     let within : 63 < length places = omega (arith, kept.all) in
     let is = c.from-place.ensures ∙ ap (λ xs. get_or xs 63 0) c.deref.ensures.0 in (
-      subst (λ k. IsKept (set tasks k c.release.new.kept) places owed) (sym is)
-          (kept_released tasks places owed 63 c.release.new.kept kept behind within),
+      subst (λ k. IsKept (set tasks k c.take_frame.new.kept) places owed) (sym is)
+          (kept_released tasks places owed 63 c.take_frame.new.kept kept behind within),
       c.self.invariant.1 ∙ sym (ap (map tile_number_of)
-          (ap (λ k. tasks_owed (set tasks k c.release.new.kept) (take owed places)) is
-          ∙ works_released tasks places owed 63 c.release.new.kept kept behind within)),
+          (ap (λ k. tasks_owed (set tasks k c.take_frame.new.kept) (take owed places)) is
+          ∙ works_released tasks places owed 63 c.take_frame.new.kept kept behind within)),
     )
 
 pub returns : goal.returns
@@ -45,6 +45,6 @@ returns c =
       expected = c.self.inside.expected;
       strays = c.self.inside.strays;
       closed = c.self.inside.closed;
-    }) (ap (λ k. tasks_owed (set tasks k c.release.new.kept) (take owed places)) is
-    ∙ works_released tasks places owed 63 c.release.new.kept kept behind (omega (arith, kept.all)))
+    }) (ap (λ k. tasks_owed (set tasks k c.take_frame.new.kept) (take owed places)) is
+    ∙ works_released tasks places owed 63 c.take_frame.new.kept kept behind (omega (arith, kept.all)))
     ∙ c.self.view_is
