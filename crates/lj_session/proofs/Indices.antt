@@ -1,6 +1,10 @@
 -- An index that was looked up, and the session that stands there.
-use Rattle.std.proofs.Common.{◌≡◌, ℕ, ◌+◌, ◌<◌, true, false, List, length, Option, Some, None, position, refl, sym, ◌∙◌, ap, arith}
-use Rattle.std.proofs.lemmas.Option.{same_Some, slice_get-map}
+use Rattle.std.proofs.Common.{◌≡◌, ℕ, ◌+◌, ◌<◌, true, false, List, [], ◌∷◌, length, map, get_or, slice_get, Option, Some, None, position}
+use Rattle.std.proofs.Common.{Bool, suc, cond, refl, sym, ◌∙◌, ap, arith}
+use Rattle.std.proofs.lemmas.Bool.{lt-ltb}
+use Rattle.std.proofs.lemmas.List.Quantifiers.{position-Some}
+use Rattle.std.proofs.lemmas.Option.{same_Some, slice_get-map, slice_get-get_or}
+use Rattle.std.proofs.lemmas.Slice.Eq.{bytes_eq-Decides}
 use Rattle.std.specs.Option.{option_map_or, option_and_then}
 use Rattle.std.specs.Str.{bytes_eq}
 use Rattle.indexmap.proofs.MapLemmas.{Found-position, Missing-position}
@@ -28,6 +32,27 @@ module _ (state : UserState) (name : List ℕ) where
   pub index-held : (i : ℕ) → position (bytes_eq name) (names state) ≡ Some i → live_session state name ≡ live_session_at state i
   index-held i e =
       (Found-position (bytes_eq name) state.sessions i e).value ∙ slice_get-map (λ entry. entry.1) state.sessions i
+
+  -- the name stands at its index
+  pub index-named : (i : ℕ) → position (bytes_eq name) (names state) ≡ Some i → slice_get (names state) i ≡ Some name
+  index-named i e =
+      let found = position-Some (bytes_eq name) (names state) i [] e in
+      let same = (bytes_eq-Decides name (get_or (names state) i [])).0 found.1 in
+      slice_get-get_or (names state) i [] found.0 ∙ ap (λ n. Some n) (sym same)
+
+-- a name that stands first is found there
+pub first-named : {A : Type 0} (es : List (List ℕ × A)) (name : List ℕ) (entry : List ℕ × A) → slice_get es 0 ≡ Some entry
+    → bytes_eq name entry.0 ≡ true → position (bytes_eq name) (map (λ e. e.0) es) ≡ Some 0
+first-named {A} [] name entry at same = absurd (none_some at)
+  where
+    none_some : None ≡ Some entry → ⊥
+    none_some e = cc
+first-named {A} (e ∷ es) name entry at same =
+    rw (ap (λ (x : List ℕ × A). bytes_eq name x.0) (is e at) ∙ same)
+    (ap (λ (b : Bool). cond b (Some 0) None) (lt-ltb 0 (suc (length (map (λ (x : List ℕ × A). x.0) es))) (omega arith)))
+  where
+    is : (x : List ℕ × A) → Some x ≡ Some entry → x ≡ entry
+    is x k = cc
 
 -- a session that a command waits for, at its index
 pub record WaitedAt (state : UserState) (command : Command) (i : ℕ) : Type 0 where

@@ -93,11 +93,15 @@ impl UserState {
         self.used
     }
 
-    /// Returns the index of a session in the order of loading; None where no session has the name.
+    /// Returns the index of a session in the order of loading; None where no session has the name. The name of the first session is
+    /// compared before any is hashed, since most users have one session.
     pub fn index_of(&self, name: &Name) -> Option<usize>
         ensures { result ≡ position (bytes_eq name.now) (names self.now) }
     {
-        self.sessions.get_index_of(name)
+        match self.sessions.get_index(0) {
+            Some((first, _)) if name == first => Some(0),
+            _ => self.sessions.get_index_of(name),
+        }
     }
 
     /// Returns the name of the i-th session, in order of loading.

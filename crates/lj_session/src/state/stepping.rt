@@ -130,10 +130,13 @@ impl UserState {
         ensures user { user_of self.new ≡ user_of self.old }
         ensures unchanged { OnErr result (self.new ≡ self.old) }
     {
-        let Some(session) = self.sessions.get_mut(&label.session) else {
+        let Some(i) = self.index_of(&label.session) else {
             return Err(NotAwaited);
         };
-        session.accept_from(label, done)
+        self.sessions
+            .get_index_mut(i)
+            .unwrap()
+            .accept_from(label, done)
     }
 
     /// Returns whether a step is open in a session and all its tiles are in.
