@@ -1,14 +1,15 @@
 -- The task at a cursor, and the cursor behind it.
-use Rattle.std.proofs.Common.{◌≡◌, ℕ, slice_get, Some, refl, sym, ap, ◌∙◌, subst}
+use Rattle.std.proofs.Common.{◌≡◌, ℕ, slice_get, Some, None, refl, sym, ap, ◌∙◌, subst}
 use Rattle.std.specs.Prelude.{is_some}
 use Rattle.std.specs.Option.{option_and_then}
 use Rattle.std.proofs.lemmas.Bool.{true≢false}
 use Rattle.std.proofs.lemmas.Option.{same_Some}
+use Rattle.lj_base.specs.declared.names.Label.{Label}
 use Rattle.lj_tile.specs.Task.{Task}
 use Rattle.lj_session.specs.declared.tile_cursor.TileCursor.{TileCursor}
 use Rattle.lj_session.specs.Cursors.{IsAtFirst, IsPostedTo}
 use Rattle.lj_session.specs.Owner.{Owner, label_of, next_task_of, task_of_session, next_session, state_changed_in, with_state, with_task_posted}
-use Rattle.lj_session.specs.UserState.{LiveSession, UserState, NoTaskBefore, live_session, names, next_of}
+use Rattle.lj_session.specs.UserState.{LiveSession, UserState, NoTaskBefore, live_session, names, next_of, next_task}
 use Rattle.lj_session.specs.UserState.{with_posted, with_session_changed}
 use Rattle.lj_session.proofs.Entries.{named-put_any}
 use Rattle.lj_session.proofs.Firsts.{find-at}
@@ -79,3 +80,10 @@ module _ (cursor : TileCursor) (from : ℕ) (owner later : Owner) (p : IsPostedT
     same_names = names-changed later.state p.name with_posted ∙ p.same_names;
     number = p.number;
   })
+
+-- a session that has no task from a position on has none once all tasks before it are posted
+pub none-left : (cursor : TileCursor) (from : ℕ) (owner later : Owner) (p : IsPostedTo cursor from owner later)
+    → next_of cursor.label (Some (record p.held { passed = from })) ≡ None → next_task later.state cursor.label ≡ None
+none-left cursor from owner later p none =
+    ap (λ (l : Label). next_of cursor.label (live_session later.state l.session)) p.label
+    ∙ ap (next_of cursor.label) p.there ∙ none

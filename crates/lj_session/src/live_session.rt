@@ -251,6 +251,8 @@ impl LiveSession {
             IfSome result (λ found. states.next_of label.now (Some held) ≡ Some found.0) }
         ensures passes { let held = record self.now { passed = from } in
             IfSome result (λ found. states.with_posted held ≡ record held { passed = found.1 }) }
+        ensures none { let held = record self.now { passed = from } in
+            IfNone result (states.next_of label.now (Some held) ≡ None) }
     {
         let i = self.next_tile_from(from)?;
         let _tiles = self.sim.tiles();

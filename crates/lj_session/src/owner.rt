@@ -6,7 +6,7 @@ ghost use Rattle.std.specs.Str.{bytes_eq};
 ghost use Rattle.lj_session.specs.Answers.{AnswersAlike};
 ghost use Rattle.lj_session.specs.UserState.{OthersKept, StepsFollow, is_measured};
 ghost use Rattle.lj_session.specs.UserState.{is_whole_in, names, with_steps_restarted};
-ghost use Rattle.lj_session.specs.UserState.{IsAtWork, index_waited_for, turns_before, user_of};
+ghost use Rattle.lj_session.specs.UserState.{IsAtWork, index_waited_for, next_task, turns_before, user_of};
 ghost use Rattle.lj_session.specs.Owner.{IsAnswered, IsAwaitedIn, IsLastTurn, IsSettled};
 ghost use Rattle.lj_session.specs.Owner.{WaitsAlike};
 ghost use Rattle.lj_session.specs.Owner.{state_begun, command_left};
@@ -157,6 +157,8 @@ impl Owner {
             → next_task_of later ≡ Some found.0) }
         ensures moved { IfSome result (λ found. (later : Owner) → IsPostedTo cursor.now from self.now later
             → IsPostedTo cursor.now found.1 self.now (with_task_posted later)) }
+        ensures none { IfNone result ((later : Owner) → IsPostedTo cursor.now from self.now later
+            → next_task later.state cursor.now.label ≡ None) }
     {
         if cursor.session >= self.state.len() {
             return None;

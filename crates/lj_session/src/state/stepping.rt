@@ -100,6 +100,8 @@ impl UserState {
             → states.next_of label.now (Some (record held { passed = from })) ≡ Some found.0) }
         ensures passes { IfSome result (λ found. (held : LiveSession) → live_session_at self.now i ≡ Some held
             → with_posted (record held { passed = from }) ≡ record held { passed = found.1 }) }
+        ensures none { IfNone result ((held : LiveSession) → live_session_at self.now i ≡ Some held
+            → states.next_of label.now (Some (record held { passed = from })) ≡ None) }
     {
         self.at(i).task_from(from, label)
     }
