@@ -21,7 +21,7 @@ pub fn lock_soon<'m, T, R: Wait>(rt: &R, mutex: &'m Mutex<T>) -> MutexGuard<'m, 
     mutex.lock(rt)
 }
 
-/// Waits for about as long as a lock is held.
+/// Waits for less than a microsecond.
 fn pause() {
     for _ in 0..PAUSES {
         hint::spin_loop();

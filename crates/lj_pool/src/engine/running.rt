@@ -2,6 +2,7 @@
 ghost use Rattle.std.specs.Prelude.{◌≡◌, ◌+◌, ◌<◌, ◌≤◌, length, ℕ, Bool, true, false, [], Some, None, Ok, IsSome, IfOk, IfErr, IfSome, OnErr};
 ghost use Rattle.lj_session.specs.Cursors.{IsPostedTo};
 ghost use Rattle.lj_session.specs.Owner.{next_task_of, ready_session};
+ghost use Rattle.lj_session.specs.UserState.{next_task};
 ghost use Rattle.lj_pool.specs.declared.engine.running.Halt.TheVariants.{TooManyStrays};
 ghost use Rattle.lj_pool.specs.Seen.{IsStray, SameOwed};
 ghost use Rattle.lj_pool.specs.Gathering.{Gathers};
@@ -166,13 +167,16 @@ fn post_some<P: Pool>(owner: &mut Owner, pool: &mut P) -> bool
     posted == count
 }
 
-/// Adds at most `most` of the next tasks, from the cursor at the first of them on, to a list without tasks, and posts none.
+/// Adds the next tasks of the cursor's session, from the cursor at the first of them on, to a list without tasks: `most` of them,
+/// or all if there are fewer. It posts none.
 fn add_next<'a>(owner: &'a Owner, cursor: &'a TileCursor, most: usize, tasks: &mut TaskList<'a>)
     requires first { IsPostedTo cursor.now cursor.now.from owner.now owner.now }
     requires few { most ≤ MAX_POSTS }
     requires empty { tasks.old ≡ [] }
     ensures most { length tasks.new ≤ most }
     ensures next { AreNext (length tasks.new) tasks.new owner.now }
+    ensures all { length tasks.new < most
+        → next_task (after_posts (length tasks.new) owner.now).state cursor.now.label ≡ None }
 {
     let mut from = cursor.from();
     for _here in 0..most {
