@@ -4,6 +4,7 @@ import time
 import pytest
 from shared.argon import load_argon
 from shared.loads import LOAD, LOADED
+from shared.program import wait_until
 from shared.served import Servers
 from shared.serving import DENIED
 from shared.texts import must_be
@@ -124,7 +125,7 @@ def test_a_client_that_does_not_read_holds_back_only_its_user(serve: Servers) ->
 @pytest.mark.parametrize("count, rounds", [(28, 16), (2, 64)])
 def test_users_come_in_turn_round_after_round(serve: Servers, count: int, rounds: int) -> None:
     """Each user's next connection waits while all are inside, who leave from the last user to the first. Every other user has
-    a session of its own name."""
+    a session of its own name. A connection counts as open until its thread has ended."""
     names = [f"u{number:02}" for number in range(count)]
     lists = {name: f"OK LIST 1\n{name} 0 2 0\n".encode() for name in names[::2]}
     lists.update((name, b"OK LIST 0\n") for name in names[1::2])
@@ -133,6 +134,8 @@ def test_users_come_in_turn_round_after_round(serve: Servers, count: int, rounds
     for name in names[::2]:
         inside[name].says(LOAD.replace(b" a ", f" {name} ".encode()), f"OK LOAD {name} 0 2\n".encode())
     for _ in range(rounds):
+        have_ended = wait_until(lambda: server.status("Threads") == 2 + count, AT_ONCE)
+        assert have_ended, f"{server.status('Threads')} threads for {count} connections"
         waiting = {name: server.connect() for name in names}
         for name in names:
             waiting[name].send(hello(name) + b"LIST\n")
