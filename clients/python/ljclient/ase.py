@@ -20,7 +20,7 @@ import contextlib
 import operator
 from typing import Any, Dict, Iterator, Optional, Sequence
 
-from . import ase_bridge, optional
+from . import arrays, ase_bridge, optional
 from .arrays import least_images, numpy
 from .ase_bridge import TIME_UNIT
 from .centred import three_frames
@@ -177,8 +177,7 @@ class ReversibleVerlet(_Driver):  # type: ignore[misc]
         three, ring = three_frames(self._user, name), RING / self.session.edge
         velocities = numpy.array(ase_bridge.velocities_of(atoms) or numpy.zeros((len(atoms), 3)))
         moved = numpy.rint(velocities * self.session.scale.time(1) * ring - least_images(three.after, three.now) / 2).astype(int)
-        for atom in numpy.flatnonzero(moved.any(axis=1)):
-            self.session.tug(atom, moved[atom])
+        self.session._tug_all(moved.tolist(), arrays.listed(three.before))
         self._path = Path(name)
         cells = numpy.rint((atoms.get_positions() * ring - three.now) / RING).astype(int)
         self._start = three.now + cells * RING

@@ -5,6 +5,7 @@ its coordinates, and these two tell the edge.
 """
 from __future__ import annotations
 
+from dataclasses import replace
 from typing import TYPE_CHECKING, NamedTuple, Optional, Sequence, Tuple, Union
 
 from . import arrays, frames
@@ -43,7 +44,7 @@ def take_up(user: "Loader", name: str, scale: Optional[Scale], order: Union[Orde
     Raises ValueError, and changes nothing, if the server has the session in another box than these.
     """
     known = user.known(name)
-    said = known.order if order is None else Order.of(order)
+    said = certain(user, name, known.order if order is None else Order.of(order))
     on_ring, is_open = known.order.on_ring, known.is_box_open
     edge = None if scale is None else checked_positive("edge", scale.edge)
     is_new = edge is not None and (is_open or known.scale is None or known.scale.edge != edge)
@@ -58,6 +59,19 @@ def take_up(user: "Loader", name: str, scale: Optional[Scale], order: Union[Orde
     if order is not None:
         known.order, known.symbols, known.branches = said, (), {}
     known.set_box(on_ring, is_open)
+
+
+def certain(user: "Loader", name: str, order: Order) -> Order:
+    """An order without its doubt: which of both the session has is told by the place of an atom. ValueError if neither."""
+    doubt = order.doubt
+    if doubt is None:
+        return order
+    place = frames.place(user, name, doubt.number)
+    if place == doubt.place:
+        return replace(order, doubt=None)
+    if place == doubt.other:
+        return replace(order, numbers=doubt.numbers, doubt=None)
+    raise ValueError(f"a connection was lost while {name} was sorted anew, and it has gone on since: its order is not known")
 
 
 def settle(user: "Loader", name: str) -> None:

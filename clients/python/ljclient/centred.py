@@ -1,7 +1,7 @@
 """Three frames in a row: the present one and those a step before and after it, of which velocities and forces are differences.
 
-The frame after is made by a step, which is undone: a step, REVERSE, a step and REVERSE give back both frames, the step number
-and the direction, to the bit. What is saved in the session stays as it is, and neither a name nor a quota is taken.
+For the frame before the motion is turned back, and for the frame after a step is made. Both are undone (`guards.look`), and give
+back both frames, the step number and the direction, to the bit. What is saved in the session stays as it is.
 """
 from __future__ import annotations
 
@@ -60,5 +60,6 @@ def three_frames(user: "User", name: str) -> ThreeFrames:
     told = frames.three_dumped(user, name) if known.order.on_ring else frames.three_shown(user, name, user.row(name).atoms)
     order = user.known(name).order
     before, now, after = (order.for_user(each.places) for each in told)
+    user.known(name).direction = told[2].step - told[1].step
     step, following = (order.step_of(each.step) for each in told[1:])
     return ThreeFrames(step, before, now, after, following - step)

@@ -7,12 +7,15 @@ from typing import Any, Dict, Optional, Tuple, Type
 class ClientError(Exception):
     """Any fault of the connection, of the program, or of what was asked for.
 
-    rescued     where it came while a session was dropped to be loaded again: the text of a file that `User.load_saved` takes
     unanswered  where it came while a reply was awaited: the command line, which may be a piece of what was asked
+    more        where it came while a session was changed, replaced or looked at: what that was before, or where it is
     """
 
-    rescued: Optional[str] = None
     unanswered: Optional[str] = None
+    more: str = ""
+
+    def __str__(self) -> str:
+        return f"{super().__str__()}; {self.more}" if self.more else super().__str__()
 
 
 class CannotStart(ClientError):

@@ -9,7 +9,7 @@ from typing import TYPE_CHECKING, Any, List, Sequence, Tuple
 
 from . import arrays, reading
 from .errors import BadReply
-from .interrupts import held
+from .guards import look
 from .order import Place
 from .reading import Frame, Places
 from .units import RING, nano
@@ -43,26 +43,26 @@ def shown(user: "Loader", name: str, count: int) -> Tuple[Places, ...]:
 
 
 def both_shown(user: "Loader", name: str, count: int) -> Tuple[Places, ...]:
-    """The places now and one step before, for which the motion is turned back and turned again."""
+    """The places now and one step before, for which the motion is turned back."""
     shows, turn = reading.shows(name, count), f"REVERSE {name}"
-    with held():
-        return reading.both_of(name, count, user.ask_rows([*shows, turn, *shows, turn]))
+    with look(user, name, 2 * count) as way:
+        return reading.both_of(name, count, user.ask_rows([*shows, turn, *shows, *way.turned, *way.end]))
 
 
 def three_shown(user: "Loader", name: str, count: int) -> Tuple[Places, ...]:
-    """The places one step before, now and one step after, of a session with any box. A step is made, and undone by another."""
-    shows = reading.shows(name, count)
-    step, turn = f"ADVANCE {name} 1", f"REVERSE {name}"
-    with held():
-        return reading.three_of(name, count, user.ask_rows([*shows, step, *shows, turn, step, *shows, turn]))
+    """The places one step before, now and one step after, of a session with any box. For these it is turned back and makes a step."""
+    shows, step, turn = reading.shows(name, count), f"ADVANCE {name} 1", f"REVERSE {name}"
+    with look(user, name, 3 * count) as way:
+        lines = [*shows, turn, *shows, *way.turned, step, *shows, *way.stepped, *way.end]
+        return reading.three_of(name, count, len(way.turned), user.ask_rows(lines))
 
 
 def three_dumped(user: "Loader", name: str) -> Tuple[Places, ...]:
     """The same of a session whose box shows each ring unit."""
     dump, step, turn = f"DUMP {name}", f"ADVANCE {name} 1", f"REVERSE {name}"
-    with held():
-        replies = user.ask_all([dump, step, dump, turn, step, dump, turn])
-    now, after, before = (Places(*_on_ring(name, each.words, text_of(each))) for each in (replies[0], replies[2], replies[5]))
+    with look(user, name, 3) as way:
+        replies = user.ask_all([dump, turn, dump, *way.turned, step, dump, *way.stepped, *way.end])
+    now, before, after = (Places(*_on_ring(name, each.words, text_of(each))) for each in replies if each.words[0] == "DUMP")
     return before, now, after
 
 
@@ -78,9 +78,10 @@ def dumped_places(user: "Loader", name: str) -> Tuple[Places, ...]:
 
 def both_dumped(user: "Loader", name: str) -> Tuple[Places, ...]:
     """The places now and one step before, of a session whose box shows each ring unit."""
-    with held():
-        replies = user.ask_all([f"DUMP {name}", f"REVERSE {name}"] * 2)
-    return tuple(on_ring(reading.frame_of(name, reply)) for reply in replies[::2])
+    dump, turn = f"DUMP {name}", f"REVERSE {name}"
+    with look(user, name, 3) as way:
+        replies = user.ask_all([dump, turn, dump, *way.turned, *way.end])
+    return tuple(on_ring(reading.frame_of(name, reply)) for reply in replies if reply.words[0] == "DUMP")
 
 
 def dumped_in_box(user: "Loader", name: str, edge: float) -> Frame:

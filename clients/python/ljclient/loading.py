@@ -4,19 +4,22 @@ from __future__ import annotations
 import contextlib
 import dataclasses
 import threading
-from typing import TYPE_CHECKING, Any, Dict, Iterable, Iterator, List, Optional, Sequence, Tuple, cast
+from typing import TYPE_CHECKING, Any, Dict, Iterable, Iterator, List, Optional, Sequence, Set, Tuple, cast
 
 from . import checkpoint, files, units, xyz
 from .energy_watch import EnergyWatch, warn_of_large_steps
 from .errors import ClientError, NotRecorded
+from .guards import RESERVED, branches_of, checked_session
 from .interrupts import held
 from .mixture import Mixture, Pair, RawClass
-from .motion import Motion, motion_of
-from .names import checked_name
+from .motion import motion_of
+from .new_session import NewSession
 from .order import Order, by_halves, is_in_space
 from .overlap import warn_of_close_atoms
 from .recording import Listener, Listeners, Record, Versions
+from .replacing import CommandOf, replacing
 from .replies import number_after
+from .resorting import resort
 from .session import Row, Session
 from .state import Command, Known, State, state_of
 from .threads import whole
@@ -32,6 +35,11 @@ class Loader:
     def __init__(self, versions: Optional[Versions] = None) -> None:
         # Of the thread that uses the user. It is held as long as something has to be whole, and may be taken again.
         self.lock = threading.RLock()
+        self.name: Optional[str] = None
+        # Of the sessions that this user has seen at the server, and not dropped.
+        self.session_names: Set[str] = set()
+        # Where the server listens, as it was said: HOST:PORT. Nothing of a program of its own.
+        self.address = ""
         self._known: Dict[str, Known] = {}
         self._listeners = Listeners()
         self._versions: Versions = versions or (lambda: [])
@@ -79,7 +87,8 @@ class Loader:
         `Atoms` of ASE without `before` move with their velocities, which need epsilon and mass. They are rounded, and
         `print(session.motion)` tells to what; they are those of half a step ago, as kinetic energies are.
 
-        With `replace=True` a session of that name is dropped first. If two atoms are closer than 0.8 sigma there is a warning.
+        With `replace=True` it takes the place of a session of that name, which is there until the server has taken the new one.
+        If two atoms are closer than 0.8 sigma there is a warning.
 
         With `order="space"` the server has the atoms in the order of space, where a step of many is faster, and `advance`
         sorts them anew each 250 steps. Everything here keeps the numbers of the source; `Session.order` tells the server's.
@@ -91,7 +100,7 @@ class Loader:
         is told here; `python3 -m ljclient verify run.lj` plays it again. A file that is there stays until the session is loaded.
         If the file can no longer be written, `NotRecorded` is raised, and the session goes on without a record.
         """
-        checked_name(name)
+        checked_session(name)
         frames = xyz.frames_of(source, before, symbols, pair)
         edge = _edge_of(edge, source, frames)
         scale = units.Scale.of(edge, sigma, h, epsilon=epsilon, mass=mass, dt=dt)
@@ -101,7 +110,7 @@ class Loader:
         warn_of_close_atoms(frames, scale)
         if watch:
             warn_of_large_steps(scale)
-        self._send("LOAD", name, words, frames, replace, motion, known, record)
+        self._send(NewSession.of("LOAD", words, frames, edge, motion, known), name, known, replace, record)
         return Session(cast("User", self), name, scale, motion=motion)
 
     def load_mix(
@@ -146,7 +155,7 @@ class Loader:
         classes  three of `(sigma, h, weight)`: of two atoms of the first species, of one of each, of two of the second
         epsilon  that of the first in electronvolt, and mass, where `Session.dt` and temperatures in kelvin are to be known
         """
-        checked_name(name)
+        checked_session(name)
         frames = xyz.frames_of(source, before, symbols, pair)
         edge = _edge_of(edge, source, frames)
         mixture = Mixture.of(edge, species, first=first, second=second, mixed=mixed, mass=mass, dt=dt, classes=classes, epsilon=epsilon)
@@ -156,52 +165,33 @@ class Loader:
         warn_of_close_atoms(frames, mixture.scale, mixture)
         if watch:
             warn_of_large_steps(mixture.scale, mixture)
-        self._send("LOADMIX", name, words, frames, replace, motion, known, record)
+        self._send(NewSession.of("LOADMIX", words, frames, edge, motion, known), name, known, replace, record)
         return Session(cast("User", self), name, mixture.scale, mixture=mixture, motion=motion)
 
     @whole
-    def _send(
-        self,
-        command: str,
-        name: str,
-        words: str,
-        frames: xyz.Frames,
-        replace: bool,
-        motion: Optional[Motion],
-        known: Known,
-        record: Optional[files.Path],
-    ) -> None:
-        """Asks for a new session, in place of one of that name where it is to be replaced, and sets its atoms in motion.
-
-        Where an error or an interrupt comes between, the new session is given up.
-        """
-        mode, body = frames
-        with self._recorded(name, record, replace):
-            self.ask(f"{command} {name} {words} {mode} {len(body)}", body)
-        self._known[name] = known
-        try:
-            self.ask_all(motion.tugs(name) if motion else [])
-            if known.is_sorted:
-                self.resort(name)
-        except BaseException:
-            with contextlib.suppress(ClientError):
-                self.ask(f"DROP {name}")
-            raise
+    def _send(self, new: NewSession, name: str, known: Known, replace: bool, record: Optional[files.Path]) -> None:
+        """Asks for a new session, in place of one of that name where it is to be replaced."""
+        line, body = new.command(name)
+        with self._recorded(name, record, replace, new.command):
+            self.ask(line, body)
+        self._known[name] = new.known(known)
 
     @contextlib.contextmanager
-    def _recorded(self, name: str, path: Optional[files.Path], replace: bool) -> Iterator[None]:
-        """Drops a session that is to be replaced, and has the record of a new one begin with what loads it.
+    def _recorded(self, name: str, path: Optional[files.Path], replace: bool, command_of: CommandOf) -> Iterator[None]:
+        """Drops a session that is to be replaced, once the server has taken the new one, and has the record of that begin with what
+        loads it.
 
         The file is opened first, so that nothing is dropped if it cannot be. If nothing is loaded it stays as it was.
         """
         is_same = replace and self._listeners.writes(name, path)
         record = None if path is None or is_same else Record(path, self._versions())
         try:
-            self.ask_commands(self._drops(name, replace))
-            if is_same and path is not None:
-                record = Record(path, self._versions())
-            with self._heard_by(name, record):
-                yield
+            with replacing(self, name, command_of, replace) as drops:
+                self.ask_commands(drops)
+                if is_same and path is not None:
+                    record = Record(path, self._versions())
+                with self._heard_by(name, record):
+                    yield
         except NotRecorded:
             if record is not None and record.is_over:
                 with contextlib.suppress(ClientError):
@@ -252,37 +242,30 @@ class Loader:
         state = checkpoint.read(path)
         state = dataclasses.replace(
             state,
-            name=checked_name(state.name if name is None else name),
+            name=checked_session(state.name if name is None else name),
             is_sorted=is_in_space(order) or state.is_sorted,
         )
-        numbers = by_halves(state.places) if state.is_sorted else None
+        order_of = Order(by_halves(state.places) if state.is_sorted else None)
         if watch:
             warn_of_large_steps(state.scale, state.mixture)
-        if record is None:
-            self._put(state, Order(numbers), self._drops(state.name, replace), EnergyWatch(watch))
-        else:
-            with self._recorded(state.name, record, replace):
-                self._put(state, Order(numbers), [], EnergyWatch(watch))
+        self._put(state, order_of, EnergyWatch(watch), replace, record)
         return Session(cast("User", self), state.name, state.scale, mixture=state.mixture)
 
     @whole
     def copy_of(self, name: str, new: str, replace: bool) -> Session:
         """As `Session.copy`."""
-        if checked_name(new) == name:
+        if checked_session(new) == name:
             raise ValueError(f"a copy of {name} has another name")
         state, known = dataclasses.replace(self.state_of(name), name=new), self.known(name)
-        self._put(state, Order(known.order.numbers), self._drops(new, replace), dataclasses.replace(known.watch))
+        self._put(state, Order(known.order.numbers), dataclasses.replace(known.watch), replace)
         return Session(cast("User", self), new, state.scale, mixture=state.mixture)
 
     @whole
     def resort(self, name: str) -> None:
         """As `Session.resort`."""
-        if saved := self.ask(f"LIST {name}").lines:
-            told = ", ".join(line.split(" ")[0] for line in saved)
-            raise ValueError(f"{name} cannot be sorted anew, since what is saved by branch would be lost: {told}")
-        state = self.state_of(name)
-        with self._listeners.reloading(name):
-            self._put(state, Order(by_halves(state.places)), [(f"DROP {name}", b"")], self.known(name).watch)
+        if saved := [branch for branch in branches_of(self, name) if branch not in RESERVED]:
+            raise ValueError(f"{name} cannot be sorted anew, since what is saved by branch would be lost: {', '.join(saved)}")
+        resort(self, name)
 
     @whole
     def restore(self, name: str, branch: str) -> int:
@@ -297,22 +280,17 @@ class Loader:
         """The whole state of a session, which is as it was then. Its pending steps are done first."""
         return state_of(self, name)
 
-    def _put(self, state: State, order: Order, before: Sequence[Command], watch: EnergyWatch) -> None:
-        """Has a state be a session in this order, after these commands. An interrupt waits until this is done."""
-        with held():
-            try:
-                self.ask_commands([*before, state.command(order)])
-            except ClientError as error:
-                if before:
-                    error.rescued = checkpoint.text_of(state)
-                    self.has_dropped(state.name)
-                raise
-            self._known[state.name] = dataclasses.replace(state.known(order), watch=watch)
+    def _put(self, state: State, order: Order, watch: EnergyWatch, replace: bool = False, record: Optional[files.Path] = None) -> None:
+        """Has a state be a session in this order, in place of one of its name where that is to be replaced. An interrupt waits until
+        this is done."""
 
-    def _drops(self, name: str, replace: bool) -> List[Command]:
-        """The command that gives up a session which is to be replaced, if it is there."""
-        is_there = replace and any(row.name == name for row in self.sessions())
-        return [(f"DROP {name}", b"")] if is_there else []
+        def command_of(new: str) -> Command:
+            return dataclasses.replace(state, name=new).command(order)
+
+        with held():
+            with self._recorded(state.name, record, replace, command_of):
+                self.ask_commands([command_of(state.name)])
+            self._known[state.name] = dataclasses.replace(state.known(order), watch=watch, direction=1)
 
     def known(self, name: str) -> Known:
         """What is known of a session."""
@@ -321,6 +299,24 @@ class Loader:
     def has_dropped(self, name: str) -> None:
         """Forgets what was said of a session that is gone."""
         self._known.pop(name, None)
+
+    @property
+    def outlasts_connections(self) -> bool:
+        """Whether what is loaded is still there when the connection has ended."""
+        raise NotImplementedError
+
+    @property
+    def closed(self) -> bool:
+        """As `User.closed`."""
+        raise NotImplementedError
+
+    def row(self, name: str) -> Row:
+        """As `User.row`."""
+        raise NotImplementedError
+
+    def make_room(self, count: int) -> None:
+        """As `User.make_room`."""
+        raise NotImplementedError
 
     def _attach(self) -> None:
         """Has the connection tell what it hears to those who record it."""

@@ -9,15 +9,13 @@ from dataclasses import dataclass, replace
 from typing import TYPE_CHECKING, Callable, Dict, List, Optional, Sequence
 
 from .errors import ClientError
-from .order import Order, Place
+from .order import Order
 from .state import Command, State, commands_of_state
-from .units import RING
+from .tugs import tugs_of
 from .wire import Wire
 
 if TYPE_CHECKING:
     from .loading import Loader
-
-HALF = RING // 2
 
 
 @dataclass(frozen=True)
@@ -88,12 +86,6 @@ def program_with(restart: Callable[[], Wire], sessions: Sequence[Kept]) -> Optio
 def changes(state: State, other: State, order: Order) -> List[Command]:
     """The commands that make a session of one state have the frames of the other. They leave its step number as it is."""
     turn = f"REVERSE {state.name}"
-    before = _tugs(state.name, order, state.before, other.before)
-    lines = [*before, turn, *_tugs(state.name, order, state.places, other.places), turn]
+    before = tugs_of(state.name, order, state.before, other.before)
+    lines = [*before, turn, *tugs_of(state.name, order, state.places, other.places), turn]
     return [(line, b"") for line in lines]
-
-
-def _tugs(name: str, order: Order, places: Sequence[Place], others: Sequence[Place]) -> List[str]:
-    """The tugs that move atoms from their places one step before to others."""
-    moved = ([(a - b + HALF) % RING - HALF for a, b in zip(*pair)] for pair in zip(places, others))
-    return [f"TUG {name} {order.number_of(atom)} {x} {y} {z}" for atom, (x, y, z) in enumerate(moved) if x or y or z]

@@ -7,7 +7,7 @@ from __future__ import annotations
 
 import functools
 from dataclasses import dataclass
-from typing import Any, List, Optional, Sequence, Tuple, TypeVar
+from typing import Any, Dict, List, Optional, Sequence, Set, Tuple, TypeVar
 
 from . import arrays
 
@@ -18,6 +18,21 @@ Thing = TypeVar("Thing")
 
 
 @dataclass(frozen=True)
+class Doubt:
+    """The order that a session may have in place of another one, since a connection was lost while its atoms were sorted anew.
+
+    numbers       the server's number of each of the user's atoms in that order
+    number        a number of the server
+    place, other  the place of the atom of this number, and of that which has it in the other order
+    """
+
+    numbers: Tuple[int, ...]
+    number: int
+    place: Place
+    other: Place
+
+
+@dataclass(frozen=True)
 class Order:
     """How the numbers of the server stand to those of the user, for a session.
 
@@ -25,6 +40,8 @@ class Order:
     step       the user's step number at step 0 of the server
     direction  1 if both count alike, -1 if the server's steps go up as the user's go down
     on_ring    whether the server has the atoms in a box whose edge is 4294.967296, so that its sixth decimal is a ring unit
+    doubt      which other numbers the server may have, where a connection was lost while they changed. Who takes the order up
+               looks which it has
 
     `User.session(name, order=session.order)` hands it on to another connection. It holds until the session is sorted anew.
     """
@@ -33,6 +50,7 @@ class Order:
     step: int = 0
     direction: int = 1
     on_ring: bool = False
+    doubt: Optional[Doubt] = None
 
     def __post_init__(self) -> None:
         if self.numbers is not None:
@@ -106,6 +124,54 @@ def by_halves(places: Sequence[Tuple[float, float, float]]) -> Tuple[int, ...]:
     for number, atom in enumerate(atom for part in parts for atom in part):
         numbers[atom] = number
     return tuple(numbers)
+
+
+def sorted_anew(places: Sequence[Place], symbols: Sequence[str], order: Order) -> Tuple[int, ...]:
+    """The numbers that put atoms which the server has in an order into that of space, by halves: the new number of each.
+
+    The server's numbers keep their symbols, so that atoms of each symbol change places with each other alone. Who stays in its
+    block keeps its number.
+    """
+    numbers = list(range(len(places)) if order.numbers is None else order.numbers)
+    columns, count = list(zip(*places)), -(-len(places) // BLOCK)
+    alike: Dict[str, List[int]] = {}
+    for atom, symbol in enumerate(symbols):
+        alike.setdefault(symbol, []).append(atom)
+    new = list(numbers)
+    for atoms in alike.values():
+        room: List[List[int]] = [[] for _ in range(count)]
+        for atom in atoms:
+            room[numbers[atom] // BLOCK].append(numbers[atom])
+        for free, here in zip(room, _in_blocks(atoms, columns, [len(each) for each in room])):
+            _renumber(new, set(free), here)
+    return tuple(new)
+
+
+def _renumber(numbers: List[int], free: Set[int], atoms: Sequence[int]) -> None:
+    """Gives the numbers of a block that are free to as many atoms. Who has one of them keeps it."""
+    coming = [atom for atom in atoms if numbers[atom] not in free]
+    left = free.difference(numbers[atom] for atom in atoms)
+    for atom, number in zip(coming, sorted(left)):
+        numbers[atom] = number
+
+
+def _in_blocks(atoms: List[int], columns: Sequence[Sequence[int]], room: Sequence[int]) -> List[List[int]]:
+    """Which of some atoms come into each block, where each has room for so many of them: they are split along x, y and z in turn."""
+    parts, axis = [(room, atoms)], 0
+    while any(len(blocks) > 1 for blocks, _ in parts):
+        parts = [half for blocks, part in parts for half in _split(blocks, part, columns[axis])]
+        axis = (axis + 1) % 3
+    return [part for _, part in parts]
+
+
+def _split(blocks: Sequence[int], part: List[int], column: Sequence[int]) -> List[Tuple[Sequence[int], List[int]]]:
+    """Two halves of some blocks, the first with the atoms of the smaller coordinates; or the same, if it is one block."""
+    if len(blocks) == 1:
+        return [(blocks, part)]
+    part.sort(key=column.__getitem__)
+    half = len(blocks) // 2
+    first = sum(blocks[:half])
+    return [(blocks[:half], part[:first]), (blocks[half:], part[first:])]
 
 
 def _halves(part: List[int], column: Sequence[float]) -> List[List[int]]:

@@ -84,17 +84,18 @@ def places_of(name: str, count: int, text: bytes) -> Places:
 
 
 def both_of(name: str, count: int, text: bytes) -> Tuple[Places, Places]:
-    """What the replies to `shows` tell, and after a REVERSE those to `shows` again, before another REVERSE."""
+    """What the replies to `shows` tell, and after a REVERSE those to `shows` again, before what undoes it."""
     rows = text.split(b"\n")
     now, before = rows[:count], rows[count + 1 : 2 * count + 1]
     return places_of(name, count, b"\n".join([*now, b""])), places_of(name, count, b"\n".join([*before, b""]))
 
 
-def three_of(name: str, count: int, text: bytes) -> Tuple[Places, Places, Places]:
-    """The places before, now and after: what the replies to `shows` tell now, after a step, and after REVERSE and a step more."""
+def three_of(name: str, count: int, back: int, text: bytes) -> Tuple[Places, Places, Places]:
+    """The places before, now and after: what the replies to `shows` tell now, after REVERSE, and after so many commands that undo
+    it and a step."""
     rows = text.split(b"\n")
-    parts = (b"\n".join([*rows[at : at + count], b""]) for at in (0, count + 1, 2 * count + 3))
-    now, after, before = (places_of(name, count, part) for part in parts)
+    parts = (b"\n".join([*rows[at : at + count], b""]) for at in (0, count + 1, 2 * count + 2 + back))
+    now, before, after = (places_of(name, count, part) for part in parts)
     return before, now, after
 
 

@@ -1,14 +1,54 @@
 """Atoms that are kept in the order of space while their session goes on."""
 from __future__ import annotations
 
-from typing import TYPE_CHECKING
+import contextlib
+from dataclasses import replace
+from typing import TYPE_CHECKING, Optional, Sequence
 
+from .guards import NO_PLACE, RESERVED, branches_of, reordering
+from .order import Doubt, Order, Place, sorted_anew
 from .stepping import UNBOUNDED
+from .tugs import tugs_of
 
 if TYPE_CHECKING:
     from .loading import Loader
 
 RESORTED_EACH = 250
+
+
+def resort(loader: "Loader", name: str) -> None:
+    """Sorts the atoms of a session in space at the server. Each number there is given the places of another atom, by tugs, between
+    which the motion is turned back. The session is there all the time, and `known` has its order.
+
+    Raises a refusal of `guards.NO_PLACE`, and nothing is changed, if there is no place for what the session was before.
+    """
+    state = loader.state_of(name)
+    known, old = loader.known(name), loader.known(name).order
+    new = replace(old, numbers=sorted_anew(state.places, state.symbols, old))
+    doubt = _doubt(state.places, old, new)
+    if doubt is None:
+        return
+    turn = f"REVERSE {name}"
+    before, places = (tugs_of(name, Order(), old.for_server(frame), new.for_server(frame)) for frame in (state.before, state.places))
+    lines = [*before, turn, *places, turn]
+    with reordering(loader, name, len(lines)) as end:
+        known.order = replace(old, doubt=doubt)
+        loader.ask_rows([*lines, *end])
+        known.order = new
+
+
+def _doubt(places: Sequence[Place], old: Order, new: Order) -> Optional[Doubt]:
+    """What tells the new order from the old one: a number of the server whose atoms have other places in both. None if there is
+    none, since no atom comes elsewhere."""
+    for number, (here, other) in enumerate(zip(old.for_server(places), new.for_server(places))):
+        if here != other and new.numbers is not None:
+            return Doubt(new.numbers, number, _place(here), _place(other))
+    return None
+
+
+def _place(parts: Sequence[int]) -> Place:
+    x, y, z = parts
+    return x, y, z
 
 
 class Resorting:
@@ -21,15 +61,16 @@ class Resorting:
     def ready(self) -> int:
         """Makes the session ready to go on, and returns by how many steps it may until this is asked again.
 
-        While something is saved by `branch`, which would be lost, the atoms are left as they are.
+        While something is saved by `branch`, or where the quota has no place for a branch, the atoms are left as they are.
         """
         known = self._loader.known(self._name)
         if not known.is_sorted:
             return UNBOUNDED
         if known.gone >= RESORTED_EACH:
             known.gone = 0
-            if not self._loader.ask(f"LIST {self._name}").lines:
-                self._loader.resort(self._name)
+            if RESERVED.issuperset(branches_of(self._loader, self._name)):
+                with contextlib.suppress(*NO_PLACE):
+                    self._loader.resort(self._name)
         return RESORTED_EACH - self._loader.known(self._name).gone
 
     def made(self, steps: int, step: int) -> int:

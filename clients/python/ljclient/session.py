@@ -8,12 +8,12 @@ from . import arrays, ase_bridge, box, centred, checkpoint, equilibrating, files
 from . import reading, sampling, saving, snapshots, stepping, trajectories
 from .elements import Replacements, with_symbols
 from .energy_watch import WatchedHooks
-from .interrupts import held
+from .guards import RESERVED, change, checked_branch
 from .measurement import Measurement, known
 from .mixture import Mixture
 from .motion import Motion
 from .names import checked_name, count_of, displacement_of
-from .order import Order
+from .order import Order, Place
 from .replies import fields, number_after, of_session, whole_number
 from .state import symbols_of
 from .thermo import Thermo, thermo
@@ -165,18 +165,18 @@ class Session:
     @whole
     def branch(self, name: str) -> int:
         """Saves the simulation under a name, and answers its step number."""
-        step = self._number(f"BRANCH {self.name} {checked_name(name)}", 3)
+        step = self._number(f"BRANCH {self.name} {checked_branch(name)}", 3)
         self._user.known(self.name).branches[name] = self.order
         return step
 
     def restore(self, name: str) -> int:
         """Goes back to what was saved, and answers its step number. It stays saved."""
-        return self._user.restore(self.name, checked_name(name))
+        return self._user.restore(self.name, checked_branch(name))
 
     @whole
     def forget(self, name: str) -> None:
         """Gives up what was saved under a name."""
-        self._ask(f"FORGET {self.name} {checked_name(name)}")
+        self._ask(f"FORGET {self.name} {checked_branch(name)}")
         self._user.known(self.name).branches.pop(name, None)
 
     @whole
@@ -194,8 +194,8 @@ class Session:
         They have no net momentum. As kinetic energies are, they are those of half a step ago. A crystal at rest keeps about
         half of this temperature, since the other half becomes potential energy.
         """
-        scale, moved = self.scale, self._last_displacements()
-        self._set_in_motion(moved, heating.displacements(len(moved), temperature, scale, seed))
+        scale, (now, before) = self.scale, self._frames_of_places(both=True)
+        self._set_in_motion(now, before, heating.displacements(len(before.places), temperature, scale, seed))
         return self.measure().temperature
 
     @whole
@@ -207,8 +207,9 @@ class Session:
         A net momentum is stretched alike. It is done by tugs, so what is saved by `branch` stays, and `restore` leads back to
         before it. ValueError if all atoms are at rest.
         """
-        scale, moved = self.scale, arrays.listed(self._last_displacements())
-        self._set_in_motion(moved, heating.rescaled(moved, temperature, scale))
+        scale, (now, before) = self.scale, self._frames_of_places(both=True)
+        moved = arrays.listed(arrays.least_images(now.places, before.places))
+        self._set_in_motion(now, before, heating.rescaled(moved, temperature, scale))
         return self.measure().temperature
 
     def equilibrate(self, temperature: float, steps: int, every: int = 50, progress: sampling.Progress = False, seed: int = 0) -> float:
@@ -260,7 +261,7 @@ class Session:
         known, else in the unit of the file for each `sigma sqrt(m / epsilon)`. After `reverse` they have the other sign.
 
         An array of numpy of shape (atoms, 3), or a list of tuples where numpy is not installed. The frame after this one is made
-        by a step, which is undone exactly: the session is as it was.
+        by a step, which is undone exactly: the session is as it was, also for the next connection if this one is lost meanwhile.
         """
         return centred.three_frames(self._user, self.name).velocities(self.scale)
 
@@ -368,7 +369,7 @@ class Session:
         """
         sampling.checked_stops(every, rows, "rows")
         known(self._given)
-        return thermo(self, self._user.ask_all, self._look, every, rows, progress)
+        return thermo(self, self._user, self._user.ask_all, self._look, every, rows, progress)
 
     def write_trajectory(
         self,
@@ -406,7 +407,8 @@ class Session:
         """What is saved in it, in order of saving."""
         lines = self._user.ask(f"LIST {self.name}").lines
         rows, known_of = [fields(line, 2) for line in lines], self._user.known(self.name)
-        return [Saved(name, known_of.branch_order(name).step_of(whole_number(step))) for name, step in rows]
+        own = [(name, whole_number(step)) for name, step in rows if name not in RESERVED]
+        return [Saved(name, known_of.branch_order(name).step_of(step)) for name, step in own]
 
     def save(self, path: files.Path) -> None:
         """Writes the whole simulation to a file, from which `User.load_saved` goes on exactly, in another program too.
@@ -421,7 +423,7 @@ class Session:
         """A new session of this user that is as this one is now, to the bit: its step number, its units and its symbols too.
 
         name     the name of the new one
-        replace  whether a session of that name is dropped first
+        replace  whether it takes the place of a session of that name
 
         What is saved by `branch` is not copied. What was started is waited for. The scale has to be known.
         """
@@ -430,8 +432,9 @@ class Session:
     def resort(self) -> None:
         """Sorts the atoms in space at the server, where a step of many is faster then. Their numbers here stay.
 
-        With `load(.., order="space")` it is done each 250 steps of `advance`. ValueError if something is saved by `branch`,
-        which would be lost.
+        With `load(.., order="space")` it is done each 250 steps of `advance`. They change places by tugs, those of each symbol
+        among themselves: the session, its box and its step numbers stay. ValueError if something is saved by `branch`, which has
+        its atoms in the order of before, and a refusal where the quota has no place for a branch.
         """
         self._user.resort(self.name)
 
@@ -484,17 +487,18 @@ class Session:
         order = self.order
         return tuple(reading.Places(order.step_of(step), order.for_user(places)) for step, places in told)
 
-    def _last_displacements(self) -> Any:
-        """The displacements of the last step, in ring units."""
-        now, before = self._frames_of_places(both=True)
-        return arrays.least_images(now.places, before.places)
+    def _set_in_motion(self, now: reading.Places, before: reading.Places, wanted: Sequence[Sequence[int]]) -> None:
+        """Gives the atoms of both frames these displacements in place of those of the last step. An interrupt waits until all have
+        theirs, and where the connection is lost between, the next one gives back those that they had."""
+        changes = arrays.listed(arrays.least_images(wanted, arrays.least_images(now.places, before.places)))
+        self._tug_all(changes, arrays.listed(before.places))
 
-    def _set_in_motion(self, moved: Any, wanted: Sequence[Sequence[int]]) -> None:
-        """Gives the atoms these displacements in place of those of the last step. An interrupt waits until all have theirs."""
-        changes = arrays.least_images(wanted, moved)
+    def _tug_all(self, changes: Sequence[Sequence[int]], before: Sequence[Place]) -> None:
+        """Tugs each atom by such a displacement, from these places a step before: all of them or none."""
         self._user.known(self.name).watch.begin_anew()
-        with held():
-            self._user.ask_rows([self._tug(atom, change) for atom, change in enumerate(changes) if any(change)])
+        tugs = [self._tug(atom, change) for atom, change in enumerate(changes) if any(change)]
+        with change(self._user, self.name, self.order.for_server(before)) as end:
+            self._user.ask_rows([*tugs, *end])
 
     def _row(self) -> "Row":
         return self._user.row(self.name)

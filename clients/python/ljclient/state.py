@@ -5,7 +5,7 @@ Two frames that are one step apart are the simulation. A LOAD of both, in the bo
 from __future__ import annotations
 
 from dataclasses import dataclass, field, replace
-from typing import TYPE_CHECKING, Dict, Optional, Sequence, Tuple
+from typing import TYPE_CHECKING, Dict, FrozenSet, Optional, Sequence, Tuple
 
 from . import arrays, frames
 from .energy_watch import EnergyWatch
@@ -32,6 +32,8 @@ class Known:
     is_box_open whether its atoms have not told yet if the server has them in the box that shows each ring unit
     branches    how the numbers of what is saved in it stand to those of the server
     watch       what is known of its energy, to tell whether it changes
+    direction   1 or -1: by how much the next step changes the server's step number. None where this is not known
+    left        the reserved branches that an earlier connection has left, and that stay since somebody has gone on
     """
 
     scale: Optional[Scale] = None
@@ -44,6 +46,8 @@ class Known:
     is_box_open: bool = False
     branches: Dict[str, Order] = field(default_factory=dict)
     watch: EnergyWatch = field(default_factory=EnergyWatch)
+    direction: Optional[int] = None
+    left: FrozenSet[str] = frozenset()
 
     def branch_order(self, branch: str) -> Order:
         """How the numbers of what is saved under a name stand to those of the server."""
@@ -138,6 +142,7 @@ def state_of(user: "Loader", name: str) -> State:
     direction = now.step - before.step
     if direction not in (1, -1):
         raise BadReply(f"the two frames of {name} are at the steps {now.step} and {before.step}")
+    known.direction = direction
     order = known.order
     places, past = (order.for_user(arrays.listed(frame.places)) for frame in (now, before))
     step, direction = order.step_of(now.step), order.direction * direction

@@ -5,12 +5,14 @@ import contextlib
 from typing import TYPE_CHECKING, Callable, Iterator, List, NamedTuple, Optional, Tuple
 
 from .errors import ClientError
+from .guards import Way, look
 from .interrupts import held
 from .measurement import Measurement, known
 from .sampling import Progress, stops
 from .stepping import Ask
 
 if TYPE_CHECKING:
+    from .loading import Loader
     from .session import Session
 
 
@@ -92,20 +94,21 @@ class ThermoInElectronvolt(ThermoInKelvin):
 Look = Callable[[Thermo, int], None]
 
 
-def thermo(session: "Session", ask: Ask, look: Look, every: int, rows: int, progress: Progress) -> Iterator[Thermo]:
+def thermo(session: "Session", user: "Loader", ask: Ask, tell: Look, every: int, rows: int, progress: Progress) -> Iterator[Thermo]:
     """The rows of a session on its way, each when it is there and was looked at.
 
-    If they are broken off, the session is put back to the step of the last row.
+    Between two rows a session of a program of its own stands a step ahead, which it has to go anyway. If the rows are broken off it
+    is put back to the step of the last one. At a server it stands at the row all the time, also if the connection is lost.
     """
-    ahead = None
+    is_ahead, ahead = not user.outlasts_connections, None
     try:
-        for number in stops(session, every, rows, progress, ahead=1):
-            is_last = number + 1 == rows
+        for number in stops(session, every, rows, progress, ahead=int(is_ahead)):
+            goes_ahead = is_ahead and number + 1 < rows
             with held():
-                here, after = _measured(session, ask, is_last)
-                ahead = None if is_last else after.step
+                here, after = _measured_ahead(session, ask) if goes_ahead else _measured_twice(session, user, ask)
+                ahead = after.step if goes_ahead else None
             row = Thermo.of(here, after)
-            look(row, here.atoms)
+            tell(row, here.atoms)
             yield row
     finally:
         if ahead is not None:
@@ -115,22 +118,24 @@ def thermo(session: "Session", ask: Ask, look: Look, every: int, rows: int, prog
 def _put_back(session: "Session", ask: Ask, ahead: int) -> None:
     """Has a session that still stands a step ahead of its row, at this one, stand at the row.
 
-    If the connection or the session is gone, nothing is put back.
+    If the program or the session is gone, nothing is put back.
     """
     with session.lock, contextlib.suppress(ClientError):
         if session.is_free and session.step == ahead:
-            ask(_step_back(session.name))
+            ask(Way.by_turns(session.name).stepped)
 
 
-def _step_back(name: str) -> List[str]:
-    """The commands that undo the last step of a session."""
-    return [f"REVERSE {name}", f"ADVANCE {name} 1", f"REVERSE {name}"]
-
-
-def _measured(session: "Session", ask: Ask, is_last: bool) -> List[Measurement]:
-    """What is measured here and a step ahead. At the last stop that step is undone."""
+def _measured_ahead(session: "Session", ask: Ask) -> List[Measurement]:
+    """What is measured here and a step ahead, where the session then is."""
     measure = f"MEASURE {session.name}"
-    lines = [measure, f"ADVANCE {session.name} 1", measure, *(_step_back(session.name) if is_last else [])]
     with session.lock:
-        replies = ask(lines)
+        replies = ask([measure, f"ADVANCE {session.name} 1", measure])
+        return [session.measured(replies[at].words) for at in (0, 2)]
+
+
+def _measured_twice(session: "Session", user: "Loader", ask: Ask) -> List[Measurement]:
+    """What is measured here and a step ahead, which is undone."""
+    measure = f"MEASURE {session.name}"
+    with look(user, session.name, 3) as way:
+        replies = ask([measure, f"ADVANCE {session.name} 1", measure, *way.stepped, *way.end])
         return [session.measured(replies[at].words) for at in (0, 2)]

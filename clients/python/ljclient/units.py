@@ -24,6 +24,7 @@ from .names import whole_of
 Number = Union[int, float, str, Decimal]
 
 RING = 1 << 32
+MIN_SIGMA = 1 << 16
 MAX_STEP_FACTOR = 1 << 24
 POTENTIAL_UNIT = 1 << 24
 FULL_WEIGHT = 256
@@ -251,6 +252,11 @@ class Scale:
     def kinetic_number(self, kinetic_energy: float) -> float:
         """The number whose kinetic energy, in epsilon, this is."""
         return kinetic_energy * 2 * self.sigma_on_ring**2 * self.h / RING
+
+
+def is_on_ring(scale: Scale) -> bool:
+    """Whether the server takes the edge and the sigma of a scale, so far as both together say it."""
+    return MIN_SIGMA <= scale.sigma_on_ring and 5 * scale.sigma_on_ring < RING
 
 
 def plain_float(number: Number) -> float:

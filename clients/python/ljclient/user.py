@@ -9,11 +9,12 @@ import os
 from types import TracebackType
 from typing import Callable, Dict, Iterable, Iterator, List, Optional, Sequence, Set, Tuple, Type, Union
 
-from . import migrate, progress as bars, stepping, units
+from . import leftovers, migrate, progress as bars, stepping, units
 from .box import take_up
 from .energy_watch import EnergyWatch, WatchedHooks
 from .errors import BadReply, CannotStart, ClientError, ConnectionLost, TimedOut
 from .files import Path
+from .guards import RESERVED
 from .interrupts import held
 from .loading import Loader
 from .locate import find_program, version_of
@@ -22,7 +23,7 @@ from .order import Order
 from .record import Mark
 from .recording import Notes, Versions
 from .refusals import NoSession
-from .replies import fields, whole_number
+from .replies import fields, number_after, whole_number
 from .session import Row, Session
 from .state import Command, can_be_loaded
 from .threads import whole
@@ -57,11 +58,11 @@ class User(Loader):
         name: Optional[str] = None,
         restart: Optional[Callable[[], Wire]] = None,
         versions: Optional[Versions] = None,
+        address: str = "",
     ):
         super().__init__(versions)
         self.name = name
-        # Of the sessions that this user has seen at the server, and not dropped.
-        self.session_names: Set[str] = set()
+        self.address = address
         self._wire = wire
         self._reopen = reopen
         self._restart = restart
@@ -111,7 +112,9 @@ class User(Loader):
         if record is not None:
             raise ValueError(f"{name} is there already, and a record begins with the load of a session: say record= to load")
         with self.lock:
-            self.ask(f"LIST {checked_name(name)}")
+            saved = self.ask(f"LIST {checked_name(name)}").lines
+            if not RESERVED.isdisjoint(line.split(" ")[0] for line in saved):
+                leftovers.session(self, name, number_after(f"ADVANCE {name} 0", self.ask(f"ADVANCE {name} 0").words, 2), saved)
             scale = None
             if edge is not None and sigma is not None:
                 scale = units.Scale.of(edge, sigma, h, epsilon=epsilon, mass=mass, dt=dt, weight=weight)
@@ -158,7 +161,8 @@ class User(Loader):
         for line in self.ask("LIST").lines:
             name, *numbers = fields(line, 4)
             step, atoms, branches = map(whole_number, numbers)
-            rows.append(Row(name, self.known(name).order.step_of(step), atoms, branches))
+            known = self.known(name)
+            rows.append(Row(name, known.order.step_of(step), atoms, branches - len(known.left)))
         return rows
 
     @whole
@@ -181,7 +185,7 @@ class User(Loader):
     @whole
     def ask_commands(self, commands: Sequence[Command]) -> List[Reply]:
         """As `ask_all`, of commands with the bodies that they announce."""
-        self._make_room(len(commands))
+        self.make_room(len(commands))
         with self._told():
             try:
                 replies = self._wire.ask_all(commands)
@@ -221,8 +225,15 @@ class User(Loader):
         verb, *words = reply.words
         if verb in NEW_OR_GONE:
             self.has_dropped(words[0])
-        elif verb in OTHER_ENERGY:
+        elif verb in OTHER_ENERGY and words[1] not in RESERVED:
             self.known(words[0]).watch.begin_anew()
+        if verb == "REVERSE" and (turned := self.known(words[0]).direction):
+            self.known(words[0]).direction = -turned
+        elif verb == "RESTORE" and words[1] not in RESERVED:
+            self.known(words[0]).direction = None
+        elif verb in ("RESTORE", "FORGET") and words[1] in RESERVED:
+            known = self.known(words[0])
+            known.left -= {words[1]} if verb == "FORGET" else frozenset()
         if verb == "DROP":
             self.session_names.discard(words[0])
         elif verb == "LIST" and len(words) == 1:
@@ -266,18 +277,18 @@ class User(Loader):
     @whole
     def ask_text(self, line: str) -> Tuple[List[str], bytes]:
         """The words of the reply to a command line after `OK`, and the lines after them as they came. A refusal is raised."""
-        self._make_room(1)
+        self.make_room(1)
         with self._told():
             return self._wire.ask_text(line)
 
     @whole
     def ask_rows(self, lines: Sequence[str]) -> bytes:
         """The lines that many command lines are answered by, one for each, as they came. The first refusal is raised."""
-        self._make_room(len(lines))
+        self.make_room(len(lines))
         with self._told():
             return self._wire.ask_rows(lines)
 
-    def _make_room(self, count: int) -> None:
+    def make_room(self, count: int) -> None:
         """Begins a new connection where this one's million commands would be passed, if the sessions outlast it.
 
         Of `run` they don't, so there they move to a new program when half of the commands are used up: reading them takes
@@ -327,6 +338,11 @@ class User(Loader):
             self._attach()
             for each in kept:
                 each.tell(self)
+
+    @property
+    def outlasts_connections(self) -> bool:
+        """Whether what is loaded is still there when the connection has ended, as at a server."""
+        return self._reopen is not None
 
     @property
     def closed(self) -> bool:
@@ -386,11 +402,12 @@ def connect(host: str, port: int, name: str, token: str, *, timeout: float = 60.
     if not (token.isascii() and token.isalnum()):
         raise ValueError("a token is letters and digits")
     open_transport = transport_opener(tls, ca)
-    return joined(lambda: open_transport(host, port, timeout), name, token, timeout)
+    return joined(lambda: open_transport(host, port, timeout), name, token, timeout, f"{host}:{port}")
 
 
-def joined(open_transport: Callable[[], Transport], name: str, token: str, timeout: float) -> User:
-    """A user who is let in over what is opened so, where each reply may take `timeout` seconds."""
+def joined(open_transport: Callable[[], Transport], name: str, token: str, timeout: float, address: str) -> User:
+    """A user who is let in over what is opened so, at this address, where each reply may take `timeout` seconds. What an earlier
+    connection has left half done is put right (`leftovers`)."""
 
     def open_wire() -> Wire:
         wire = Wire(open_transport(), timeout)
@@ -401,7 +418,13 @@ def joined(open_transport: Callable[[], Transport], name: str, token: str, timeo
             raise
         return wire
 
-    return User(open_wire(), open_wire, name)
+    user = User(open_wire(), open_wire, name, address=address)
+    try:
+        leftovers.put_right(user)
+    except BaseException:
+        user.close()
+        raise
+    return user
 
 
 def transport_opener(tls: bool, ca: Optional[Path]) -> Callable[[str, int, float], Transport]:

@@ -138,13 +138,15 @@ def joined(port: int, timeout: Any = SECONDS) -> Any:
 class Server:
     """`ljserve serve` on a free port of 127.0.0.1, for users whose token is `TOKEN`, or for those of a file's lines."""
 
-    def __init__(self, users: Any = ("ann",), connections: int = 100, quota: Any = (8, 16384, 16), lines: Any = None) -> None:
+    def __init__(
+        self, users: Any = ("ann",), connections: int = 100, quota: Any = (8, 16384, 16), lines: Any = None, pool: str = "lock"
+    ) -> None:
         self.port = free_port()
         with tempfile.NamedTemporaryFile("w") as file:
             file.write(lines or "".join("{} {} {} {} {}\n".format(name, TOKEN, *quota) for name in users))
             file.flush()
             words = ["--listen", f"127.0.0.1:{self.port}", "--users", file.name]
-            words += ["--workers", "2", "--connections", str(connections)]
+            words += ["--workers", "2", "--connections", str(connections), "--pool", pool]
             self.child = subprocess.Popen(
                 [PROGRAM, "serve", *words], stdin=subprocess.DEVNULL, stdout=subprocess.DEVNULL, stderr=subprocess.DEVNULL
             )
@@ -227,11 +229,13 @@ def read_line(connection: Any) -> Any:
 
 
 def says(*replies: Any, then: Any = None) -> Any:
-    """A peer that answers HELLO, and then each line with the next of these replies; at last it does something else."""
+    """A peer that answers HELLO, and says that there is no session, and then answers each line with the next of these replies; at
+    last it does something else."""
 
     def talk(connection: Any, stop: Any) -> None:
-        read_line(connection)
-        connection.sendall(b"OK HELLO ann\n")
+        for reply in (b"OK HELLO ann\n", b"OK LIST 0\n"):
+            read_line(connection)
+            connection.sendall(reply)
         for reply in replies:
             read_line(connection)
             connection.sendall(reply)

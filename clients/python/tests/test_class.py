@@ -148,7 +148,7 @@ def test_ctrl_c_is_pressed_twice_where_users_are_in(terminal: Any) -> None:
         terminal.interrupt()
         status, shown = terminal.ended()
     assert status == 0 and shown.endswith(ENDED)
-    assert len(re.findall(r"  ended  ann  .*?  2 commands\n", shown)) == 1
+    assert len(re.findall(r"  ended  ann  .*?  3 commands\n", shown)) == 1
 
 
 def test_users_that_there_are_stay(tmp_path: pathlib.Path, begin: Any) -> None:

@@ -295,11 +295,14 @@ def test_what_keeps_the_start(keep: Any) -> None:
 
 def test_atoms_that_are_sorted_on_the_way_keep_their_start() -> None:
     asked: List[Any] = []
+    sites = [(x, y, z) for x in range(5) for y in range(5) for z in range(5)]
+    rows = [("Ar", *(1.1 * part for part in sites[number * 32 % 125])) for number in range(125)]
     with run(PROGRAM) as user:
-        a = dimer(user, order="space")
+        a = user.load("a", rows, edge=20, sigma=1, h=4096)
+        user.known("a").is_sorted = True
         with spied(user, asked):
             a.advance(1100)
-        assert [line for line in asked if "LOAD" in line]
+        assert a.order.numbers is not None
         assert sum(line.startswith("MEASURE") for line in asked) == 4
         assert present(user.known("a").watch.start)[0] == 0
 

@@ -164,7 +164,8 @@ class Commands(unittest.TestCase):
         heard = []
 
         def hear(connection: Any, stop: Any) -> None:
-            for reply in (b"OK LOADMIX m 0 2\n", b"OK LIST 1\nm 0 2 0\n", b"OK DROP m\n", b"OK LOADMIX m 0 2\n"):
+            replies = [b"OK LOADMIX m 0 2\n", b"OK LIST 1\nm 0 2 0\n", b"OK LOADMIX ljclient-new 0 2\n", b"OK BRANCH ljclient-new m 0\n"]
+            for reply in [*replies, b"OK DROP m\n", replies[0], b"OK DROP ljclient-new\n"]:
                 heard.append(read_line(connection))
                 if heard[-1].startswith(b"LOADMIX"):
                     size = int(heard[-1].split()[-1])
@@ -175,9 +176,11 @@ class Commands(unittest.TestCase):
             user.load_mix("m", MIX, edge=256, species=SALT, classes=STRONGER)
             user.load_mix("m", MIX, before=MIX, edge=256, species=SALT, classes=WEAKER, replace=True)
             user._wire.close()
-        words = b"LOADMIX m 256 Na Cl 1 131072 256 1 %s 1 131072 256 %s\n"
-        self.assertEqual(heard[:2], [words % (b"262144 512", b"rest 26"), MIX.encode()])
-        self.assertEqual(heard[2:], [b"LIST\n", b"DROP m\n", words % (b"131072 1", b"pair 52"), 2 * MIX.encode()])
+        words = b"LOADMIX %s 256 Na Cl 1 131072 256 1 %s 1 131072 256 %s\n"
+        self.assertEqual(heard[:2], [words % (b"m", b"262144 512", b"rest 26"), MIX.encode()])
+        self.assertEqual(heard[2:5], [b"LIST\n", words % (b"ljclient-new", b"131072 1", b"pair 52"), 2 * MIX.encode()])
+        self.assertEqual(heard[5:7], [b"BRANCH ljclient-new m\n", b"DROP m\n"])
+        self.assertEqual(heard[7:], [words % (b"m", b"131072 1", b"pair 52"), 2 * MIX.encode(), b"DROP ljclient-new\n"])
 
 
 class Dialogues(Alone):

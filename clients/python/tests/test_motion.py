@@ -1,4 +1,4 @@
-"""The velocities of `Atoms`, which become tugs.
+"""The velocities of `Atoms`, which become the frame of the step before.
 
 The box is 256 wide, so a ring unit is 2^-24. With epsilon and mass 1 and h = 2^20 the time step is 2^-6 of the unit of ASE:
 a velocity of 1 is a displacement of 2^18 ring units for each step.
@@ -9,7 +9,7 @@ from unittest import mock
 from typing import Any, Dict, List
 
 from ljclient import Measurement, connect, run, units
-from support import DIMER, EXAMPLES, PROGRAM, TOKEN, Alone, Server, present
+from support import DIMER, EXAMPLES, PROGRAM, TOKEN, Alone, Server, listed, present
 
 try:
     import ase
@@ -95,12 +95,21 @@ class Velocities(Alone):
         self.assertEqual(self.user.session("a").measure().momentum, (2**19, 0, 0))
         self.assertEqual(self.load([[8191, 0, 0]] * 2, "b").measure().momentum[1:], (0, 0))
 
-    def test_what_is_interrupted_is_given_up(self) -> None:
-        ask_all = self.user.ask_all
-        with mock.patch.object(self.user, "ask_all", side_effect=lambda lines: ask_all(lines[:1]) and 1 / 0):
-            with self.assertRaises(ZeroDivisionError):
-                self.load([[1, 0, 0]] * 2)
-        self.assertEqual(self.user.sessions(), [])
+    def test_they_come_in_one_command(self) -> None:
+        with mock.patch.object(self.user._wire, "ask_all", wraps=self.user._wire.ask_all) as asked:
+            self.load([[1, 0, 0]] * 2)
+        lines = [line for call in asked.call_args_list for line, _ in call.args[0]]
+        self.assertEqual([line.split()[0] for line in lines], ["LOAD"])
+        self.assertEqual(lines[0].split()[5], "pair")
+
+    def test_a_box_in_which_places_have_no_coordinate_of_their_own(self) -> None:
+        """In a box below 4.29 of the file's unit the atoms are loaded in that which shows each ring unit."""
+        near = [[0, 0, 0], [1.5, 0, 0]]
+        a = self.user.load("a", Stand(near, [[0.001, 0, 0]] * 2), edge=3.0, sigma=0.5, epsilon=1, mass=1, h=2**20)
+        # The unit of time is sigma, so the time step is 2^-7: 0.001 * 2^-7 * 2^32 / 3 is 11184.8.
+        self.assertEqual(a.measure().momentum, (2 * 11185, 0, 0))
+        self.assertEqual((listed(a.places()), a.order.on_ring), ([(0, 0, 0), (2**31, 0, 0)], True))
+        self.assertEqual([list(each) for each in a.positions()], near)
 
     def test_mixtures(self) -> None:
         words: Dict[str, Any] = {"species": ("Ar", "Kr"), "classes": [CLASS] * 3, "epsilon": 1, "mass": 1}

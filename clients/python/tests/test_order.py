@@ -2,7 +2,6 @@
 
 What is expected is what the same atoms do in the order of their file.
 """
-import os
 import random
 import signal
 import subprocess
@@ -11,9 +10,9 @@ import unittest
 from unittest import mock
 from typing import Any, Dict, List, Tuple
 
-from ljclient import ConnectionLost, Order, connect, xyz
-from ljclient.order import by_halves
-from support import TOKEN, TOP, Alone, Server, dimer, folder_of, interruptible, listed, present, process_of
+from ljclient import Order, connect, xyz
+from ljclient.order import by_halves, sorted_anew
+from support import TOKEN, TOP, Alone, Server, dimer, folder_of, interruptible, listed, present
 
 SCALE: Dict[str, Any] = {"edge": 8.4, "sigma": 1, "h": 131072}
 CLASSES = [(1, 131072, 256), (0.9, 150000, 300), (0.95, 140000, 200)]
@@ -58,6 +57,30 @@ class Halves(unittest.TestCase):
                 first = -(-count // 64) // 2 * 64
                 left = sorted(range(count), key=lambda atom: places[atom][0])[:first]
                 self.assertEqual({atom for atom in range(count) if numbers[atom] < first}, set(left))
+
+    def test_blocks_of_atoms_that_are_sorted_anew(self) -> None:
+        # Alike atoms come into the blocks that halves give them, and who is in its block already keeps its number.
+        drawn = random.Random(3)
+        for count in (1, 64, 65, 128, 500, 1000):
+            places = [(drawn.randrange(2**32), drawn.randrange(2**32), drawn.randrange(2**32)) for _ in range(count)]
+            before = drawn.sample(range(count), count)
+            new = sorted_anew(places, ["Ar"] * count, Order(tuple(before)))
+            self.assertEqual(sorted(new), list(range(count)))
+            self.assertEqual([number // 64 for number in new], [number // 64 for number in by_halves(places)])
+            self.assertTrue(all(now == then for now, then in zip(new, before) if now // 64 == then // 64))
+
+    def test_symbols_stay_at_the_numbers_of_the_server(self) -> None:
+        drawn = random.Random(4)
+        places = [(drawn.randrange(2**32), drawn.randrange(2**32), drawn.randrange(2**32)) for _ in range(700)]
+        symbols = [drawn.choice(("A", "A", "B")) for _ in places]
+        order = Order(tuple(drawn.sample(range(700), 700)))
+        new = Order(sorted_anew(places, symbols, order))
+        self.assertEqual(new.for_server(symbols), order.for_server(symbols))
+        # Atoms of one symbol are sorted by halves among themselves: the first half of the blocks has those with the smaller x.
+        for symbol in "AB":
+            alike = [atom for atom, each in enumerate(symbols) if each == symbol]
+            left = [places[atom][0] for atom in alike if new.number_of(atom) < 5 * 64]
+            self.assertLess(max(left), min(places[atom][0] for atom in alike if new.number_of(atom) >= 5 * 64))
 
     def test_orders(self) -> None:
         order = Order((2, 0, 1), step=10, direction=-1)
@@ -168,7 +191,7 @@ class Numbers(Sessions):
         order = ordered.order
         words = self.user.ask(f"SHOW sorted {order.numbers[123]}").words
         self.assertEqual(tuple(map(int, words[4:])), plain.place(123))
-        self.assertEqual((order.step_of(int(words[2])), order.step, int(words[2])), (260, 250, 10))
+        self.assertEqual((order.step_of(int(words[2])), order.step, int(words[2])), (260, 0, 260))
 
     def test_another_connection_takes_an_order(self) -> None:
         with Server() as server:
@@ -237,7 +260,8 @@ class Renewals(Sessions):
         plain, _ = self.both()
         places = listed(plain.places())
         plain.resort()
-        self.assertEqual((plain.order, listed(plain.places())), (Order(by_halves(places), 0, 1, True), places))
+        self.assertEqual(plain.order, Order(sorted_anew(places, [row[0] for row in self.rows], Order())))
+        self.assertEqual((listed(plain.places()), plain.symbols()), (places, [row[0] for row in self.rows]))
         order = plain.order
         self.assertEqual((plain.advance(600), plain.order), (600, order))
         a = dimer(self.user)
@@ -265,43 +289,28 @@ class Renewals(Sessions):
         self.assertEqual((listed(ordered.places()), len(self.user.sessions())), (places, 2))
 
     def test_interrupts_lose_nothing(self) -> None:
-        """An interrupt comes while the motion is turned back to be read, and while the session is gone to be loaded again."""
+        """An interrupt comes while the motion is turned back to be read, and while atoms change places."""
         plain, ordered = self.both()
-        ask = self.user.ask_commands
-        for word in ("REVERSE", "LOAD"):
+        asked = {"ask_all": 0, "ask_rows": 0}
+        for name in asked:
+            ask = getattr(self.user, name)
 
-            def interrupted(commands: Any) -> Any:
-                half = len(commands) // 2
-                if not any(line.startswith(word) for line, _ in commands):
-                    return ask(commands)
-                first = ask(commands[:half])
+            def interrupted(lines: Any) -> Any:
+                half = len(lines) // 2
+                if not any(line.startswith("REVERSE") for line in lines):
+                    return ask(lines)
+                asked[name] += 1
+                first = ask(lines[:half])
                 signal.raise_signal(signal.SIGINT)
-                return first + ask(commands[half:])
+                return first + ask(lines[half:])
 
             ordered.advance(250)
-            with mock.patch.object(self.user, "ask_commands", side_effect=interrupted), interruptible():
+            with mock.patch.object(self.user, name, side_effect=interrupted), interruptible():
                 with self.assertRaises(KeyboardInterrupt):
                     ordered.advance(10)
             plain.advance(ordered.step - plain.step)
             self.same(plain, ordered)
-
-    def test_a_connection_that_is_lost_on_the_way(self) -> None:
-        plain, ordered = self.both()
-        ordered.advance(300)
-        plain.advance(300)
-        ask = self.user.ask_commands
-
-        def lose(commands: Any) -> Any:
-            if any(body for _, body in commands):
-                os.kill(process_of(self.user), signal.SIGKILL)
-            return ask(commands)
-
-        plain.save(self.folder / "plain")
-        with mock.patch.object(self.user, "ask_commands", side_effect=lose), self.assertRaises(ConnectionLost) as caught:
-            ordered.resort()
-        texts = [caught.exception.rescued, (self.folder / "plain").read_text()]
-        atoms = [[line.split(" ")[1:] for line in present(text).splitlines()[-501:]] for text in texts]
-        self.assertEqual(atoms[0], atoms[1])
+        self.assertEqual(asked, {"ask_all": 1, "ask_rows": 1})
 
 
 class Script(Sessions):

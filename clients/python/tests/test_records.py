@@ -12,7 +12,7 @@ import pytest
 
 import support
 from ljclient import ClientError, ConnectionLost, NotRecorded, Refused, recording, refusals, run, user as users
-from record_texts import COMMANDS, DIMER_TEXT, commands, is_the_same, replied, twisted, verified, with_checks, without_checks
+from record_texts import COMMANDS, DIMER_TEXT, commands, is_the_same, replied, verified, with_checks, without_checks
 from support import ARGON, DIMER, EXAMPLES, PROGRAM, SECONDS, TOKEN, TOP, Server
 from support import dimer, interrupted_when, joined, listed, present, process_of
 from terminals import environment
@@ -254,30 +254,19 @@ def test_commands_behind_a_drop(user: Any, path: Any) -> None:
 
 
 def test_atoms_in_the_order_of_space(path: Any) -> None:
-    """They are sorted anew, by which the session is dropped and loaded, and the record goes on."""
+    """They are sorted anew by tugs, as which it stands in the record."""
     with run(PROGRAM) as user:
         argon = user.load("argon", EXAMPLES / "argon_256.xyz", order="space", record=path, **ARGON)
+        argon.heat(200)
         argon.advance(600)
         wanted = listed(argon.places())
         argon.branch("k")
         argon.advance(300)
         argon.restore("k")
         assert listed(argon.places()) == wanted
-    assert commands(path).count("DROP argon") == 3
-    assert is_the_same(path) == []
-
-
-def test_a_sort_for_which_there_is_no_memory(path: Any, tmp_path: pathlib.Path) -> None:
-    """The session is gone then, and its record ends. What is loaded under its name is another one."""
-    with run(twisted(tmp_path, "OK LOAD a 0 2", "ERR 90 MEMORY", 2)) as user:
-        a = dimer(user, record=path)
-        with pytest.raises(refusals.Memory) as caught:
-            a.resort()
-        assert present(caught.value.rescued).startswith("ljserve checkpoint 1\n")
-        assert replied(path)[-2][0] == "DROP a" and replied(path)[-1][1] == "!"
-        assert without_checks(path)[-2:] == ["! ERR 90 MEMORY", "end"]
-        user.ask("ADVANCE a 1")
-    assert without_checks(path)[-1] == "end"
+    lines = commands(path)
+    assert "DROP argon" not in lines and [line.split()[0] for line in lines].count("LOAD") == 1
+    assert any(line.startswith("TUG argon ") for line in lines[lines.index("ADVANCE argon 250") if "ADVANCE argon 250" in lines else 300 :])
     assert is_the_same(path) == []
 
 

@@ -55,7 +55,8 @@ def from_a_file(user: Any, folder: Any) -> None:
     user.load_saved(folder / "saved", replace=True)
 
 
-WAYS = [in_space, sorted_anew, from_a_file]
+ON_RING = [in_space, from_a_file]
+WAYS = [*ON_RING, sorted_anew]
 
 
 def shown(user: Any, count: int = 256) -> List[Any]:
@@ -82,7 +83,7 @@ def seen(session: Any, folder: Any) -> List[Any]:
     return [*(millionths(text.splitlines()[2:]) for text in texts), millionths(frame)]
 
 
-@pytest.mark.parametrize("way", WAYS)
+@pytest.mark.parametrize("way", ON_RING)
 def test_frames_are_in_the_box_that_is_said(join: Any, tmp_path: pathlib.Path, way: Any) -> None:
     with join() as user:
         way(user, tmp_path)
@@ -179,7 +180,7 @@ def test_sessions_in_a_box_of_the_user(join: Any, tmp_path: pathlib.Path, no_war
 def test_lists_without_numpy(join: Any, tmp_path: pathlib.Path, kind: Any) -> None:
     with mock.patch.object(arrays, "numpy", kind):
         with join() as user:
-            sorted_anew(user, tmp_path)
+            in_space(user, tmp_path)
         with join() as user, pytest.warns(UserWarning):
             assert seen(user.session("a", **SCALE), tmp_path) == [in_box(shown(user), 21.04)] * 3
 

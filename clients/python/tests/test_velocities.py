@@ -138,7 +138,7 @@ def test_at_the_last_step_it_is_refused_and_stays() -> None:
     lines = []
 
     def talk(connection: Any, stop: Any) -> None:
-        for reply in (b"OK HELLO ann\n", b"OK LIST a 0\n", b"OK ADVANCE a 1000000000000\n", b"ERR 23 STEP_RANGE\n"):
+        for reply in (b"OK HELLO ann\n", b"OK LIST 0\n", b"OK LIST a 0\n", b"OK ADVANCE a 1000000000000\n", b"ERR 23 STEP_RANGE\n"):
             lines.append(read_line(connection))
             connection.sendall(reply)
         stop.wait(SECONDS)
@@ -148,7 +148,7 @@ def test_at_the_last_step_it_is_refused_and_stays() -> None:
         with pytest.raises(refusals.StepRange):
             user.session("a").velocities()
         user._wire.close()
-    assert lines[1:] == [b"LIST a\n", b"ADVANCE a 0\n", b"ADVANCE a 1\n"]
+    assert lines[2:] == [b"LIST a\n", b"ADVANCE a 0\n", b"ADVANCE a 1\n"]
 
 
 def test_without_a_scale_they_are_a_value_error(user: Any) -> None:

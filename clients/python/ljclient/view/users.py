@@ -84,7 +84,7 @@ class Account:
         if self.token is None:
             raise NoToken(f"the token of {self.name} was not said")
         try:
-            return joined(self._transport, self.name, self.token, seconds)
+            return joined(self._transport, self.name, self.token, seconds, str(self.address))
         finally:
             self.is_reached = False
 

@@ -1,0 +1,138 @@
+"""Notes on this machine's disk: what a session was before a look or a change for which the server had no place.
+
+They are files of the folder `ljclient` in the user's folder of state (`XDG_STATE_HOME`, else `~/.local/state`). A note, `.json`,
+is there as long as the session may be on its way. A session that is replaced, and for which the quota has no place beside the
+new one, is saved there meanwhile, `.saved`. Other machines know nothing of either.
+"""
+from __future__ import annotations
+
+import contextlib
+import dataclasses
+import hashlib
+import json
+import os
+import pathlib
+import re
+import secrets
+from typing import Any, Callable, Dict, Iterator, List, Optional, Sequence, Tuple
+
+from .errors import ClientError
+from .files import write_whole
+from .order import Place
+
+FORMAT = "ljclient note 1"
+THIS_MACHINE = ("127.0.0.1", "::1", "[::1]")
+DIGITS = 16
+# The name of a session, a sum of whose it is, and of a saved session digits that make it a file of its own.
+SHAPE = re.compile(rf"([A-Za-z0-9_-]{{1,16}}?)-[0-9a-f]{{{DIGITS}}}(?:-[0-9a-f]{{8}})?\.[a-z]+")
+
+
+@dataclasses.dataclass(frozen=True)
+class Owned:
+    """Whose session a file is of.
+
+    server         the address as it was said, HOST:PORT
+    user, session  their names
+    """
+
+    server: str
+    user: str
+    session: str
+
+    def path(self, ending: str) -> pathlib.Path:
+        """Its file with this ending."""
+        host, _, port = self.server.rpartition(":")
+        words = "\n".join(("localhost" if host in THIS_MACHINE else host, port, self.user, self.session))
+        return folder() / f"{self.session}-{hashlib.sha256(words.encode()).hexdigest()[:DIGITS]}{ending}"
+
+
+@dataclasses.dataclass(frozen=True)
+class Note:
+    """What a session was, in the server's numbers.
+
+    owned      whose it is
+    step       its step number
+    direction  1 or -1: by how much the next step changes it. None where only REVERSE was on its way
+    before     of a change the places of all atoms a step before; None of a look
+    """
+
+    owned: Owned
+    step: int
+    direction: Optional[int] = None
+    before: Optional[Sequence[Place]] = None
+
+    @property
+    def path(self) -> pathlib.Path:
+        return self.owned.path(".json")
+
+    def write(self) -> None:
+        """Writes it to the disk. Raises ClientError where it cannot be."""
+        told = dataclasses.asdict(self)
+        del told["owned"]
+        try:
+            made_folder()
+            write_whole(self.path, json.dumps({"format": FORMAT, **told}).encode())
+        except OSError as error:
+            why = error.strerror or error
+            text = f"the quota of branches is used up, and {self.path} cannot be written ({why}): forget a branch"
+            raise ClientError(text) from error
+
+    def remove(self) -> None:
+        """Takes its file away."""
+        with contextlib.suppress(FileNotFoundError):
+            self.path.unlink()
+
+
+def folder() -> pathlib.Path:
+    """The folder of these files."""
+    state = os.environ.get("XDG_STATE_HOME") or os.path.join(os.path.expanduser("~"), ".local", "state")
+    return pathlib.Path(state) / "ljclient"
+
+
+def made_folder() -> None:
+    """Makes the folder where it is missing."""
+    folder().mkdir(mode=0o700, parents=True, exist_ok=True)
+
+
+@contextlib.contextmanager
+def noted(note: Note) -> Iterator[Callable[[Note], None]]:
+    """A note is on the disk within, and another one of the same session after the call that is given. It stays there where what is
+    done within is broken off."""
+    note.write()
+    yield Note.write
+    note.remove()
+
+
+def saved_file_of(owned: Owned) -> pathlib.Path:
+    """A file that is not there yet, for a session that is to be replaced."""
+    made_folder()
+    return owned.path(f"-{secrets.token_hex(4)}.saved")
+
+
+def saved_files_of(server: str, user: str) -> List[Tuple[str, pathlib.Path]]:
+    """The files of a user's sessions at a server that were to be replaced, each with the name of its session."""
+    return _files_of(server, user, ".saved")
+
+
+def notes_of(server: str, user: str) -> List[Note]:
+    """The notes of a user's sessions at a server. A file that is none is passed over."""
+    notes = (_read(Owned(server, user, name), path) for name, path in _files_of(server, user, ".json"))
+    return [note for note in notes if note is not None]
+
+
+def _files_of(server: str, user: str, ending: str) -> List[Tuple[str, pathlib.Path]]:
+    found = ((SHAPE.fullmatch(path.name), path) for path in sorted(folder().glob(f"*{ending}")))
+    named = [(shape[1], path) for shape, path in found if shape]
+    return [(name, path) for name, path in named if path.name.startswith(Owned(server, user, name).path("").name)]
+
+
+def _read(owned: Owned, path: pathlib.Path) -> Optional[Note]:
+    try:
+        told: Dict[str, Any] = json.loads(path.read_text())
+        if told.pop("format") != FORMAT:
+            return None
+        note = Note(owned, **told)
+        before = [(int(x), int(y), int(z)) for x, y, z in note.before or ()]
+        return dataclasses.replace(note, step=int(note.step), before=before or None)
+    except (OSError, ValueError, TypeError, KeyError, AttributeError):
+        return None

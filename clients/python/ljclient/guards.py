@@ -1,0 +1,180 @@
+"""What brings a session back where a connection is lost while it is looked at or changed: a branch of a reserved name.
+
+A look makes steps and turns the motion back, and a change of many atoms tugs one after the other. Both begin with BRANCH of a
+reserved name, and end when that is forgotten. If the connection is lost between, the next one restores it (`leftovers`). Where
+the quota has no place for it, a note on this machine's disk says what the session was (`disk_notes`). A program of its own ends
+with its connection, so there neither is needed.
+"""
+from __future__ import annotations
+
+import contextlib
+import dataclasses
+from typing import TYPE_CHECKING, Collection, Iterator, List, NamedTuple, Optional, Sequence, Tuple
+
+from .disk_notes import Note, Owned, noted
+from .errors import ClientError, Refused
+from .interrupts import held
+from .names import checked_name
+from .order import Place
+from .refusals import BranchExists, Memory, QuotaBranches
+from .replies import number_after
+
+if TYPE_CHECKING:
+    from .loading import Loader
+
+LOOK = "ljclient-look"
+CHANGE = "ljclient-change"
+# The session that a load has under this name until it is in the place of another one.
+REPLACING = "ljclient-new"
+RESERVED = frozenset((LOOK, CHANGE))
+# How many commands a guard takes at most beside those that it guards: all of these go over one connection.
+MOST_OF_A_GUARD = 10
+NO_PLACE = (BranchExists, QuotaBranches, Memory)
+
+
+class Way(NamedTuple):
+    """The commands that bring a session back in a look.
+
+    turned   after REVERSE
+    stepped  after a step
+    end      at the end, when it is back
+    """
+
+    turned: Tuple[str, ...]
+    stepped: Tuple[str, ...]
+    end: Tuple[str, ...] = ()
+
+    @staticmethod
+    def by_turns(name: str) -> "Way":
+        """By its own motion: n steps and REVERSE undo themselves."""
+        turn, step = f"REVERSE {name}", f"ADVANCE {name} 1"
+        return Way((turn,), (turn, step, turn))
+
+    @staticmethod
+    def by_branch(name: str) -> "Way":
+        """By what the look has saved."""
+        restore = (f"RESTORE {name} {LOOK}",)
+        return Way(restore, restore, (f"FORGET {name} {LOOK}",))
+
+
+@contextlib.contextmanager
+def look(user: "Loader", name: str, count: int) -> Iterator[Way]:
+    """A look at a session without pending steps by so many commands, which is at the end as it was. An interrupt waits until then.
+
+    The commands of the way that is given have to be asked within, the last of them those of its end.
+    """
+    with held(), user.lock:
+        user.make_room(count + MOST_OF_A_GUARD)
+        if not user.outlasts_connections:
+            yield Way.by_turns(name)
+        elif (step := _saved(user, name, LOOK)) is not None:
+            with _said_if_lost(user, name, step), _forgotten(user, name, LOOK):
+                yield Way.by_branch(name)
+        else:
+            with _noted(user, name):
+                yield Way.by_turns(name)
+
+
+@contextlib.contextmanager
+def change(user: "Loader", name: str, before: Sequence[Place]) -> Iterator[Tuple[str, ...]]:
+    """A change of many atoms of a session by tugs, whose places of the step before are given in the server's order.
+
+    The commands that are given end it, and have to be the last ones that are asked within. An interrupt waits until then.
+    """
+    with held(), user.lock:
+        user.make_room(len(before) + MOST_OF_A_GUARD)
+        if not user.outlasts_connections:
+            yield ()
+        elif (step := _saved(user, name, CHANGE)) is not None:
+            with _said_if_lost(user, name, step), _forgotten(user, name, CHANGE):
+                yield (f"FORGET {name} {CHANGE}",)
+        else:
+            with _noted(user, name, before):
+                yield ()
+
+
+@contextlib.contextmanager
+def reordering(user: "Loader", name: str, count: int) -> Iterator[Tuple[str, ...]]:
+    """As `change`, of the order of a session's atoms by so many commands, on whose way its motion is turned back. So it is guarded
+    as a look is.
+
+    Raises the refusal, and nothing is changed, where the quota has no place for it.
+    """
+    with held(), user.lock:
+        user.make_room(count + MOST_OF_A_GUARD)
+        if not user.outlasts_connections:
+            yield ()
+            return
+        line = f"BRANCH {name} {LOOK}"
+        step = number_after(line, user.ask(line).words, 3)
+        with _said_if_lost(user, name, step), _forgotten(user, name, LOOK):
+            yield (f"FORGET {name} {LOOK}",)
+
+
+def _saved(user: "Loader", name: str, branch: str) -> Optional[int]:
+    """Saves a session under a reserved name. Returns the server's step, or None where there is no place for it."""
+    line = f"BRANCH {name} {branch}"
+    try:
+        return number_after(line, user.ask(line).words, 3)
+    except NO_PLACE:
+        return None
+
+
+@contextlib.contextmanager
+def _forgotten(user: "Loader", name: str, branch: str) -> Iterator[None]:
+    """Where what is asked within is broken off and the connection goes on, the session is put back at once."""
+    try:
+        yield
+    except BaseException:
+        with contextlib.suppress(ClientError):
+            if not user.closed and branch in branches_of(user, name):
+                user.ask_rows([f"RESTORE {name} {branch}", f"FORGET {name} {branch}"])
+        raise
+
+
+@contextlib.contextmanager
+def _noted(user: "Loader", name: str, before: Optional[Sequence[Place]] = None) -> Iterator[None]:
+    """A note on the disk says within what the session was. Its direction is learnt by turning it back and again."""
+    wait = f"ADVANCE {name} 0"
+    owned = Owned(user.address, user.name or "", name)
+    note = Note(owned, number_after(wait, user.ask(wait).words, 2), before=before)
+    with _said_if_lost(user, name, note.step), noted(note) as keep:
+        if before is None:
+            back = user.ask_rows([f"REVERSE {name}", f"REVERSE {name}"]).split(b"\n")[0]
+            keep(dataclasses.replace(note, direction=note.step - int(back.split(b" ")[-1])))
+        yield
+
+
+@contextlib.contextmanager
+def _said_if_lost(user: "Loader", name: str, step: int) -> Iterator[None]:
+    """Has the error of a connection that is lost within say what the session was before."""
+    try:
+        yield
+    except ClientError as error:
+        if user.closed and not isinstance(error, Refused):
+            known = user.known(name)
+            order, turned = known.order, known.direction
+            direction = "" if turned is None else f", direction {order.direction * turned:+}"
+            error.more = f"{name} was at step {order.step_of(step)}{direction} before that, and the next connection puts it back there"
+        raise
+
+
+def checked_branch(name: str) -> str:
+    """A name to save a simulation under. Raises ValueError for what is none, and for one that is reserved."""
+    return _checked(name, RESERVED)
+
+
+def checked_session(name: str) -> str:
+    """A name for a session. Raises ValueError for what is none, and for one that is reserved."""
+    return _checked(name, (REPLACING,))
+
+
+def _checked(name: str, reserved: Collection[str]) -> str:
+    if checked_name(name) in reserved:
+        raise ValueError(f"{name} is a name that this client keeps for itself: say another one")
+    return name
+
+
+def branches_of(user: "Loader", name: str) -> List[str]:
+    """The names of all that is saved in a session, the reserved ones too."""
+    return [line.split(" ")[0] for line in user.ask(f"LIST {name}").lines]

@@ -1,0 +1,71 @@
+"""The one command that loads atoms into a new session: as they were said, in motion, and in the order of space."""
+from __future__ import annotations
+
+from dataclasses import dataclass, replace
+from typing import Optional
+
+from .exact import exact_frames, text_in_box
+from .motion import Motion
+from .order import Order, by_halves
+from .state import Command, Known, State
+from .units import RING, Number, is_on_ring, nano
+from .xyz import Frames
+
+
+@dataclass(frozen=True)
+class NewSession:
+    """What loads a session of any name.
+
+    verb, words  the command, and its words between the name and the mode
+    frames       the mode and the atoms as they were said
+    edge         the edge of the box in 10^-9 of the file's unit, where `state` is there
+    state        what atoms that move, or that are sorted, are at step 0, in the user's order. None for others, and for those that
+                 the server does not take: it says what is wrong with them
+    """
+
+    verb: str
+    words: str
+    frames: Frames
+    edge: int = 0
+    state: Optional[State] = None
+
+    @staticmethod
+    def of(verb: str, words: str, frames: Frames, edge: Number, motion: Optional[Motion], known: Known) -> "NewSession":
+        new = NewSession(verb, words, frames)
+        if known.scale is None or not (motion or known.is_sorted):
+            return new
+        if not all(map(is_on_ring, known.mixture.classes if known.mixture else (known.scale,))):
+            return new
+        exact = exact_frames(*frames, nano(edge))
+        if exact is None:
+            return new
+        exact = exact if motion is None else exact.moved(motion.displacements)
+        state = State("", known.scale, known.mixture, 0, 1, exact.symbols, exact.places, exact.before, known.is_sorted)
+        return replace(new, edge=nano(edge), state=state)
+
+    @property
+    def order(self) -> Order:
+        """The order in which the server has the atoms."""
+        return Order(by_halves(self.state.places) if self.state and self.state.is_sorted else None)
+
+    @property
+    def is_on_ring(self) -> bool:
+        """Whether the server has them in the box that shows each ring unit. In another one a place has no coordinate of its own
+        where the box is small."""
+        return self.state is not None and (self.state.is_sorted or self.edge < RING)
+
+    def command(self, name: str) -> Command:
+        """The command that loads it under a name, and its body."""
+        mode, body = self.frames
+        if self.state is not None:
+            if self.is_on_ring:
+                return replace(self.state, name=name).command(self.order)
+            both = (self.state.before, self.state.places)
+            mode, body = "pair", b"".join(text_in_box("ljclient", self.state.symbols, places, self.edge) for places in both)
+        return f"{self.verb} {name} {self.words} {mode} {len(body)}", body
+
+    def known(self, known: Known) -> Known:
+        """What is known of the session when it is loaded."""
+        if self.state is not None and self.is_on_ring:
+            known = replace(self.state.known(self.order), watch=known.watch)
+        return replace(known, direction=1)

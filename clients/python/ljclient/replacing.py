@@ -1,0 +1,100 @@
+"""A session in the place of another one of its name: the older one is there until the new one was taken by the server.
+
+The new one is loaded under a reserved name first. So what is wrong with it is told while the older one is still there, and what
+is lost of a connection on the way is found by the next one (`leftovers`). Where the quota has no place for both, the older one is
+saved to a file meanwhile.
+"""
+from __future__ import annotations
+
+import contextlib
+from typing import TYPE_CHECKING, Callable, Iterator, List, Optional, Sequence
+
+from . import checkpoint
+from .disk_notes import Owned, saved_file_of
+from .errors import ClientError, Refused
+from .guards import REPLACING, RESERVED, branches_of
+from .interrupts import held
+from .refusals import Memory, QuotaAtoms, QuotaBranches, QuotaSessions
+from .state import Command
+
+if TYPE_CHECKING:
+    from .loading import Loader
+
+NO_PLACE = (QuotaSessions, QuotaAtoms, QuotaBranches, Memory)
+# The command that loads a session under a name.
+CommandOf = Callable[[str], Command]
+
+
+@contextlib.contextmanager
+def replacing(user: "Loader", name: str, command_of: CommandOf, is_wanted: bool) -> Iterator[List[Command]]:
+    """Within, a session of this name may be loaded by its command, after the commands that are given: where it is wanted that an
+    older one is replaced, they drop that. An interrupt waits until then.
+
+    Raises the refusal, and nothing is changed, if the server does not take the new one.
+    """
+    if not is_wanted and REPLACING not in user.session_names:
+        yield []
+        return
+    with held(), user.lock:
+        rows = [row.name for row in user.sessions()]
+        gone = gone_of(user, rows)
+        if not is_wanted or name not in rows:
+            yield []
+            if name == gone:
+                user.ask(f"DROP {REPLACING}")
+            return
+        if gone is not None:
+            raise ValueError(f"{gone} is gone, and what was to replace it is there as {REPLACING}: load {gone} first")
+        if REPLACING in rows:
+            user.ask(f"DROP {REPLACING}")
+        with _replaced(user, name, command_of):
+            yield [(f"DROP {name}", b"")]
+
+
+def gone_of(user: "Loader", rows: Sequence[str]) -> Optional[str]:
+    """The session that is gone, and that an earlier connection has left to be replaced, if there is one."""
+    names = branches_of(user, REPLACING) if REPLACING in rows else []
+    return next((name for name in names if name not in (*RESERVED, *rows)), None)
+
+
+@contextlib.contextmanager
+def _replaced(user: "Loader", name: str, command_of: CommandOf) -> Iterator[None]:
+    """Within, a session is dropped and loaded anew: the new one is there under the reserved name, or the older one in a file."""
+    if _is_taken(user, name, command_of):
+        with _told(name, f"what was to replace it is there as {REPLACING}"):
+            yield
+            user.ask(f"DROP {REPLACING}")
+        return
+    state = user.state_of(name)
+    path = saved_file_of(Owned(user.address, user.name or "", name))
+    checkpoint.write(state, path)
+    with _told(name, f"as it was it is saved in {path}, and user.load_saved(..) loads it"):
+        yield
+    path.unlink()
+
+
+def _is_taken(user: "Loader", name: str, command_of: CommandOf) -> bool:
+    """Has the new session be there under the reserved name, and in it the name of the older one. Returns whether there is a place
+    for it."""
+    try:
+        user.ask_commands([command_of(REPLACING)])
+    except NO_PLACE:
+        return False
+    except Refused as refusal:
+        raise type(refusal)(command_of(name)[0], refusal.line, refusal.number, refusal.name, refusal.meaning) from None
+    try:
+        user.ask(f"BRANCH {REPLACING} {name}")
+    except NO_PLACE:
+        user.ask(f"DROP {REPLACING}")
+        return False
+    return True
+
+
+@contextlib.contextmanager
+def _told(name: str, where: str) -> Iterator[None]:
+    """Has an error that comes within say where the session is."""
+    try:
+        yield
+    except ClientError as error:
+        error.more = f"if {name} is gone, {where}"
+        raise

@@ -1,0 +1,119 @@
+"""Connections that are lost while a session is looked at, changed or replaced: the next one has it as it was before or after.
+
+Each call is cut at 200 places, from its first byte on. What the session is then is read by the protocol alone.
+"""
+import pathlib
+import warnings
+from typing import Any, Callable, Dict, Iterator, List, NamedTuple
+
+import pytest
+
+from cuts import Talk, Where, cuttable, joined, places, seen, served, transport_of
+from ljclient import ClientError
+
+
+PLACES = 200
+SCALE: Dict[str, Any] = {"edge": 8.0, "sigma": 1.0, "h": 4096}
+MOVED = [(1000, -2000, 3000), (-500, 700, -900), (0, 40, 0), (0, 0, 5), (9, 9, 9), (-8, 0, 0), (600, 600, -600), (-1, -1, 1)]
+SITES = [(x, y, z) for x in (1.0, 2.2) for y in (1.0, 2.2) for z in (1.0, 2.2)]
+ROWS = [("Ar", *site) for site in SITES]
+OTHERS = [("Ar", x + 3, y, z) for x, y, z in SITES[:6]]
+
+
+@pytest.fixture(scope="module", params=["lock", "queue", "keep"])
+def where(request: Any, tmp_path_factory: pytest.TempPathFactory) -> Iterator[Where]:
+    """A server over each pool, and one behind `tools/keep`."""
+    with served(request.param, tmp_path_factory.mktemp("kept")) as where:
+        yield where
+
+
+@pytest.fixture(autouse=True)
+def state(tmp_path: pathlib.Path, monkeypatch: Any) -> None:
+    """The folder of notes is one of the test."""
+    monkeypatch.setenv("XDG_STATE_HOME", str(tmp_path / "state"))
+
+
+def prepared(user: Any, order: Any = None) -> Any:
+    """Eight atoms that move, at step 3, with something saved in them."""
+    for name in [row.name for row in user.sessions()]:
+        user.ask(f"DROP {name}")
+    session = user.load("a", ROWS, watch=False, order=order, **SCALE)
+    for atom, moved in enumerate(MOVED):
+        session.tug(atom, moved)
+    session.advance(3)
+    return session
+
+
+class Call(NamedTuple):
+    """A call that is cut: what it does with a session, by how many steps it goes on, and whether it changes the motion."""
+
+    do: Callable[[Any, pathlib.Path], Any]
+    steps: int = 0
+    is_change: bool = False
+
+
+def broken_rows(session: Any, folder: pathlib.Path) -> None:
+    """A row, behind which the rows are broken off. Where the connection is lost then, the next command says so."""
+    rows = session.thermo(every=2, rows=3)
+    next(rows)
+    rows.close()
+    session.measure()
+
+
+CALLS = {
+    "velocities": Call(lambda session, folder: session.velocities()),
+    "forces": Call(lambda session, folder: session.forces()),
+    "pressure": Call(lambda session, folder: session.pressure()),
+    "to_ase": Call(lambda session, folder: session.to_ase()),
+    "save": Call(lambda session, folder: session.save(folder / "a")),
+    "thermo": Call(lambda session, folder: list(session.thermo(every=2, rows=1))),
+    "rows": Call(lambda session, folder: list(session.thermo(every=2, rows=3)), 5),
+    "broken rows": Call(broken_rows),
+    "frames": Call(lambda session, folder: list(session.frames(2, 3)), 4),
+    "write_trajectory": Call(lambda session, folder: session.write_trajectory(folder / "a.xyz", 2, 2), 2),
+    "advance and save": Call(lambda session, folder: session.advance(4, save=folder / "a", seconds=0, piece=1), 4),
+    "heat": Call(lambda session, folder: session.heat(1.0), is_change=True),
+    "rescale": Call(lambda session, folder: session.rescale(0.5), is_change=True),
+}
+
+
+def steps_of(where: Where, order: Any, steps: int) -> List[Any]:
+    """What a session is at the steps from 3 on, so many of them, without any look."""
+    with joined(where) as user:
+        prepared(user, order)
+    found = [seen(where)]
+    for _ in range(steps):
+        talk = Talk(where)
+        talk.told("ADVANCE a 1")
+        talk.close()
+        found.append(seen(where))
+    return found
+
+
+def bytes_of(where: Where, order: Any, call: Call, folder: pathlib.Path) -> int:
+    """How many bytes a client sends for a call."""
+    with cuttable(where) as user:
+        session = prepared(user, order)
+        before = transport_of(user).sent
+        call.do(session, folder)
+        return int(transport_of(user).sent) - before
+
+
+@pytest.mark.parametrize("order", [None, "space"])
+@pytest.mark.parametrize("name", CALLS)
+def test_a_session_is_as_it_was_before_or_after(where: Where, tmp_path: pathlib.Path, name: str, order: Any) -> None:
+    call = CALLS[name]
+    total = bytes_of(where, order, call, tmp_path)
+    wanted = [seen(where)] if call.is_change else []
+    wanted += steps_of(where, order, call.steps)
+    for count in places(total, PLACES):
+        with cuttable(where) as user:
+            session = prepared(user, order)
+            transport_of(user).cut_after(count)
+            with pytest.raises(ClientError):
+                call.do(session, tmp_path)
+        with warnings.catch_warnings():
+            warnings.simplefilter("ignore" if call.is_change else "error")
+            with joined(where):
+                pass
+        assert seen(where) in wanted, f"cut after {count} of {total} bytes"
