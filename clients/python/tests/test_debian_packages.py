@@ -317,8 +317,12 @@ def check_removal(root: Any, token: Any) -> None:
 
 
 def check_purge(root: Any) -> None:
-    root.run("dpkg", "--purge", "ljserve")
-    for path in ("etc/ljserve", "etc/default/ljserve", "var/lib/ljserve"):
+    """Holds that what the package and the operator have made is told, and is gone."""
+    root.put("etc/ljserve/slips", "what an operator makes")
+    root.put("var/lib/ljserve-1/kept", "what a service of several keeps")
+    told = root.run("dpkg", "--purge", "ljserve")
+    assert "\nljserve: purge removes /etc/ljserve/users /etc/ljserve/slips /var/lib/ljserve /var/lib/ljserve-1\n" in told
+    for path in ("etc/ljserve", "etc/default/ljserve", "var/lib/ljserve", "var/lib/ljserve-1"):
         assert not (root.path / path).exists()
 
 
