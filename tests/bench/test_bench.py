@@ -3,6 +3,7 @@ from __future__ import annotations
 
 import ast
 import json
+import math
 import os
 import pathlib
 import shutil
@@ -16,6 +17,7 @@ from shared.program import Program
 TOP = pathlib.Path(__file__).resolve().parents[2]
 BENCH = TOP / "bench"
 sys.path.insert(0, str(BENCH))
+import parting  # noqa: E402
 import serving  # noqa: E402
 import timing  # noqa: E402
 
@@ -86,6 +88,18 @@ def test_wrong_words_are_told_in_a_line(script: pathlib.Path) -> None:
 def test_what_is_wrong_is_named(words: List[str], line: str) -> None:
     done = ended(BENCH / words[0], *words[1:])
     assert (done.returncode, done.stdout, done.stderr) == (2, "", f"{line}\n")
+
+
+def test_how_fast_runs_part_is_told_below_a_bin_and_above() -> None:
+    """Runs that part by exp(r t) up to 1/256 of sigma and by exp(3 t) from there on, each at its own time."""
+    times = [(rate, [(number - passed) / 20 for number in range(100)]) for rate, passed in ((9, 40), (11, 60))]
+    runs = [[math.exp((rate if time < 0 else 3) * time) / 256 for time in row] for rate, row in times]
+    below, above = (parting.rate_of(runs, 1 / 20, *within) for within in parting.RANGES.values())
+    assert (str(below), str(above)) == ("10.00 ± 1.00", "3.00 ± 0.00")
+
+
+def test_the_distance_of_two_frames_is_the_nearer_way_round_the_box() -> None:
+    assert parting.distance([(1, 0, 0), (5, 5, 5)], [(9, 0, 0), (5, 5, 5)], 10) == math.sqrt(2)
 
 
 def test_ways_run_in_turn() -> None:

@@ -1,0 +1,50 @@
+"""How far two runs of the same atoms are apart, and how fast they part."""
+from __future__ import annotations
+
+import math
+import statistics
+from typing import List, NamedTuple, Optional, Sequence, Tuple
+
+from figures import Rows
+
+BIN = 1 / 256  # the width of a bin where atoms are sigma apart
+# Ranges of distances, in sigma.
+RANGES = {"10^-8 to 1/256": (1e-8, BIN), "1/256 to 1/10": (BIN, 0.1)}
+
+
+class Rate(NamedTuple):
+    """The mean of a rate over runs, per unit of time, and its standard error."""
+
+    mean: float
+    error: float
+
+    def __str__(self) -> str:
+        return f"{self.mean:.2f} ± {self.error:.2f}"
+
+
+def distance(rows: Rows, others: Rows, edge: float) -> float:
+    """The root mean square distance of atoms, each round a box of this edge the nearer way."""
+    squares = (((a - b + edge / 2) % edge - edge / 2) ** 2 for row, other in zip(rows, others) for a, b in zip(row, other))
+    return math.sqrt(sum(squares) / len(rows))
+
+
+def slope(points: Sequence[Tuple[float, float]]) -> float:
+    """That of the line with the least squares."""
+    x, y = (statistics.fmean(column) for column in zip(*points))
+    return sum((a - x) * (b - y) for a, b in points) / sum((a - x) ** 2 for a, _ in points)
+
+
+def rate_within(run: Sequence[float], piece: float, near: float, far: float) -> Optional[float]:
+    """The slope of the logarithm of a run's distances, one after each piece of time, from the first at `near` to the last below `far`."""
+    first = next((at for at, apart in enumerate(run) if apart >= near), len(run))
+    last = next((at for at, apart in enumerate(run) if apart > far), len(run))
+    points = [(at * piece, math.log(run[at])) for at in range(first, last)]
+    return slope(points) if len(points) >= 3 else None
+
+
+def rate_of(runs: Sequence[Sequence[float]], piece: float, near: float, far: float) -> Rate:
+    """The rate of all runs that have three distances in the range."""
+    rates: List[float] = [rate for run in runs if (rate := rate_within(run, piece, near, far)) is not None]
+    if len(rates) < 2:
+        raise ValueError(f"too few runs have three distances from {near} to {far}")
+    return Rate(statistics.fmean(rates), statistics.stdev(rates) / math.sqrt(len(rates)))
