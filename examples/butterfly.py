@@ -5,8 +5,10 @@ A unit is a part in 2^32 of the box. Prints the distance between the two runs, w
 it over the steps with --plot. On the way back it shrinks again, and both end where they began, to the bit. The status is 1
 where one does not.
 
-Pushes are looked up by bins of squared distance, so the distance jumps where a pair first falls into another bin in one of
-the runs: not all of the growth is that of smooth motion.
+Pushes are looked up by bins, so the distance jumps where a pair first falls into another bin in one of the runs. Up to 1/256
+of sigma, the width of a bin at a distance of sigma, it grows two to three times as fast as that of two liquids with a smooth
+force, and from there on as fast as that (docs/ACCURACY.md). So a Lyapunov exponent is fitted from 1/256 of sigma on, as
+lyapunov.py does.
 """
 from __future__ import annotations
 
@@ -18,6 +20,7 @@ from shared import Frame, distance, hot_crystal, ljclient, options_of, show, the
 MELTING = 1000
 STEPS = 1200
 PIECE = 20
+BIN = 1 / 256  # the width of a bin at a distance of sigma, in sigma
 
 
 def fly(user: ljclient.User, steps: int = STEPS, piece: int = PIECE, tug: Sequence[int] = (1, 0, 0)) -> Tuple[List[Frame], List[Frame]]:
@@ -42,6 +45,7 @@ def draw(axes: Any, alone: Sequence[Frame], tugged: Sequence[Frame], piece: int 
     axes.semilogy(made[1 : turn + 1], apart[1 : turn + 1], color="tab:red", label="there")
     axes.semilogy(made[turn:-1], apart[turn:-1], color="tab:blue", label="back: after REVERSE")
     axes.axvline(made[turn], color="gray", linestyle=":", linewidth=1)
+    axes.axhline(BIN, color="gray", linestyle="--", linewidth=1, label="σ/256, the width of a bin")
     axes.set(xlabel="steps made", ylabel="distance of the two runs / σ", xlim=(0, made[-1]))
     axes.set_title("One atom, tugged by a part in $2^{32}$ of the box")
     axes.legend(loc="lower center")

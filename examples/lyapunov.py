@@ -9,11 +9,12 @@ to Dask:
     python3 examples/lyapunov.py --dask tcp://127.0.0.1:8786      (or --dask local for a cluster of its own)
 
 Prints the growth of the distance, or draws it with --plot, and the Lyapunov exponent with its error: the slope of the logarithm
-of the distance over the time, from 1/256 to 1/10 of sigma, as mean and standard error over the runs.
+of each run's distance over the time, from 1/256 to 1/10 of sigma, as mean and standard error over the runs.
 
 1/256 of sigma is the width of a bin at a distance of sigma, and pushes are looked up by bins. Two runs that are closer than a
-bin have the same pushes but for the pairs that fall into different bins, so their distance grows in jumps. That is no smooth
-motion, and has no exponent. From 1/10 of sigma on the runs begin to forget each other.
+bin have the same pushes but for the pairs that fall into different bins, so their distance grows in jumps, and two to three times
+as fast as that of two liquids with a smooth force (docs/ACCURACY.md). That is no exponent of the liquid, so a run is fitted from
+where its distance first is 1/256 of sigma. From 1/10 of sigma on the runs begin to forget each other.
 """
 from __future__ import annotations
 
@@ -74,15 +75,23 @@ def executor_of(options: argparse.Namespace) -> Iterator[Any]:
         yield functools.partial(ProcessPoolExecutor, options.processes)
 
 
+def inside(run: Sequence[float]) -> List[int]:
+    """Which distances of a run are in the range: from the first at NEAR to the last before one is above FAR."""
+    first, after = (next((number for number, far in enumerate(run) if far >= limit), len(run)) for limit in (NEAR, FAR))
+    return list(range(first, after))
+
+
 def exponent_of(runs: Sequence[Sequence[float]]) -> Tuple[List[float], List[float], List[int]]:
-    """The slope of each run's logarithm where the mean of them is in the range, with the first and the last piece of it."""
-    logarithms = [[math.log(max(far, 1e-300)) for far in run] for run in runs]
-    means = [statistics.fmean(column) for column in zip(*logarithms)]
-    inside = [number for number, mean in enumerate(means) if math.log(NEAR) <= mean <= math.log(FAR)]
-    if len(inside) < 3:
-        return [], means, inside
-    times = [number * PIECE * TIME_STEP for number in inside]
-    return [slope(times, [run[number] for number in inside]) for run in logarithms], means, inside
+    """The slope of the logarithm of each run where its own distance is in the range, if that is three times or more.
+
+    With it come the means of the logarithms, piece by piece, and which of these are in the range.
+    """
+    means = [statistics.fmean(math.log(max(far, 1e-300)) for far in column) for column in zip(*runs)]
+    fitted = [(run, numbers) for run in runs if len(numbers := inside(run)) >= 3]
+    slopes = [
+        slope([number * PIECE * TIME_STEP for number in numbers], [math.log(run[number]) for number in numbers]) for run, numbers in fitted
+    ]
+    return slopes, means, inside([math.exp(mean) for mean in means])
 
 
 def slope(xs: Sequence[float], ys: Sequence[float]) -> float:
@@ -100,14 +109,14 @@ def told_of(slopes: Sequence[float]) -> str:
 
 
 def draw(axes: Any, runs: Sequence[Sequence[float]]) -> None:
-    slopes, means, inside = exponent_of(runs)
+    slopes, means, inside_of_means = exponent_of(runs)
     times = [number * PIECE * TIME_STEP for number in range(len(means))]
     for run in runs:
         axes.semilogy(times[1:], run[1:], color="tab:red", linewidth=0.5, alpha=0.3)
     axes.semilogy(times[1:], [math.exp(mean) for mean in means[1:]], color="black", label=f"mean of {len(runs)} runs")
-    if slopes:
+    if slopes and inside_of_means:
         axes.axhspan(NEAR, FAR, color="tab:blue", alpha=0.1, linewidth=0)
-        first, rate = inside[0], statistics.fmean(slopes)
+        first, rate = inside_of_means[0], statistics.fmean(slopes)
         line = [math.exp(means[first] + rate * (time - times[first])) for time in times]
         shown = [number for number, far in enumerate(line) if NEAR / 100 <= far <= 1]
         label = f"exp({rate:.2f} t), as between 1/256 and 1/10"

@@ -181,7 +181,11 @@ class Session:
 
     @whole
     def tug(self, atom: int, displacement: Sequence[int]) -> int:
-        """Gives an atom a displacement of so many ring units (edge / 2^32) more for each step, along x, y and z."""
+        """Gives an atom a displacement of so many ring units (edge / 2^32) more for each step, along x, y and z.
+
+        Two runs of a liquid that are nearer than 1/256 sigma, the width of a bin of the table, part two to three times as fast
+        as the liquid's own chaos has them. So fit a Lyapunov exponent from 1/256 sigma on.
+        """
         return self._number(self._tug(atom, displacement), 3)
 
     @whole

@@ -196,6 +196,14 @@ class Example(Ensembles):
         self.assertIn("2.50 +- 0.50", told)
         self.assertIn("too few", self.told("-c", text.format([[1e-9] * 80])))
 
+    def test_a_run_is_fitted_from_the_width_of_a_bin_on(self) -> None:
+        """Runs that part by exp(10 t) up to 1/256 of sigma and by exp(3 t) from there on, each at its own time."""
+        step, width = 20 * math.sqrt(131072 / 2**32), 1 / 256
+        growths = [[(number - passed) * step for number in range(80)] for passed in (15, 30, 45)]
+        runs = [[width * math.exp((10 if time < 0 else 3) * time) for time in times] for times in growths]
+        text = "from lyapunov import exponent_of; print([round(each, 9) for each in exponent_of({})[0]])"
+        self.assertEqual(self.told("-c", text.format(runs)), "[3.0, 3.0, 3.0]\n")
+
     def test_a_short_run(self) -> None:
         words = ["lyapunov.py", "--runs", 3, "--steps", 60, "--melting", 200, "--folder", self.folder]
         told = [self.told(*words, "--processes", number) for number in (2, 1)]

@@ -112,7 +112,8 @@ COMMANDS = (
         "TUG s i dx dy dz",
         "OK TUG s i step",
         (10, 14),
-        "Gives an atom a displacement of so much more for each step.",
+        "Gives an atom a displacement of so much more for each step. Two runs of a liquid that are nearer than 1/256 sigma, the "
+        "width of a bin, part two to three times as fast as its own chaos has them: fit a Lyapunov exponent from there on.",
         ("> TUG a 0 5 0 0", "OK TUG a 0 0"),
     ),
     Command(
