@@ -208,6 +208,20 @@ class Loader:
         self._attach()
 
     @contextlib.contextmanager
+    def unrecorded(self, name: str) -> Iterator[None]:
+        """Leaves the commands of a session within this block out of its record. They leave the session as it was.
+
+        Where an error, an interrupt or the end of the connection breaks the block off, or a new connection or program is begun
+        within it, all of them are recorded. Within another such block the outer one decides.
+        """
+        with self.lock:
+            try:
+                with self._listeners.paused(name):
+                    yield
+            finally:
+                self._attach()
+
+    @contextlib.contextmanager
     def _heard_by(self, name: str, listener: Optional[Listener]) -> Iterator[None]:
         """Has someone hear of the commands of a session. Who heard of it before does so again if this one heard of no session."""
         before = self._listeners.by_name.get(name)

@@ -3,13 +3,15 @@ from __future__ import annotations
 
 import contextlib
 import os
-from typing import Callable, Dict, Iterator, List, Optional, Sequence, Set
+from collections import deque
+from typing import Callable, Deque, Dict, Iterator, List, Optional, Sequence, Set
 
 from . import record
 from .errors import NotRecorded
 from .files import Path, checked_target
 from .interrupts import held
 from .record import Answer, Chain, Mark, Quota
+from .record_target import RecordTarget
 from .wire import Wire
 
 # The commands that change what the session has.
@@ -47,7 +49,7 @@ class Record(Listener):
         self.path = os.fspath(path)
         self.is_loaded = False
         self.may_be_reloaded = False
-        self._file = _File(checked_target(path), self.path)
+        self._file = RecordTarget(checked_target(path), self.path)
         self._versions = versions
         self._chain = Chain()
         self._quota = Quota()
@@ -129,51 +131,44 @@ class Record(Listener):
         self._pending += map(self._chain.line_of, lines)
 
 
-class _File:
-    """A file that a record is written to. What it had before stays until the record begins."""
+class Pause(Listener):
+    """Keeps what is heard of a session from who hears of it, until it is known whether it may be left out.
 
-    def __init__(self, target: str, name: str):
-        self.target = target
-        self._is_new = not os.path.exists(target)
-        self._is_begun = False
-        self._file = open(target, "ab")
+    may_be_left_out  whether only commands of this connection were heard, which were replied to, and none that loads or drops
+    """
+
+    def __init__(self, listener: Listener):
+        self.listener = listener
+        self.may_be_left_out = True
+        self._heard: Deque[Callable[[], None]] = deque()
+
+    def answered(self, words: Sequence[bytes], answer: Answer) -> None:
+        self._keep(lambda: self.listener.answered(words, answer), words[0] not in (*record.LOADS, b"DROP"))
+
+    def unanswered(self, line: bytes) -> None:
+        self._keep(lambda: self.listener.unanswered(line), False)
+
+    def told(self, mark: Mark) -> None:
+        self._keep(lambda: self.listener.told(mark), False)
+
+    def flush(self) -> None:
         try:
-            _lock(self._file.fileno())
-        except BlockingIOError:
-            self._file.close()
-            text = f"{name} is a record that is being written: say another file, or close the user that writes it"
-            raise ValueError(text) from None
-
-    def write(self, data: bytes) -> None:
-        if not self._is_begun:
-            self._file.truncate(0)
-            self._is_begun = True
-        self._file.write(data)
-        self._file.flush()
+            self.listener.flush()
+        finally:
+            self.is_over = self.listener.is_over
 
     def close(self) -> None:
-        with contextlib.suppress(OSError):
-            self._file.close()
+        self.tell()
+        self.listener.close()
 
-    def give_up(self) -> None:
-        self.close()
-        if self._is_new and not self._is_begun:
-            with contextlib.suppress(OSError):
-                os.unlink(self.target)
+    def tell(self) -> None:
+        """Has the other hear of all after all, in order."""
+        while self._heard:
+            self._heard.popleft()()
 
-
-def _lock(descriptor: int) -> None:
-    """Has no other record be written to a file. BlockingIOError if one is; file systems without locks have none."""
-    try:
-        import fcntl
-    except ImportError:
-        return
-    try:
-        fcntl.flock(descriptor, fcntl.LOCK_EX | fcntl.LOCK_NB)
-    except BlockingIOError:
-        raise
-    except OSError:
-        pass
+    def _keep(self, tell: Callable[[], None], may_be_left_out: bool) -> None:
+        self._heard.append(tell)
+        self.may_be_left_out = self.may_be_left_out and may_be_left_out
 
 
 class Notes:
@@ -245,6 +240,30 @@ class Listeners:
             listener.may_be_reloaded = False
             if not listener.is_loaded:
                 listener.close()
+                self.flush()
+
+    @contextlib.contextmanager
+    def paused(self, name: str) -> Iterator[None]:
+        """Leaves out what is heard of a session within, if it ends well. Else all of it is told, in order.
+
+        All is told too if a new connection or program was begun within. Within another pause the outer one decides.
+        """
+        listener = self.by_name.get(name)
+        if listener is None or isinstance(listener, Pause):
+            yield
+            return
+        pause = self.by_name[name] = Pause(listener)
+        try:
+            yield
+        except BaseException:
+            pause.may_be_left_out = False
+            raise
+        finally:
+            with held():
+                if not pause.may_be_left_out:
+                    pause.tell()
+                if self.by_name.get(name) is pause:
+                    self.by_name[name] = listener
                 self.flush()
 
     def moved(self, answers: Sequence[Answer]) -> None:

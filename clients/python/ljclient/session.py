@@ -418,9 +418,12 @@ class Session:
         """Writes the whole simulation to a file, from which `User.load_saved` goes on exactly, in another program too.
 
         What was started is waited for, and what is saved by `branch` is not written. The scale has to be known. An older file
-        stays until the new one is whole; where a path names a device, a folder or a FIFO, it is a ValueError.
+        stays until the new one is whole; where a path names a device, a folder or a FIFO, it is a ValueError. What it reads is no
+        part of a record.
         """
-        checkpoint.write(self._user.state_of(self.name), path)
+        with self._user.unrecorded(self.name):
+            state = self._user.state_of(self.name)
+        checkpoint.write(state, path)
 
     @whole
     def copy(self, name: str, replace: bool = False) -> "Session":

@@ -11,7 +11,7 @@ from typing import Any, Dict, Iterator, List
 import pytest
 
 import support
-from ljclient import ClientError, ConnectionLost, NotRecorded, Refused, recording, refusals, run, user as users
+from ljclient import ClientError, ConnectionLost, NotRecorded, Refused, record_target, refusals, run, user as users
 from record_texts import COMMANDS, DIMER_TEXT, commands, is_the_same, replied, verified, with_checks, without_checks
 from support import ARGON, DIMER, EXAMPLES, PROGRAM, SECONDS, TOKEN, TOP, Server
 from support import dimer, interrupted_when, joined, listed, present, process_of
@@ -281,7 +281,7 @@ def test_a_saved_session(user: Any, path: Any, tmp_path: pathlib.Path) -> None:
     user.load_saved(tmp_path / "a.saved", "b", replace=True)
     user.close()
     assert commands(tmp_path / "b.lj")[1:] == ["ADVANCE b 3", "DROP b"]
-    assert commands(path)[-1] == "REVERSE a"
+    assert commands(path)[1:] == ["ADVANCE a 1"]
     assert is_the_same(path) == is_the_same(tmp_path / "b.lj") == []
 
 
@@ -398,7 +398,7 @@ def test_a_new_program_that_does_not_take_the_session(path: Any) -> None:
 def test_a_file_that_can_no_longer_be_written(user: Any, path: Any) -> None:
     a = dimer(user, record=path)
     a.advance(1)
-    with mock.patch.object(recording._File, "write", side_effect=OSError(errno.ENOSPC, "No space left on device")):
+    with mock.patch.object(record_target.RecordTarget, "write", side_effect=OSError(errno.ENOSPC, "No space left on device")):
         with pytest.raises(NotRecorded, match="run.lj: No space left on device; nothing more is recorded"):
             a.advance(1)
         with pytest.raises(NotRecorded):
