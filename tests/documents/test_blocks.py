@@ -158,14 +158,15 @@ def played_record(block: Any, folder: Any) -> None:
     (script,) = [each.text for each in all_blocks() if each.document == block.document and "record=" in each.text]
     folder.python(script)
     *_, verdict = folder.shell(block.text).splitlines()
-    said = present(re.search(r"`(all \d+ replies are the same)`", text))[1]
+    said = present(re.search(r"`(all \d+ replies are the same; [^`]*)`", text))[1]
     (command,) = re.findall(r"`(sed .*? sha256sum)`", text)
     assert verdict == f"argon.lj: {said}; SHA-256 {folder.shell(command).split()[0]}"
 
 
 def file_of_a_record(block: Any, folder: Any) -> None:
     folder.put("run.lj", block.text)
-    assert ": all 4 replies are the same; SHA-256 " in folder.shell("python3 -m ljclient verify --quiet run.lj")
+    told = folder.shell("python3 -m ljclient verify --quiet run.lj")
+    assert ": all 4 replies are the same; 0 commands were not played; 1 trajectory; SHA-256 " in told
 
 
 def own_file(block: Any, folder: Any) -> None:
@@ -427,7 +428,7 @@ BLOCKS = {
         "LOAD a 4294.967296": commands_of_a_checkpoint,
         "argon.advance(100, piece=100)": recorded_run,
         "python3 -m ljclient verify": played_record,
-        "ljserve record 1": file_of_a_record,
+        "ljserve record 2": file_of_a_record,
     },
     "docs/api/loading.md": {
         "user.load_mix(": two_species,

@@ -16,6 +16,7 @@ from .motion import motion_of
 from .new_session import NewSession
 from .order import Order, by_halves, is_in_space
 from .overlap import warn_of_close_atoms
+from .record_file import sum_of_continued
 from .recording import Listener, Listeners, Record, Versions
 from .replacing import CommandOf, replacing
 from .replies import number_after
@@ -177,19 +178,21 @@ class Loader:
         self._known[name] = new.known(known)
 
     @contextlib.contextmanager
-    def _recorded(self, name: str, path: Optional[files.Path], replace: bool, command_of: CommandOf) -> Iterator[None]:
+    def _recorded(
+        self, name: str, path: Optional[files.Path], replace: bool, command_of: CommandOf, continues: str = ""
+    ) -> Iterator[None]:
         """Drops a session that is to be replaced, once the server has taken the new one, and has the record of that begin with what
         loads it.
 
         The file is opened first, so that nothing is dropped if it cannot be. If nothing is loaded it stays as it was.
         """
         is_same = replace and self._listeners.writes(name, path)
-        record = None if path is None or is_same else Record(path, self._versions())
+        record = None if path is None or is_same else Record(path, self._versions(), continues)
         try:
             with replacing(self, name, command_of, replace) as drops:
                 self.ask_commands(drops)
                 if is_same and path is not None:
-                    record = Record(path, self._versions())
+                    record = Record(path, self._versions(), continues)
                 with self._heard_by(name, record):
                     yield
         except NotRecorded:
@@ -243,17 +246,20 @@ class Loader:
         order: Optional[str] = None,
         watch: bool = True,
         record: Optional[files.Path] = None,
+        continues: Optional[files.Path] = None,
     ) -> Session:
         """Loads a session that `Session.save` has written, exactly as it was.
 
         name, replace, watch  as in `load`; without a name it has the one that it was saved under
         record                as in `load`
+        continues             the record that the new one continues, such as that of a run which was killed: another file, whose
+                              SHA-256 is written into the new one
         order                 "space" as in `load`; else as it was when it was saved
 
         Steps are counted on from the saved one. Raises `Damaged`, which names the line, if the file is not as it was
         written.
         """
-        state = checkpoint.read(path)
+        state, before = checkpoint.read(path), sum_of_continued(continues, record)
         state = dataclasses.replace(
             state,
             name=checked_session(state.name if name is None else name),
@@ -262,7 +268,7 @@ class Loader:
         order_of = Order(by_halves(state.places) if state.is_sorted else None)
         if watch:
             warn_of_large_steps(state.scale, state.mixture)
-        self._put(state, order_of, EnergyWatch(watch), replace, record)
+        self._put(state, order_of, EnergyWatch(watch), replace, record, before)
         return Session(cast("User", self), state.name, state.scale, mixture=state.mixture)
 
     @whole
@@ -302,7 +308,7 @@ class Loader:
             return dataclasses.replace(state, name=new).command(order)
 
         with held():
-            with self._recorded(state.name, record, replace, command_of):
+            with self._recorded(state.name, record, replace, command_of, continues):
                 self.ask_commands([command_of(state.name)])
             self._known[state.name] = dataclasses.replace(state.known(order), watch=watch, direction=1)
 

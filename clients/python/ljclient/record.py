@@ -12,7 +12,9 @@ from dataclasses import dataclass
 from typing import List, NamedTuple, Optional, Sequence, Tuple
 
 FORMAT = b"ljserve record "
-HEAD = FORMAT + b"1"
+# The heads that are read. The last one is written.
+HEADS = (FORMAT + b"1", FORMAT + b"2")
+HEAD = HEADS[-1]
 CHECK_DIGITS = 8
 LOADS = (b"LOAD", b"LOADMIX")
 # The commands that name a session.
@@ -20,6 +22,10 @@ OF_A_SESSION = frozenset(b"LOAD LOADMIX ADVANCE START REVERSE BRANCH RESTORE FOR
 # Refusals that no command of the session alone brings about: by the connection, by other sessions, and for want of memory.
 FROM_OUTSIDE = (1, 4, 5, 8, 20, 21, 22, 90)
 NO_SESSION = 10
+# Refusals of what is no command of a session: of a first line that is no HELLO, and of a line without an end.
+OF_NO_COMMAND = (1, 5)
+# Refusals of the form of a line, which don't tell whether its session is there.
+OF_FORM = (2, 3)
 QUOTA_NAMES = ("sessions", "atoms", "branches")
 MAX_BODY = 1 << 20
 MAX_COMMAND = 256
@@ -31,6 +37,7 @@ class Mark(enum.Enum):
 
     CLIENT = b"client"
     PROGRAM = b"program"
+    CONTINUES = b"continues"
     QUOTA = b"quota"
     SENT = b">"
     BODY = b":"
@@ -54,15 +61,54 @@ class Answer(NamedTuple):
     @property
     def refusal(self) -> Optional[int]:
         """The number of the refusal that the reply is, if it is one."""
-        if self.first.startswith(b"OK "):
-            return None
-        words = self.first.split(b" ")
-        return int(words[1]) if words[0] == b"ERR" and words[1:2] and words[1].isdigit() else None
+        return refusal_of(self.first)
 
     @property
     def is_from_outside(self) -> bool:
         """Whether it was refused for something other than the session's own commands."""
         return self.refusal in FROM_OUTSIDE
+
+
+@dataclass(frozen=True)
+class Entry:
+    """A command of a record, or a note between commands.
+
+    mark        REPLY, OUTSIDE or UNANSWERED of a command; CONNECTION or MOVED of a note
+    number      the number of its first line in the file, counted from 1
+    line, body  the command as it was sent
+    first       the first line of its reply
+    more        the SHA-256 of the lines after that, if there are any
+    sum         the SHA-256 of the record up to here
+    reply       the number of the line of its reply
+    """
+
+    mark: Mark
+    number: int
+    line: bytes = b""
+    body: bytes = b""
+    first: bytes = b""
+    more: bytes = b""
+    sum: str = ""
+    reply: int = 0
+
+    @property
+    def refusal(self) -> Optional[int]:
+        """The number of the refusal that the reply is, if it is one."""
+        return refusal_of(self.first)
+
+    @property
+    def is_granted(self) -> bool:
+        return self.first.startswith(b"OK ")
+
+    def is_granted_of(self, *verbs: bytes) -> bool:
+        """Whether it is one of these commands, which was granted."""
+        return self.mark is Mark.REPLY and self.is_granted and words_of(self.line)[0] in verbs
+
+    @property
+    def atoms(self) -> int:
+        """How many atoms a load has, by its reply; 0 of another command."""
+        last = self.first.split(b" ")[-1]
+        return int(last) if self.is_granted_of(*LOADS) and COUNT.match(last) else 0
 
 
 @dataclass(frozen=True)
@@ -77,6 +123,10 @@ class Quota:
         """The quota that has room for so many too."""
         return Quota(self.sessions, max(self.atoms, atoms), max(self.branches, branches))
 
+    def is_above(self, other: "Quota") -> bool:
+        """Whether it is larger than another one, and smaller in nothing."""
+        return self != other and all(mine >= its for mine, its in zip(self.numbers, other.numbers))
+
     @property
     def numbers(self) -> Tuple[int, int, int]:
         return self.sessions, self.atoms, self.branches
@@ -86,10 +136,10 @@ class Quota:
 
 
 class Chain:
-    """The SHA-256 of the text so far, which goes on line by line."""
+    """The SHA-256 of the text so far, which goes on line by line below the head."""
 
-    def __init__(self) -> None:
-        self._sum = hashlib.sha256(HEAD + b"\n")
+    def __init__(self, head: bytes = HEAD) -> None:
+        self._sum = hashlib.sha256(head + b"\n")
 
     def check_of(self, text: bytes) -> bytes:
         """The check of the next line, which has this text."""
@@ -110,6 +160,12 @@ def words_of(line: bytes) -> List[bytes]:
     """The words of a command line, as the protocol has them."""
     words = (line[:-1] if line.endswith(b"\r") else line).replace(b"\t", b" ").split(b" ")
     return [word for word in words if word] if b"" in words else words
+
+
+def refusal_of(first: bytes) -> Optional[int]:
+    """The number of the refusal that the first line of a reply is, if it is one."""
+    words = first.split(b" ")
+    return int(words[1]) if words[0] == b"ERR" and words[1:2] and words[1].isdigit() else None
 
 
 def session_of(words: Sequence[bytes]) -> str:

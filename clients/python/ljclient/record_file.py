@@ -2,110 +2,115 @@
 from __future__ import annotations
 
 import os
+import re
 from dataclasses import dataclass, field
-from typing import BinaryIO, Dict, Iterator, List, Optional, Tuple
+from typing import BinaryIO, Dict, Iterator, List, Optional, Sequence, Tuple
 
 from . import record
 from .errors import Damaged
 from .files import Path
 from .names import NAME
-from .record import Chain, Mark, Quota
+from .record import Chain, Entry, Mark, Quota
+from .record_rules import Misplaced, Rules
 
 MOST = (64, 65536, 256)
-MAX_ROW = record.MAX_BODY + 64
-BEGINNINGS = [[verb] for verb in record.LOADS]
+# The most bytes of a line: a body may be one line, behind a check and a mark.
+MAX_ROW = record.MAX_BODY + record.CHECK_DIGITS + len(b" : \n")
+# A longer command is none, but ends a connection.
+MAX_LINE = 65_535
 MARKS: Dict[bytes, Mark] = {mark.value: mark for mark in Mark}
-
-
-@dataclass(frozen=True)
-class Entry:
-    """A command of a record, or a note between commands.
-
-    mark        REPLY, OUTSIDE or UNANSWERED of a command; CONNECTION or MOVED of a note
-    number      the number of its first line in the file, counted from 1
-    line, body  the command as it was sent
-    first       the first line of its reply
-    more        the SHA-256 of the lines after that, if there are any
-    sum         the SHA-256 of the record up to here
-    """
-
-    mark: Mark
-    number: int
-    line: bytes = b""
-    body: bytes = b""
-    first: bytes = b""
-    more: bytes = b""
-    sum: str = ""
+# The lines that stand above all others, in this order.
+ABOVE = (Mark.CLIENT, Mark.PROGRAM, Mark.CONTINUES)
+# The lines that are one word.
+ALONE = (Mark.CONNECTION, Mark.MOVED, Mark.END)
+SUM = re.compile(rb"[0-9a-f]{64}\Z")
 
 
 @dataclass
 class RecordFile:
     """A record. What it is like is known when its entries have been read.
 
-    session   the name of its session
-    client    who wrote it
-    programs  the lines in which the program told its version
-    quota     what a user must be allowed to have for it
-    is_ended  whether its last line is there
-    cut       the number of the line where the file is cut short, if it is: the process that wrote it was killed
-    sum       the SHA-256 of all whole lines, without their checks
+    format     1, or 2 as they are written
+    session    the name of its session
+    client     who wrote it, as the file says
+    programs   the lines in which the program told its version, as the file says
+    continues  the SHA-256 of the record that it continues, as the file says
+    quota      what a user must be allowed to have for it
+    is_ended   whether its last line is there
+    cut        the number of the line where the file is cut short, if it is: the process that wrote it was killed
+    sum        the SHA-256 of all whole lines, without their checks
     """
 
     path: Path
+    format: int = 0
     session: str = ""
     client: str = ""
     programs: List[str] = field(default_factory=list)
+    continues: str = ""
     quota: Quota = Quota()
     is_ended: bool = False
     cut: Optional[int] = None
     _at: int = 0
     _chain: Chain = field(default_factory=Chain)
+    _may_stand: Sequence[Mark] = ()
+    _is_below_quota: bool = False
 
     @property
     def sum(self) -> str:
         return self._chain.sum
 
     def entries(self) -> Iterator[Entry]:
-        """The entries in order. Raises `Damaged`, with the line, where the file is not as it was written."""
-        self._at, self._chain, self.cut, self.is_ended, self.programs = 0, Chain(), None, False, []
+        """The entries in order, once. Raises `Damaged`, with the line, where one cannot stand as it was written."""
+        rules = Rules()
         with open(self.path, "rb") as file:
-            rows, is_load_next = self._rows(file), True
+            rows = self._rows(file)
             for mark, rest in rows:
                 entry = self._entry(mark, rest, rows)
-                if entry is None:
-                    continue
-                if is_load_next and record.words_of(entry.line)[:1] not in BEGINNINGS:
-                    raise Damaged(os.fspath(self.path), entry.number, "here a session should begin with a LOAD or LOADMIX")
-                is_load_next = entry.mark is Mark.MOVED
-                yield entry
+                if entry is not None:
+                    self._follow(rules, entry)
+                    yield entry
+                elif mark is Mark.END and rules.is_moving:
+                    raise self._damaged("`moved` is followed by a LOAD or LOADMIX that was granted")
 
     def _rows(self, file: BinaryIO) -> Iterator[Tuple[Mark, bytes]]:
         """What each line says below the head, up to one that is cut short."""
         self._read_head(file.readline(MAX_ROW))
         for self._at, row in enumerate(iter(lambda: file.readline(MAX_ROW), b""), 2):
             if not row.endswith(b"\n"):
+                if len(row) == MAX_ROW:
+                    raise self._damaged(f"the line has more than {MAX_ROW:,} bytes")
                 self.cut = self._at
                 return
             check, _, text = row[:-1].partition(b" ")
             if check != self._chain.check_of(text):
                 raise self._damaged("the line was changed, or one above it is missing")
-            word, _, rest = text.partition(b" ")
-            if self.is_ended or word not in MARKS:
+            word, blank, rest = text.partition(b" ")
+            if self.is_ended or word not in MARKS or (MARKS[word] in ALONE) == bool(blank):
                 raise self._damaged("the record goes on below its end" if self.is_ended else "there is no line of this kind")
             yield MARKS[word], rest
 
     def _read_head(self, head: bytes) -> None:
-        self._at = 1
-        if head == record.HEAD + b"\n":
+        self._at, line = 1, head[:-1]
+        if head.endswith(b"\n") and line in record.HEADS:
+            self.format = record.HEADS.index(line) + 1
+            self._chain = Chain(line)
+            self._may_stand = ABOVE if line == record.HEAD else ABOVE[:2]
             return
         if head.startswith(record.FORMAT) and head.endswith(b"\n"):
-            told = record.shown(head[:-1])[:40]
-            raise self._damaged(f"it says `{told}`, and this client reads `{record.HEAD.decode()}` alone: take a newer client")
+            told = record.shown(line)[:40]
+            raise self._damaged(f"it says `{told}`, and this client reads `{record.HEAD.decode()}` and older: take a newer client")
         raise self._damaged(f"a record begins with `{record.HEAD.decode()}`")
 
     def _entry(self, mark: Mark, rest: bytes, rows: Iterator[Tuple[Mark, bytes]]) -> Optional[Entry]:
         """The entry that begins with this line, if one does, and is there whole."""
-        if mark in (Mark.CLIENT, Mark.PROGRAM, Mark.QUOTA, Mark.END):
+        if mark in ABOVE:
+            self._take_above(mark, rest)
+            return None
+        self._may_stand = ()
+        if self._is_below_quota and mark is not Mark.SENT:
+            raise self._damaged("a quota stands right above a command")
+        self._is_below_quota = mark is Mark.QUOTA
+        if mark in (Mark.QUOTA, Mark.END):
             self._take_in(mark, rest)
             return None
         if mark in (Mark.CONNECTION, Mark.MOVED):
@@ -122,30 +127,43 @@ class RecordFile:
             self.cut = self.cut or self._at
             return None
 
-    def _take_in(self, mark: Mark, rest: bytes) -> None:
-        """Takes in a line that is of the whole record."""
+    def _take_above(self, mark: Mark, rest: bytes) -> None:
+        """Takes in a line that stands above all others, and tells where the record comes from."""
+        if mark not in self._may_stand:
+            raise self._damaged("a line of this kind stands above all others, once and in its order, if the format has it")
+        if mark is Mark.CONTINUES and not SUM.match(rest):
+            raise self._damaged("`continues` is followed by a SHA-256 of 64 digits")
+        self._may_stand = ABOVE[ABOVE.index(mark) + (mark is not Mark.PROGRAM) :]
         told = record.shown(rest)
         if mark is Mark.CLIENT:
             self.client = told
         elif mark is Mark.PROGRAM:
             self.programs.append(told)
-        elif mark is Mark.END:
-            self.is_ended = True
         else:
-            self.quota = self._quota(told)
+            self.continues = told
+
+    def _take_in(self, mark: Mark, rest: bytes) -> None:
+        """Takes in a line that is of the whole record."""
+        if mark is Mark.END:
+            self.is_ended = True
+            return
+        quota = self._quota(record.shown(rest))
+        if not quota.is_above(self.quota):
+            raise self._damaged("a quota is larger than the one above it, and smaller in nothing")
+        self.quota = quota
 
     def _quota(self, told: str) -> Quota:
         words = told.split(" ")
         numbers = [int(word) if word.isascii() and word.isdigit() and len(word) < 8 else -1 for word in words[1::2]]
         fit = len(words) == 6 and all(0 <= number <= most for number, most in zip(numbers, MOST))
-        if not fit or tuple(words[::2]) != record.QUOTA_NAMES:
+        if not fit or str(Quota(*numbers)) != told:
             raise self._damaged("a quota is of sessions, atoms and branches, at most 64, 65536 and 256")
         return Quota(*numbers)
 
     def _check_command(self, line: bytes) -> None:
         """Raises `Damaged` unless this is a command of the session, as all others are."""
         name = record.session_of(record.words_of(line)) if line.decode(errors="ignore").encode() == line else ""
-        if not NAME.match(name) or (self.session and self.session != name):
+        if not NAME.match(name) or (self.session and self.session != name) or len(line) > MAX_LINE:
             raise self._damaged("this is no command of a session" + (f" {self.session}" if self.session else ""))
         self.session = name
 
@@ -157,12 +175,12 @@ class RecordFile:
             raise self._damaged("here a reply should stand")
         if mark is Mark.REPLY and record.count_of(line) is None:
             raise self._damaged("the load above says no count of bytes, which ends a connection")
-        more = b""
-        if _has_more(first):
+        reply, more = self._at, b""
+        if mark is Mark.REPLY and _has_more(first):
             following, more = next(rows)
             if following is not Mark.MORE:
                 raise self._damaged("here the sum of the lines of a reply should stand")
-        return Entry(mark, number, line, body, first, more, self.sum)
+        return Entry(mark, number, line, body, first, more, self.sum, reply)
 
     def _body(self, count: int, rows: Iterator[Tuple[Mark, bytes]]) -> bytes:
         """A body of so many bytes."""
@@ -177,8 +195,30 @@ class RecordFile:
             raise self._damaged(f"the body has {count} bytes, and {size} stand here")
         return b"".join(parts)[:count]
 
+    def _follow(self, rules: Rules, entry: Entry) -> None:
+        """Raises `Damaged` if an entry cannot stand behind those above it."""
+        try:
+            rules.follow(entry, self.quota)
+        except Misplaced as fault:
+            raise Damaged(os.fspath(self.path), entry.reply if fault.is_reply else entry.number, str(fault)) from None
+
     def _damaged(self, why: str) -> Damaged:
         return Damaged(os.fspath(self.path), self._at, why)
+
+
+def sum_of_continued(path: Optional[Path], following: Optional[Path]) -> str:
+    """The SHA-256 of a record that another file continues, of its whole lines if it is cut short. Nothing without a path.
+
+    Raises `Damaged` if it is no record, and ValueError if the other file is none or the same, which would be written anew.
+    """
+    if path is None:
+        return ""
+    if following is None or os.path.realpath(path) == os.path.realpath(following):
+        raise ValueError(f"continues={os.fspath(path)!r} is of a record in another file: say record=..")
+    file = RecordFile(path)
+    for _ in file.entries():
+        pass
+    return file.sum
 
 
 def _has_more(first: bytes) -> bool:

@@ -45,10 +45,12 @@ class Listener:
 class Record(Listener):
     """The record of a session, as it is written. It begins with a LOAD that was granted, and ends when the session does."""
 
-    def __init__(self, path: Path, versions: Sequence[str]):
+    def __init__(self, path: Path, versions: Sequence[str], continues: str = ""):
         self.path = os.fspath(path)
         self.is_loaded = False
         self.may_be_reloaded = False
+        self._is_renewed = False
+        self._continues = continues
         self._file = RecordTarget(checked_target(path), self.path)
         self._versions = versions
         self._chain = Chain()
@@ -65,8 +67,12 @@ class Record(Listener):
         is_load, is_granted = words[0] in record.LOADS, answer.refusal is None
         if self.is_over or not (self.is_loaded or is_load) or not (self.is_begun or is_granted):
             return
+        if answer.refusal in record.OF_NO_COMMAND or (answer.refusal == record.NO_SESSION and not self._is_renewed):
+            self.close()
+            return
         if not self.is_begun:
             self._begin()
+        self._is_renewed = self._is_renewed and answer.refusal in record.OF_FORM
         if words[0] in FOLLOWED or answer.refusal == record.NO_SESSION:
             self._follow(words, answer, is_granted)
         self._tell(*record.sent_lines(answer.line, answer.body), *record.reply_lines(answer))
@@ -79,6 +85,7 @@ class Record(Listener):
 
     def told(self, mark: Mark) -> None:
         if self.is_begun and not self.is_over:
+            self._is_renewed = mark is Mark.CONNECTION
             self._tell(mark.value)
 
     def flush(self) -> None:
@@ -111,6 +118,8 @@ class Record(Listener):
         self.is_begun = True
         self._pending.append(record.HEAD + b"\n")
         self._tell(f"client ljclient {__version__}".encode(), *(f"program {line}".encode() for line in self._versions))
+        if self._continues:
+            self._tell(f"{Mark.CONTINUES.value.decode()} {self._continues}".encode())
 
     def _follow(self, words: Sequence[bytes], answer: Answer, is_granted: bool) -> None:
         """Follows what the session has, and tells a larger quota before the command that needs it."""

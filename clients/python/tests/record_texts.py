@@ -10,7 +10,7 @@ from terminals import environment
 FRAME = "2\nstep 2\nAr 0.000105 0.000000 0.000000\nAr 1.499894 0.000000 0.000000\n"
 # Two steps of the dimer, which are worked by hand in PROTOCOL. The head of a record of `run` has more lines.
 DIMER_TEXT = f"""\
-ljserve record 1
+ljserve record 2
 client ljclient 1.1.0
 quota sessions 1 atoms 2 branches 0
 > LOAD a 256 1 131072 rest 28
@@ -99,9 +99,10 @@ def verified(*words: Any, **variables: Any) -> Tuple[Any, Any, Any]:
 
 
 def is_the_same(path: Any, *words: Any, **variables: Any) -> Any:
-    """Holds that each command of a record is played, and its reply the same. Returns what is told on standard error."""
+    """Holds that each command of a record is played, and its reply the same. Returns what is told on standard error, which is
+    that the record has no end."""
     status, told, faults = verified(path, *words, **variables)
-    assert status == 0, (told, faults)
+    assert status == (3 if faults else 0), (told, faults)
     played = [line.split(": ", 1)[1] for line in told if line.startswith("same ")]
     assert played == [escaped(each) for each, mark in replied(path) if mark == "<"]
     return faults

@@ -1,5 +1,6 @@
 """What a record has: the commands of one session as they were sent, from its load on, and what each was replied."""
 import errno
+import hashlib
 import os
 import pathlib
 import signal
@@ -11,7 +12,7 @@ from typing import Any, Dict, Iterator, List
 import pytest
 
 import support
-from ljclient import ClientError, ConnectionLost, NotRecorded, Refused, record_target, refusals, run, user as users
+from ljclient import ClientError, ConnectionLost, Damaged, NotRecorded, Refused, record_target, refusals, run, user as users
 from record_texts import COMMANDS, DIMER_TEXT, commands, is_the_same, replied, verified, with_checks, without_checks
 from support import ARGON, DIMER, EXAMPLES, PROGRAM, SECONDS, TOKEN, TOP, Server
 from support import dimer, interrupted_when, joined, listed, present, process_of
@@ -186,7 +187,7 @@ def test_a_file_stays_until_the_session_is_loaded(user: Any, path: Any) -> None:
             dimer(user, record=path, **words)
     assert path.read_text() == "what was here"
     dimer(user, record=path)
-    assert path.read_text().startswith("ljserve record 1\n")
+    assert path.read_text().startswith("ljserve record 2\n")
 
 
 def test_a_load_that_is_refused_leaves_no_file(user: Any, path: Any) -> None:
@@ -283,6 +284,62 @@ def test_a_saved_session(user: Any, path: Any, tmp_path: pathlib.Path) -> None:
     assert commands(tmp_path / "b.lj")[1:] == ["ADVANCE b 3", "DROP b"]
     assert commands(path)[1:] == ["ADVANCE a 1"]
     assert is_the_same(path) == is_the_same(tmp_path / "b.lj") == []
+
+
+def test_a_record_that_continues_another(user: Any, path: Any, tmp_path: pathlib.Path) -> None:
+    """Its head has the SHA-256 of the one before, of which the end may be missing."""
+    a, saved, following = dimer(user, record=path), tmp_path / "a.saved", tmp_path / "b.lj"
+    a.advance(1)
+    a.save(saved)
+    a.advance(1)
+    user.close()
+    text = "\n".join(without_checks(path)).replace("client ljclient 1.1.0\n", "client x\nprogram y\n")
+    for cut in (f"{text}\n", text[: text.rindex("\nend") + 1], text[: text.rindex("> ADVANCE")]):
+        path.write_text(with_checks(cut) + ("" if "\nend" in cut else "0123"))
+        with run(PROGRAM) as other:
+            other.load_saved(saved, record=following, continues=path).advance(1)
+        wanted = hashlib.sha256(cut.encode()).hexdigest()
+        assert [line for line in without_checks(following) if line.startswith("continues ")] == [f"continues {wanted}"]
+        assert without_checks(following)[2].startswith("continues ")
+        status, told, faults = verified("--quiet", following)
+        assert (status, faults) == (0, [])
+        assert f"; the file says that it continues {wanted}; SHA-256 " in told[-1]
+
+
+def test_what_no_record_continues(user: Any, path: Any, tmp_path: pathlib.Path) -> None:
+    """Nothing is loaded or written then, and nothing is dropped."""
+    saved, following = tmp_path / "a.saved", tmp_path / "b.lj"
+    dimer(user, record=path).save(saved)
+    wrong: List[Any] = [(None, path, ValueError), (path, path, ValueError), (following, saved, Damaged), (following, "none", OSError)]
+    for record, continues, fault in wrong:
+        with pytest.raises(fault):
+            user.load_saved(saved, replace=True, record=record, continues=continues)
+    assert not following.exists()
+    assert user.row("a").step == 0
+    user.close()
+    assert commands(path)[1:] == []
+
+
+def test_a_line_without_an_end(user: Any, path: Any) -> None:
+    """It is no command, and ends the connection and the record."""
+    a = dimer(user, record=path)
+    a.advance(1)
+    with pytest.raises(refusals.Long):
+        user.ask("SHOW a " + "0" * 70_000)
+    assert without_checks(path)[-2:] == ["< OK ADVANCE a 1", "end"]
+    assert is_the_same(path) == []
+
+
+def test_a_session_that_is_gone_without_a_new_connection(path: Any, tmp_path: pathlib.Path) -> None:
+    """No command of the session has brought it about, and its record ends before."""
+    with run(twisted(tmp_path, "OK REVERSE a 0", "ERR 10 NO_SESSION")) as user:
+        a = dimer(user, record=path)
+        a.advance(1)
+        with pytest.raises(refusals.NoSession):
+            a.reverse()
+        user.ask("ADVANCE a 1")
+    assert without_checks(path)[-2:] == ["< OK ADVANCE a 1", "end"]
+    assert is_the_same(path) == []
 
 
 def test_a_session_that_is_taken_up(user: Any, path: Any) -> None:

@@ -120,11 +120,7 @@ def test_a_session_that_is_loaded_again_within_a_look(user: Any, path: Any) -> N
 
 def test_a_look_that_can_no_longer_be_written(user: Any, path: Any) -> None:
     a = dimer(user, record=path)
-    with mock.patch.object(
-        record_target.RecordTarget,
-        "write",
-        side_effect=OSError(28, "No space left on device"),
-    ):
+    with mock.patch.object(record_target.RecordTarget, "write", side_effect=OSError(28, "No space left on device")):
         with pytest.raises(NotRecorded), user.unrecorded("a"):
             a.place(2)
     assert a.advance(1) == 1

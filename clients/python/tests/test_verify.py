@@ -9,10 +9,10 @@ from typing import Any, Callable, List, Tuple
 
 import pytest
 
-from ljclient import Damaged, Refused, run, verify
+from ljclient import Damaged, Refused, record_playing, run, verify
 from ljclient.record_file import RecordFile
 from record_texts import COMMANDS, DIMER_TEXT, sums, twisted, verified, with_checks
-from support import PROGRAM, TOKEN, TOP, Server, dimer, joined
+from support import DIMER, PROGRAM, TOKEN, TOP, Server, dimer, joined
 
 LINES = DIMER_TEXT.splitlines()
 # The lines at which a command begins, and those at which its reply ends.
@@ -21,11 +21,23 @@ ENDS = [number + (LINES[number][:1] == "+") for number, line in enumerate(LINES,
 
 LOADED = DIMER_TEXT[DIMER_TEXT.index("> LOAD") : DIMER_TEXT.index("> ADVANCE")]
 MOVED = "moved\n" + LOADED
+# What the verdict on a record says that is all played, and of one session; and the sum of the dimer's.
+PLAIN = "0 commands were not played; 1 trajectory"
+WHOLE = hashlib.sha256(DIMER_TEXT.encode()).hexdigest()
+# What is told of the load, which is all that --quiet tells but the verdict.
+BODY = f"loaded - line 4: {COMMANDS[0]}, with a body of SHA-256 {hashlib.sha256(DIMER.encode()).hexdigest()}"
 QUOTA = "quota sessions 1 atoms 2 branches 1"  # the one that stands above the first BRANCH
 
 # What is told of lines that do not belong where they stand.
 NO_COMMAND = "this is no command of a session a"
-NO_LOAD = "here a session should begin with a LOAD or LOADMIX"
+NO_LOAD = "here a session should begin with a LOAD or LOADMIX that was granted"
+NO_LOAD_MOVED = "`moved` is followed by a LOAD or LOADMIX that was granted"
+NO_PLACE = "a line of this kind stands above all others, once and in its order, if the format has it"
+NO_KIND = "there is no line of this kind"
+NO_ROOM = "the quota above has no room for this"
+NOT_LARGER = "a quota is larger than the one above it, and smaller in nothing"
+GONE = "the session is gone above, and was not loaded again"
+OUTSIDE = "this refusal should stand behind `!`"
 NO_QUOTA = "a quota is of sessions, atoms and branches, at most 64, 65536 and 256"
 NO_REPLY = "here a reply should stand"
 
@@ -46,18 +58,18 @@ def edited(path: Any, text: Any) -> Any:
 def test_a_line_for_each_command(path: Any) -> None:
     status, (heading, *told, verdict), faults = verified(path)
     assert (status, faults) == (0, [])
-    assert heading.startswith("recorded by ljclient 1.1.0 over a program that tells no version; played over ")
-    wanted = zip(ENDS, BEGINS, COMMANDS)
-    assert told == [f"same {sums(DIMER_TEXT)[end - 1]} line {begin}: {line}" for end, begin, line in wanted]
-    whole = hashlib.sha256(DIMER_TEXT.encode()).hexdigest()
-    assert verdict == f"{path}: all {len(COMMANDS)} replies are the same; SHA-256 {whole}"
-    assert verified("--quiet", path) == (0, [verdict], [])
+    said = "recorded by ljclient 1.1.0 over a program that tells no version, with a quota of sessions 1 atoms 2 branches 1"
+    assert heading.startswith(f"the file says: {said}; played over ")
+    wanted = [f"same {sums(DIMER_TEXT)[end - 1]} line {begin}: {line}" for end, begin, line in zip(ENDS, BEGINS, COMMANDS)]
+    assert told == [wanted[0], BODY, *wanted[1:]]
+    assert verdict == f"{path}: all {len(COMMANDS)} replies are the same; {PLAIN}; SHA-256 {WHOLE}"
+    assert verified("--quiet", path) == (0, [BODY, verdict], [])
 
 
 def test_another_implementation(path: Any) -> None:
     status, told, faults = verified(path, "--program", TOP / "conformance" / "reference.py", "--quiet")
     assert (status, faults) == (0, [])
-    assert " replies are the same; SHA-256 " in told[0]
+    assert told == [BODY, f"{path}: all {len(COMMANDS)} replies are the same; {PLAIN}; SHA-256 {WHOLE}"]
 
 
 ACTS: Tuple[Callable[[Any, Any], object], ...] = (
@@ -94,7 +106,8 @@ def test_sessions_at_random_over_another_implementation(tmp_path: pathlib.Path, 
 def test_the_program_of_another_version(path: Any, tmp_path: pathlib.Path) -> None:
     edited(path, DIMER_TEXT.replace("quota", "program ljserve 1.0.0\nprogram of another kit\nquota", 1))
     status, (heading, *_), _ = verified(path, "--program", twisted(tmp_path, "none", "none"))
-    assert (status, heading) == (0, "recorded by ljclient 1.1.0 over ljserve 1.0.0; played over ljserve 9.9.9")
+    said = "recorded by ljclient 1.1.0 over ljserve 1.0.0, with a quota of sessions 1 atoms 2 branches 1"
+    assert (status, heading) == (0, f"the file says: {said}; played over ljserve 9.9.9")
 
 
 @pytest.mark.parametrize(
@@ -117,8 +130,8 @@ def test_a_program_that_replies_otherwise(path: Any, tmp_path: pathlib.Path, wan
     command = COMMANDS[BEGINS.index(line)]
     assert faults == [f"ljclient: {path}, line {line}: `{command}` was answered {here}"]
     assert f"differs - line {line}: {command}" in told
-    assert told[-1] == f"{path}: 1 of {len(COMMANDS)} reply differs, the first at line {line}"
-    assert [each.split()[1] for each in told[1:-1]][BEGINS.index(line) :] == ["-"] * (len(BEGINS) - BEGINS.index(line))
+    assert told[-1] == f"{path}: 1 of {len(COMMANDS)} replies differs, the first at line {line}; {PLAIN}; SHA-256 {WHOLE}"
+    assert [each.split()[1] for each in told[1:-1] if each != BODY][BEGINS.index(line) :] == ["-"] * (len(BEGINS) - BEGINS.index(line))
 
 
 def test_commands_that_were_edited_with_their_checks(path: Any) -> None:
@@ -127,7 +140,7 @@ def test_commands_that_were_edited_with_their_checks(path: Any) -> None:
     status, told, faults = verified(path)
     assert status == 1
     assert faults[0].startswith(f"ljclient: {path}, line 12: `SHOW a 0` was answered `OK SHOW a 1 0 589 0 0`, and `OK SHOW a 1 0 ")
-    assert told[-1] == f"{path}: 2 of {len(COMMANDS)} replies differ, the first at line 12"
+    assert told[-1].startswith(f"{path}: 2 of {len(COMMANDS)} replies differ, the first at line 12; {PLAIN}; SHA-256 ")
 
 
 @pytest.mark.parametrize("number", range(1, len(LINES) + 1))
@@ -180,22 +193,49 @@ def test_a_file_that_is_cut_short_is_played_up_to_there(path: Any) -> None:
     data = path.read_bytes()
     path.write_bytes(data[:-3])
     status, told, (fault,) = verified(path)
-    assert (status, told[-1].split(";")[0]) == (0, f"{path}: all {len(COMMANDS)} replies are the same")
+    assert (status, told[-1].split("; SHA")[0]) == (3, f"{path}: all {len(COMMANDS)} replies are the same; {PLAIN}; it has no end")
     assert fault.startswith(f"ljclient: {path}, line {len(LINES)}: the file is cut short here")
     path.write_bytes(data[: -len("0123abcd end\n")])
     status, told, (fault,) = verified(path)
-    assert (status, fault.startswith(f"ljclient: {path} has no `end`")) == (0, True)
-    path.write_bytes(data[:40])
-    assert verified(path) == (2, [], [f"ljclient: {path}: the record has no command"])
+    assert (status, fault.startswith(f"ljclient: {path} has no `end`")) == (3, True)
+    assert verified("--partial", path) == (0, told, [fault])
+    for options in ((), ("--partial",)):
+        path.write_bytes(data[:40])
+        assert verified(path, *options) == (2, [], [f"ljclient: {path}: the record has no command that was replied to"])
+
+
+def test_a_reply_that_differs_in_a_file_that_is_cut_short(path: Any) -> None:
+    path.write_text(with_checks(DIMER_TEXT.replace("< OK SHOW a 1 0 589 0 0", "< OK SHOW a 1 0 590 0 0").removesuffix("end\n")))
+    for options in ((), ("--partial",)):
+        assert verified("--quiet", path, *options)[0] == 1
+
+
+def test_the_sum_that_a_paper_prints(path: Any) -> None:
+    said = f"{path}: all {len(COMMANDS)} replies are the same; {PLAIN}; SHA-256 {WHOLE}"
+    for word in (WHOLE, WHOLE.upper()):
+        assert verified("--quiet", path, "--sha256", word) == (0, [BODY, said], [])
+    why = f"ljclient: {path} has the SHA-256 {WHOLE}, so it is another record than the one that is wanted"
+    assert verified(path, "--sha256", "0" * 64, "--program", "/nowhere") == (2, [], [why])
+
+
+def test_a_record_of_the_first_format(path: Any) -> None:
+    """It is read as ever, by the rules of now."""
+    old = DIMER_TEXT.replace("ljserve record 2", "ljserve record 1")
+    edited(path, old)
+    whole = hashlib.sha256(old.encode()).hexdigest()
+    said = f"{path}: all {len(COMMANDS)} replies are the same; {PLAIN}; its format is 1; SHA-256 {whole}"
+    assert verified("--quiet", path) == (0, [BODY, said], [])
+    edited(path, old.replace("< ERR 12 NO_BRANCH", "! ERR 12 NO_BRANCH"))
+    assert verified("--quiet", path)[0] == 2
 
 
 @pytest.mark.parametrize(
     ("head", "why"),
     [
-        ("ljserve record 2\n", "it says `ljserve record 2`, and this client reads `ljserve record 1` alone: take a newer client"),
-        ("ljserve checkpoint 1\n", "a record begins with `ljserve record 1`"),
-        ("", "a record begins with `ljserve record 1`"),
-        ("ljserve rec", "a record begins with `ljserve record 1`"),
+        ("ljserve record 3\n", "it says `ljserve record 3`, and this client reads `ljserve record 2` and older: take a newer client"),
+        ("ljserve checkpoint 1\n", "a record begins with `ljserve record 2`"),
+        ("", "a record begins with `ljserve record 2`"),
+        ("ljserve rec", "a record begins with `ljserve record 2`"),
     ],
 )
 def test_files_that_are_no_records(path: Any, head: Any, why: Any) -> None:
@@ -220,10 +260,30 @@ def test_files_that_are_no_records(path: Any, head: Any, why: Any) -> None:
         (QUOTA, "quota sessions 1 atoms 2 branches 257", 14, NO_QUOTA),
         (QUOTA, "quota 1 2 1", 14, NO_QUOTA),
         (QUOTA, "< OK SHOW a 1 0 589 0 0", 14, "the line stands below no command"),
-        (QUOTA, "branches 1", 14, "there is no line of this kind"),
+        (QUOTA, f"{QUOTA}\nquota sessions 1 atoms 2 branches 2", 15, "a quota stands right above a command"),
+        ("end\n", "quota sessions 1 atoms 2 branches 2\nend\n", 28, "a quota stands right above a command"),
+        (QUOTA, "branches 1", 14, NO_KIND),
+        (QUOTA, "checkpoint 1", 14, NO_KIND),
         (QUOTA, "end", 15, "the record goes on below its end"),
-        (QUOTA, "moved", 15, NO_LOAD),
+        (QUOTA, "moved", 15, NO_LOAD_MOVED),
+        (QUOTA, "moved ", 14, NO_KIND),
+        (QUOTA, "connection 2", 14, NO_KIND),
+        (QUOTA, "quota sessions 01 atoms 2 branches 1", 14, NO_QUOTA),
+        (QUOTA, "quota sessions 1 atoms 2 branches 0", 14, NOT_LARGER),
+        (QUOTA, "quota sessions 1 atoms 1 branches 1", 14, NOT_LARGER),
+        (f"{QUOTA}\n", "", 14, NO_ROOM),
+        ("quota sessions 1 atoms 2 branches 0", "quota sessions 1 atoms 1 branches 0", 4, NO_ROOM),
         (LOADED, "", 4, NO_LOAD),
+        ("client ljclient 1.1.0\n", "client x\nclient y\n", 3, NO_PLACE),
+        ("client ljclient 1.1.0\n", "program x\nclient y\n", 3, NO_PLACE),
+        (QUOTA, "client x", 14, NO_PLACE),
+        (": dimer", ":", 6, NO_KIND),
+        ("end\n", "end \n", 27, NO_KIND),
+        ("end\n", "moved\nend\n", 28, NO_LOAD_MOVED),
+        ("> LIST a\n", "> DROP a\n< OK DROP a\n> LIST a\n", 26, GONE),
+        ("< ERR 12 NO_BRANCH", "< ERR 10 NO_SESSION", 23, OUTSIDE),
+        ("< ERR 12 NO_BRANCH", "< ERR 22 QUOTA_BRANCHES", 23, OUTSIDE),
+        ("> RESTORE a z", "> RESTORE a " + 65600 * "z", 22, NO_COMMAND),
         ("< OK DUMP a 2 4\n+", "< OK DUMP a 2 4\n>", 21, "here the sum of the lines of a reply should stand"),
     ],
 )
@@ -240,7 +300,7 @@ def test_what_a_terminal_would_obey_is_escaped(path: Any) -> None:
     edited(path, DIMER_TEXT.replace("client ljclient 1.1.0", "client \x1b[2J").replace("> RESTORE a z", "> RESTORE a z \x1b]0;\r"))
     status, told, faults = verified(path)
     assert status == 1
-    assert told[0].startswith("recorded by \\x1b[2J over ")
+    assert told[0].startswith("the file says: recorded by \\x1b[2J over ")
     assert "\\x1b]0;\\x0d` was answered `ERR 12 NO_BRANCH`, and `ERR 03 SYNTAX` here" in faults[0]
     assert all(line.isprintable() for line in [*told, *faults])
 
@@ -254,12 +314,29 @@ def test_what_a_terminal_would_obey_is_escaped(path: Any) -> None:
         (["a", "--server", "here", "ann"], "--server HOST:PORT NAME: the first word is no HOST:PORT"),
         (["a", "--server", "127.0.0.1:4000", "ann", "--program", "x"], "not allowed with argument --server"),
         (["a", "--timeout", "0"], "SECONDS is a number above 0"),
+        (["a", "--sha256", "0123"], "--sha256 HEX is 64 hexadecimal digits"),
     ],
 )
 def test_words_of_the_command_line(words: Any, told: Any) -> None:
     status, lines, faults = verified(*words)
     assert (status, lines) == (2, [])
     assert faults[-1].endswith(told) and faults[-1].startswith("ljclient: ")
+
+
+def test_a_line_that_is_too_long(path: Any) -> None:
+    """It hides nothing of what stands below it. A body that is one line of a mebibyte is no longer than it may be."""
+    body = f"2\n{(2**20 - len(DIMER) + 5) * 'x'}\nAr 0 0 0\nAr 1.5 0 0\n"
+    assert len(body) == 2**20
+    rows = "".join(f": {line}\n" for line in body.splitlines())
+    loaded = f"> LOAD a 256 1 131072 rest {2**20}\n{rows}< OK LOAD a 0 2\n"
+    whole = DIMER_TEXT.replace(LOADED, loaded)
+    edited(path, whole)
+    assert verified("--quiet", path)[0] == 0
+    number = LINES.index(": dimer") + 1
+    for put_in in ("x" * 2**21, ": " + "x" * 2**21):
+        edited(path, whole.replace(": xx", f"{put_in}\n: xx", 1))
+        why = f"line {number}: the line has more than 1,048,588 bytes"
+        assert verified(path, "--program", "/nowhere") == (2, [], [f"ljclient: {path}, {why}"])
 
 
 def test_files_and_programs_that_are_not_there(path: Any, tmp_path: pathlib.Path) -> None:
@@ -271,11 +348,12 @@ def test_files_and_programs_that_are_not_there(path: Any, tmp_path: pathlib.Path
 def test_more_commands_than_a_program_takes(path: Any) -> None:
     """Those of a server go on over a new connection, and a program has one."""
     options = verify.options_of([str(path)])
-    with mock.patch.object(verify, "MAX_ITEMS", len(COMMANDS)):
-        text = f"{path} has {len(COMMANDS)} commands, and a program takes {len(COMMANDS)}: say --server HOST:PORT NAME"
-        with pytest.raises(verify.Trouble, match=re.escape(text)):
+    limit = len(COMMANDS) + record_playing.SPARE_ITEMS - 1
+    with mock.patch.object(verify, "MAX_ITEMS", limit):
+        text = f"{path} has {len(COMMANDS)} commands, and a program takes {limit}: say --server HOST:PORT NAME"
+        with pytest.raises(record_playing.Trouble, match=re.escape(text)):
             verify.checked(options)
-        edited(path, DIMER_TEXT.replace("> ADVANCE a 1\n< OK ADVANCE a 2\n", "> DROP a\n< OK DROP a\n" + MOVED, 1))
+        edited(path, DIMER_TEXT.replace("> ADVANCE a 1\n< OK ADVANCE a 2\n", MOVED, 1))
         verify.checked(options)
 
 
@@ -292,7 +370,7 @@ def test_a_user_of_a_server(path: Any) -> None:
         with joined(server.port) as user:
             dimer(user, "b").advance(3)
         status, told, faults = verified(path, *over(server), LJSERVE_TOKEN=TOKEN)
-        assert (status, len(told), faults) == (0, len(COMMANDS) + 2, [])
+        assert (status, len(told), faults) == (0, len(COMMANDS) + 3, [])
         with joined(server.port) as user:
             assert [(row.name, row.step) for row in user.sessions()] == [("b", 3)]
             dimer(user, "a").advance(5)
@@ -313,8 +391,8 @@ def test_a_user_of_a_server(path: Any) -> None:
 def test_a_quota_that_is_too_small(path: Any, quota: Any, line: Any, command: Any, reply: Any) -> None:
     with Server(quota=quota) as server:
         status, told, faults = verified("--quiet", path, *over(server), LJSERVE_TOKEN=TOKEN)
-    why = f"`{command}` is answered `{reply}` here; the record needs a quota of sessions 1 atoms 2 branches 1"
-    assert (status, told, faults) == (2, [], [f"ljclient: {path}, line {line}: {why}"])
+    why = f"`{command}` is answered `{reply}` here; the file says that it needs a quota of sessions 1 atoms 2 branches 1"
+    assert (status, told, faults) == (2, [] if line == 4 else [BODY], [f"ljclient: {path}, line {line}: {why}"])
 
 
 def test_a_server_that_does_not_know_the_user(path: Any, tmp_path: pathlib.Path) -> None:
@@ -332,7 +410,7 @@ def test_a_server_that_does_not_know_the_user(path: Any, tmp_path: pathlib.Path)
 
 def test_a_program_without_memory(path: Any, tmp_path: pathlib.Path) -> None:
     status, told, (fault,) = verified("--quiet", path, "--program", twisted(tmp_path, "OK BRANCH a k 1", "ERR 90 MEMORY"))
-    assert (status, told) == (2, [])
+    assert (status, told) == (2, [BODY])
     assert fault.startswith(f"ljclient: {path}, line 15: `BRANCH a k` is answered `ERR 90 MEMORY` here; ")
 
 

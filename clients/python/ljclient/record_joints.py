@@ -1,0 +1,155 @@
+"""Where a session of a record is loaded again: whether it goes on as it was, or another trajectory begins.
+
+A session that moves to a new program, or whose atoms are sorted anew, is loaded again from both of its frames. What the program
+has just before and just after is compared in ring units, in whatever order its atoms are.
+"""
+from __future__ import annotations
+
+import contextlib
+from dataclasses import dataclass, field
+from fractions import Fraction
+from typing import TYPE_CHECKING, List, Optional, Sequence, Tuple
+
+from . import record
+from .errors import Refused
+from .order import Place
+from .units import RING
+from .wire import Reply
+
+if TYPE_CHECKING:
+    from .user import User
+
+# The edge of the box in which DUMP tells each ring unit, in 10^-9 of the file's unit.
+RING_EDGE = RING * 1000
+BILLION = 10**9
+FULL_WEIGHT = 256
+
+
+@dataclass(frozen=True)
+class Loaded:
+    """How the atoms of a session interact.
+
+    species  the two symbols of a mixture
+    classes  sigma in ring units, h and weight of each class of pairs
+    atoms    how many atoms there are
+    on_ring  whether DUMP tells each ring unit
+    """
+
+    species: Tuple[bytes, ...]
+    classes: Tuple[Tuple[int, int, int], ...]
+    atoms: int
+    on_ring: bool = field(compare=False)
+
+    @property
+    def cost(self) -> int:
+        """How many commands it takes to read both frames."""
+        return 4 if self.on_ring else 2 * self.atoms + 3
+
+
+@dataclass(frozen=True)
+class Side:
+    """A session on one side of a joint: how its atoms interact, and of each its symbol and its places now and one step before."""
+
+    loaded: Loaded
+    atoms: Sequence[Tuple[str, Place, Place]]
+
+
+def nano_of(word: bytes) -> int:
+    """The billionths that a decimal number of the protocol says, halves away from zero."""
+    number = Fraction(word.decode("ascii").lower().replace("d", "e"))
+    size = int(abs(number) * BILLION + Fraction(1, 2))
+    return -size if number < 0 else size
+
+
+def loaded_by(line: bytes, first: bytes) -> Loaded:
+    """What a LOAD or LOADMIX has loaded that was granted."""
+    verb, _, edge_word, *words = record.words_of(line)
+    species = tuple(words[:2]) if verb == b"LOADMIX" else ()
+    numbers = words[2:-2] if species else [*words[:-2], b"%d" % FULL_WEIGHT]
+    edge = nano_of(edge_word)
+    triples = zip(numbers[::3], numbers[1::3], numbers[2::3])
+    classes = tuple((nano_of(sigma) * RING // edge, int(h), int(weight)) for sigma, h, weight in triples)
+    return Loaded(species, classes, int(first.split(b" ")[-1]), edge == RING_EDGE)
+
+
+def side_of(user: "User", name: str, loaded: Loaded) -> Side:
+    """A session as the program has it. It is then as it was."""
+    turn = f"REVERSE {name}"
+    if loaded.on_ring:
+        dumped, _, past, _ = user.ask_all([f"DUMP {name}", turn, f"DUMP {name}", turn])
+        now, before = _dumped_places(dumped), _dumped_places(past)
+    else:
+        shows = [f"SHOW {name} {number}" for number in range(loaded.atoms)]
+        dumped, *shown = user.ask_all([f"DUMP {name}", *shows, turn, *shows, turn])
+        now, before = _shown_places(shown[: loaded.atoms]), _shown_places(shown[loaded.atoms + 1 : -1])
+    symbols = [line.split(" ")[0] for line in dumped.lines[2:]]
+    return Side(loaded, sorted(zip(symbols, now, before)))
+
+
+def _shown_places(replies: Sequence[Reply]) -> List[Place]:
+    """The places that replies to SHOW tell."""
+    return [(int(x), int(y), int(z)) for x, y, z in (reply.words[-3:] for reply in replies)]
+
+
+def _dumped_places(reply: Reply) -> List[Place]:
+    """The places that DUMP tells where a millionth is a ring unit."""
+    words = (line.replace(".", "").split(" ") for line in reply.lines[2:])
+    return [(int(x), int(y), int(z)) for _, x, y, z in words]
+
+
+class Joints:
+    """Counts the trajectories of a record.
+
+    room          how many commands may still be asked to read frames
+    trajectories  how many there are, each load among them that was not compared
+    uncompared    how many loads were not compared with what was before
+    """
+
+    def __init__(self, name: str, room: int):
+        self.room = room
+        self.trajectories = 1
+        self.uncompared = 0
+        self._name = name
+        self._before: Sequence[Side] = ()
+
+    def leave(self, user: "User", loaded: Optional[Loaded], has_moved: bool) -> None:
+        """Reads the session before it is gone."""
+        self._before = ()
+        with contextlib.suppress(Refused):
+            if loaded is not None:
+                self._before = self._all_sides(user, loaded) if has_moved else self._sides(user, loaded)
+
+    def arrive(self, user: "User", loaded: Optional[Loaded]) -> str:
+        """Compares the session that was loaded again, and returns what is told of it."""
+        after = self._sides(user, loaded) if self._before and loaded is not None else ()
+        if after and after[0] in self._before:
+            return "the session goes on as it was"
+        self.trajectories += 1
+        if after:
+            return "another trajectory begins"
+        self.uncompared += 1
+        return "it was not compared whether the session goes on as it was"
+
+    def _sides(self, user: "User", loaded: Loaded) -> Sequence[Side]:
+        """The session as it is, if there is room to read it."""
+        return (side_of(user, self._name, loaded),) if self._takes(loaded.cost) else ()
+
+    def _all_sides(self, user: "User", loaded: Loaded) -> Sequence[Side]:
+        """The session as it is, and as it was saved: a new program is first told what was saved first.
+
+        The session has what was saved last then."""
+        saved = [line.split(" ")[0] for line in user.ask(f"LIST {self._name}").lines] if self._takes(1) else []
+        if not self._takes((loaded.cost + 1) * (len(saved) + 1)):
+            return ()
+        sides = [side_of(user, self._name, loaded)]
+        for branch in saved:
+            user.ask(f"RESTORE {self._name} {branch}")
+            sides.append(side_of(user, self._name, loaded))
+        return sides
+
+    def _takes(self, cost: int) -> bool:
+        """Takes so many commands of the room, if it has them."""
+        if cost > self.room:
+            return False
+        self.room -= cost
+        return True
