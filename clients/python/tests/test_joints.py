@@ -1,0 +1,135 @@
+"""Where a session of a record is loaded again: it goes on as it was, to the bit, or the verdict tells of another trajectory."""
+import pathlib
+from typing import Any
+from unittest import mock
+
+import pytest
+
+from ljclient import record_joints, record_playing, run
+from record_texts import verified, with_checks
+from support import ARGON, EXAMPLES, PROGRAM, TOKEN, Server
+from true_records import judged, text_of
+
+ON = "again - line : the session goes on as it was"
+OTHER = "again - line : another trajectory begins"
+UNCOMPARED = "again - line : it was not compared whether the session goes on as it was"
+# The load of the dimer as it is after three steps, by hand as in PROTOCOL.
+ATOMS = ("Ar 1774e-6 0e-6 0e-6", "Ar 25164050e-6 0e-6 0e-6", "Ar 3555e-6 0e-6 0e-6", "Ar 25162269e-6 0e-6 0e-6")
+LOAD = "LOAD a 4294.967296 16777216e-6 131072 pair "
+
+
+def body_of(*rows: str) -> str:
+    """The lines of a body of two frames of two atoms."""
+    return "".join(f": {line}\n" for line in ("2", "", *rows[:2], "2", "", *rows[2:]))
+
+
+@pytest.fixture(scope="module")
+def text(tmp_path_factory: pytest.TempPathFactory) -> str:
+    """The record of a dimer that is dropped after three steps, and loaded again."""
+    text = text_of("sorted_in_space", tmp_path_factory.mktemp("true"))
+    assert f"> {LOAD}98\n{body_of(*ATOMS)}< OK LOAD a 0 2\n" in text
+    # What follows depends on what was loaded. It is left out, so that each reply is the same.
+    return text.split("> ADVANCE a 1\n")[0] + "end\n"
+
+
+def loaded_as(text: str, line: str, *rows: str) -> str:
+    """The record in which this is loaded in place of what was there, with a body of these atoms."""
+    body = body_of(*(rows or ATOMS))
+    count = len(body.replace(": ", ""))
+    return text.replace(f"> {LOAD}98\n{body_of(*ATOMS)}", f"> {line}{count}\n{body}")
+
+
+A, B, C, D = ATOMS
+
+
+@pytest.mark.parametrize(
+    ("line", "rows", "told"),
+    [
+        (LOAD, ATOMS, ON),
+        (LOAD, (B, A, D, C), ON),
+        (LOAD, (B, A, C, D), OTHER),
+        (LOAD, (C, D, A, B), OTHER),
+        (LOAD, (C, D, C, D), OTHER),
+        (LOAD, (A, B, C, D.replace("269", "268")), OTHER),
+        (LOAD, (A, B.replace("050", "051"), C, D), OTHER),
+        (LOAD, (A, B, C, D.replace("Ar", "Kr")), ON),
+        (LOAD, (A, B.replace("Ar", "Kr"), C, D), OTHER),
+        (LOAD.replace("131072", "131073"), ATOMS, OTHER),
+        (LOAD.replace("16777216", "16777217"), ATOMS, OTHER),
+        (LOAD.replace("16777216e-6", "16.777216D0"), ATOMS, ON),
+        (LOAD.replace("16777216e-6", "16.7772160004"), ATOMS, ON),
+        (LOAD.replace("pair", "rest"), ATOMS, OTHER),
+    ],
+)
+def test_what_is_loaded_again(text: str, tmp_path: pathlib.Path, line: str, rows: Any, told: str) -> None:
+    """In what order the atoms are is no matter, and neither are the symbols of the second frame, which no reply tells."""
+    status, lines = judged(tmp_path / "run.lj", loaded_as(text, line, *rows))
+    count = "1 trajectory" if told == ON else "2 trajectories"
+    assert (status, lines[-2], lines[-1].split("; ")[-1]) == (0, told, count)
+
+
+def test_a_box_of_another_edge(text: str, tmp_path: pathlib.Path) -> None:
+    """The places are the same in ring units where all is half as wide, and so is sigma."""
+    half = [f"Ar {x // 2}.{x % 2 * 5}e-6 0 0" for x in (1774, 25164050, 3555, 25162269)]
+    line = "LOAD a 2147.483648 8388608e-6 131072 pair "
+    assert judged(tmp_path / "run.lj", loaded_as(text, line, *half))[1][-2] == ON
+    assert judged(tmp_path / "run.lj", loaded_as(text, line, *ATOMS))[1][-2] == OTHER
+
+
+@pytest.mark.parametrize(("room", "told"), [(7 + 4, ON), (7 + 3, UNCOMPARED), (6, UNCOMPARED)])
+def test_commands_that_a_program_has_no_room_for(text: str, tmp_path: pathlib.Path, room: int, told: str) -> None:
+    """It takes 7 to read the dimer in its box before it is dropped, and 4 in the box of ring units."""
+    commands = text.count("\n> ")
+    with mock.patch.object(record_playing, "MAX_ITEMS", record_playing.SPARE_ITEMS + commands + room):
+        status, lines = judged(tmp_path / "run.lj", text)
+    count = "1 trajectory" if told == ON else "at most 2 trajectories, since 1 load was not compared with the session before"
+    assert (status, lines[-2], lines[-1].split("; ")[-1]) == (0, told, count)
+
+
+def test_over_a_server(text: str, tmp_path: pathlib.Path) -> None:
+    path = tmp_path / "run.lj"
+    path.write_text(with_checks(text))
+    with Server() as server:
+        status, told, faults = verified("--quiet", path, "--server", f"127.0.0.1:{server.port}", "ann", LJSERVE_TOKEN=TOKEN)
+    assert (status, faults) == (0, [])
+    assert "; at most 2 trajectories, since 1 load was not compared with the session before; " in told[-1]
+
+
+def test_a_new_program_that_is_told_what_was_saved(tmp_path: pathlib.Path) -> None:
+    """It goes on from there by tugs, as one trajectory. What was never so is another one."""
+    text = text_of("moved", tmp_path)
+    above, _, below = text.partition("moved\n")
+    assert "> BRANCH a k\n" in below
+    told = [judged(tmp_path / "run.lj", each)[1] for each in (text, f"{above}moved\n{below.replace('Ar 1774e-6', 'Ar 1775e-6', 1)}")]
+    assert [ON in lines for lines in told] == [True, False]
+    assert [OTHER in lines for lines in told] == [False, True]
+    assert ["; 1 trajectory" in lines[-1] for lines in told] == [True, False]
+
+
+def test_atoms_in_the_order_of_space(tmp_path: pathlib.Path) -> None:
+    """They are sorted anew by the client while the session goes on, which is one trajectory."""
+    path = tmp_path / "run.lj"
+    with run(PROGRAM) as user:
+        argon = user.load("argon", EXAMPLES / "argon_256.xyz", order="space", record=path, **ARGON)
+        argon.advance(600)
+        argon.dump()
+    status, told, faults = verified("--quiet", path)
+    assert (status, faults) == (0, [])
+    assert "; 0 commands were not played; 1 trajectory; " in told[-1]
+
+
+@pytest.mark.parametrize(
+    ("word", "nanos"),
+    [
+        ("1", 10**9),
+        ("1.", 10**9),
+        (".5", 5 * 10**8),
+        ("15D-1", 15 * 10**8),
+        ("-0.0000000005", -1),
+        ("0.00000000049", 0),
+        ("+2e3", 2 * 10**12),
+    ],
+)
+def test_decimal_numbers(word: str, nanos: int) -> None:
+    """They are rounded to 10^-9, halves away from zero."""
+    assert record_joints.nano_of(word.encode()) == nanos
