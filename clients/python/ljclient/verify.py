@@ -28,9 +28,9 @@ Plays the commands of a record, which load(.., record=FILE) has written, and tel
 each command, with the SHA-256 of the record up to its reply. They are played over a program of its own, with the quota that the
 record says, or over a server, where NAME must have room for it and no session of that name. The session is dropped at the end.
 
-The last line tells how many replies were compared, how many commands were not played, since the record has no reply of the
-session to them; how many trajectories there are, where the session is loaded again in another state than it had; and the SHA-256
-of the record. What is told to be the same was played and compared here; all else is what the file says of itself.
+The last line tells how many replies were compared; how many commands were not played, since the session has not replied to them;
+how many trajectories there are, of which another one begins where the session is loaded again and is not as it was; and the
+SHA-256 of the record. A line for each load has the SHA-256 of its body. What was not played is only what the file says.
 
 Status 0: each reply is the same. 1: one differs. 2: it could not be played, or the file is damaged or not the one of --sha256.
 3: each reply is the same, and the record has no `end`, or is cut short (with --partial: 0).
@@ -55,7 +55,7 @@ def options_of(words: List[str]) -> argparse.Namespace:
     over.add_argument("--server", nargs=2, metavar=("HOST:PORT", "NAME"), help="where `ljserve serve` listens, and who asks")
     parser.add_argument("--token-file", metavar="FILE", help="a file with the token, as for the prompt")
     parser.add_argument("--timeout", metavar="SECONDS", type=float, help=f"how long a reply of a server may take: {SECONDS:g}")
-    parser.add_argument("--quiet", action="store_true", help="no line for a command that is played")
+    parser.add_argument("--quiet", action="store_true", help="only the lines of loads and of what is not played, and the last one")
     parser.add_argument("--partial", action="store_true", help="status 0 for a record without its end, if all that is there is the same")
     parser.add_argument("--sha256", metavar="HEX", type=str.lower, help="the SHA-256 that the record has, as a paper prints it")
     add_tls(parser)
