@@ -323,6 +323,13 @@ def test_words_of_the_command_line(words: Any, told: Any) -> None:
     assert faults[-1].endswith(told) and faults[-1].startswith("ljclient: ")
 
 
+def test_replies_that_all_stand_where_nothing_is_played(path: Any) -> None:
+    """Of a run that never was. Without the refusals of others nothing is left that could be believed."""
+    for text in (DIMER_TEXT.replace("\n< ", "\n! "), re.sub(r"\n< .*(\n\+ .*)?", "\n! ERR 90 MEMORY", DIMER_TEXT)):
+        edited(path, text)
+        assert verified(path, "--program", "/nowhere") == (2, [], [f"ljclient: {path}, line 4: {NO_LOAD}"])
+
+
 def test_a_line_that_is_too_long(path: Any) -> None:
     """It hides nothing of what stands below it. A body that is one line of a mebibyte is no longer than it may be."""
     body = f"2\n{(2**20 - len(DIMER) + 5) * 'x'}\nAr 0 0 0\nAr 1.5 0 0\n"
