@@ -150,6 +150,51 @@ def test_speeds_of_atoms(page: Any) -> None:
     assert abs(mean - (8 * 1.5 / math.pi) ** 0.5) < 1e-4
 
 
+# A chart of speeds of its own, which tells the labels along its bottom each time that it is drawn.
+DRAWN_TWICE = """script => {
+  const canvas = document.body.appendChild(document.createElement('canvas'));
+  canvas.style = 'width: 400px; height: 110px';
+  const chart = new script.Speeds(canvas);
+  const labels = () => {
+    const written = [];
+    chart.pen.fillText = (text) => chart.pen.textAlign === 'center' && written.push(text);
+    chart.draw();
+    return written;
+  };
+  chart.take(new Float64Array(6), new Float64Array(6), { sigma: 100, reduced_dt: 0.01, speed: SPEED }, 1, true);
+  const drawn = [labels(), labels()];
+  canvas.remove();
+  return drawn;
+}"""
+
+
+@pytest.mark.parametrize("speed, labels", [("null", ["0", "1", "2", "3", "4", "5"]), ("200", ["0", "200", "400", "600", "800", "1,000"])])
+def test_an_axis_of_speeds_stays_when_it_is_drawn_again(page: Any, speed: Any, labels: Any) -> None:
+    """It reaches five times the root of the temperature, which is 1 here: 5 in sigma / tau, or with 200 m/s for each of these 1,000."""
+    drawn = page.value(f"import('./profiles.js').then({DRAWN_TWICE.replace('SPEED', speed)})")
+    assert drawn == [labels, labels]
+
+
+def test_the_axis_of_speeds_stays_while_it_plays(page: Any) -> None:
+    """The crystal begins at a temperature of 1.5, and is not above 3 later: the axis reaches 5 times the root of that at most."""
+    page.value(
+        """{
+      const write = CanvasRenderingContext2D.prototype.fillText;
+      window.labels = [];
+      CanvasRenderingContext2D.prototype.fillText = function (text, ...where) {
+        if (this.canvas.id === 'speeds' && this.textAlign === 'center') labels.push(Number(text.replaceAll(',', '')));
+        return write.call(this, text, ...where);
+      };
+    }"""
+    )
+    show(page, "of-speeds")
+    page.click("play")
+    page.wait_for("labels.length > 100")
+    page.click("play")
+    assert page.value("Math.max(...labels)") <= 5 * 3**0.5
+    picture(page, "speeds_while_it_plays")
+
+
 def hover(page: Any, chart: Any, share: Any) -> None:
     """Moves the mouse over a chart, at a share of its width."""
     at = page.value(f"document.getElementById('{chart}').getBoundingClientRect().toJSON()")

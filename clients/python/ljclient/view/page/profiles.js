@@ -67,16 +67,16 @@ class Profile extends Axes {
 export class Speeds extends Profile {
   take(places, before, scene, temperature, isNew) {
     if (isNew || !this.most || temperature > 2 * this.warmest) [this.most, this.warmest] = [5 * Math.sqrt(Math.max(temperature, 0.01)), Math.max(temperature, 0.01)];
-    const width = this.most / BINS_OF_SPEEDS;
-    this.look(() => shares(speeds(places, before, scene), width, BINS_OF_SPEEDS), isNew);
-    Object.assign(this, { width, temperature, unit: scene.speed ?? 1 });
+    const widthOfBin = this.most / BINS_OF_SPEEDS;
+    this.look(() => shares(speeds(places, before, scene), widthOfBin, BINS_OF_SPEEDS), isNew);
+    Object.assign(this, { widthOfBin, temperature, unit: scene.speed ?? 1 });
   }
 
   draw() {
     if (!this.mean.bins || !this.isShown) return;
-    const { unit, width, temperature } = this;
+    const { unit, widthOfBin, temperature } = this;
     const bins = this.mean.bins.map((share) => share / unit);
-    this.bars(bins, width * unit, "--speeds", (speed) => maxwell(speed / unit, temperature) / unit, 0);
+    this.bars(bins, widthOfBin * unit, "--speeds", (speed) => maxwell(speed / unit, temperature) / unit, 0);
   }
 }
 
