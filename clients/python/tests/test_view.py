@@ -25,7 +25,7 @@ def view() -> Iterator[Any]:
 
 def test_the_files_of_the_page(view: Any) -> None:
     for path, (name, kind) in server.FILES.items():
-        status, headers, body = view.get(f"/{path}")
+        status, headers, body = view.get(f"{view.path}{path}")
         assert (status, headers["Content-Type"]) == (200, f"{kind}; charset=utf-8")
         assert body == (server.FOLDER / name).read_bytes()
 
@@ -37,35 +37,46 @@ def test_the_page_names_no_other_file() -> None:
     assert {*named, ""} == set(server.FILES)
 
 
-@pytest.mark.parametrize("path", ["/server.py", "/../server.py", "/%2e%2e/server.py", "//etc/passwd", "/page.html/"])
+@pytest.mark.parametrize("path", ["server.py", "../server.py", "%2e%2e/server.py", "/etc/passwd", "page.html/", "%ff", "%ed%a0%80"])
 def test_no_other_file(view: Any, path: Any) -> None:
-    assert view.get(path)[0] == 404
+    assert view.get(f"{view.path}{path}")[0] == 404
+
+
+@pytest.mark.parametrize("wrong", ["/", f"/{'A' * 16}/", f"/{'%ff' * 16}/", "cut", "swapped"])
+def test_without_the_secret_nothing_is_answered(view: Any, wrong: Any) -> None:
+    """Neither a file of the page nor a session: another account of this machine may name any Host and any Origin."""
+    begin = {"cut": view.path[:-1], "swapped": view.path.swapcase()}.get(wrong, wrong)
+    for name in ("", "page.html", "page.js", "session"):
+        status, _, body = view.get(f"{begin}{name}", Origin=f"http://{view.url}")
+        assert (status, body[:22]) == (404, b"there is no such page:")
+    with pytest.raises(Refused, match="404"):
+        Page(view.port, {"Origin": f"http://{view.url}"}, begin)
 
 
 def test_only_this_address_is_answered(view: Any) -> None:
     for host in ("example.org", f"example.org:{view.port}", "127.0.0.1", "127.0.0.1:1", ""):
-        assert view.get("/", Host=host)[::2] == (403, b"Host is not the address of this page")
+        assert view.get(view.path, Host=host)[::2] == (403, b"Host is not the address of this page")
     for host in (view.url, f"localhost:{view.port}"):
-        assert view.get("/", Host=host)[0] == 200
+        assert view.get(view.path, Host=host)[0] == 200
 
 
 def test_no_other_page_is_answered(view: Any) -> None:
     for origin in ("http://example.org", "null", f"https://{view.url}", "http://127.0.0.1:1"):
-        assert view.get("/", Origin=origin)[::2] == (403, b"Origin is another page")
+        assert view.get(view.path, Origin=origin)[::2] == (403, b"Origin is another page")
         with pytest.raises(Refused, match="403"):
             view.page(Origin=origin)
 
 
 def test_a_session_is_for_a_page(view: Any) -> None:
     with pytest.raises(Refused, match="403"):
-        Page(view.port, {})
+        Page(view.port, {}, view.path)
     with pytest.raises(Refused, match="403"):
         view.page(Host="example.org")
-    assert view.get("/session", Origin=f"http://{view.url}")[0] == 400
+    assert view.get(f"{view.path}session", Origin=f"http://{view.url}")[0] == 400
 
 
 def test_nothing_may_frame_the_page_or_be_asked_by_it(view: Any) -> None:
-    _, headers, _ = view.get("/")
+    _, headers, _ = view.get(view.path)
     policy = headers["Content-Security-Policy"]
     assert "default-src 'none'" in policy
     assert "frame-ancestors 'none'" in policy

@@ -25,7 +25,7 @@ class InABrowser(unittest.TestCase):
         self.view = View("--port", "0")
         self.addCleanup(self.view.end)
         self.browser.leave()
-        self.browser.open(f"http://{self.view.url}/")
+        self.browser.open(self.view.link)
         self.browser.wait_for("document.getElementById('about')?.textContent.includes('256 atoms')")
 
     def tearDown(self) -> None:

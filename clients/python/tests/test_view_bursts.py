@@ -40,7 +40,7 @@ def opened(browser: Any, tmp_path: pathlib.Path) -> Iterator[Any]:
         path = tmp_path / "atoms.xyz"
         path.write_text(atoms)
         views.append(View(*([path, "--edge", 20] if atoms else []), *options))
-        browser.open(f"http://{views[0].url}/")
+        browser.open(views[0].link)
         browser.wait_for("document.getElementById('message')?.textContent === 'Press Play.'")
         browser.value(FRAME_IS_DRAWN)  # an atom can be taken where it was drawn
         return browser

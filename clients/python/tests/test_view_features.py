@@ -31,7 +31,7 @@ def page(browser: Any) -> Iterator[Any]:
     browser.leave()
     browser.ask("Emulation.setDeviceMetricsOverride", width=1280, height=800, deviceScaleFactor=1, mobile=False)
     with View() as view:
-        browser.open(f"http://{view.url}/")
+        browser.open(view.link)
         browser.wait_for("document.getElementById('message')?.textContent === 'Press Play.'")
         yield browser
         assert browser.faults == []

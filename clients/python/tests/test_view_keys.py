@@ -59,7 +59,7 @@ def keyboard(browser: Any, tmp_path: pathlib.Path) -> Iterator[Any]:
         path.write_text("2\n\nAr 0 0 0\nAr 1.5 0 0\n")
     browser.leave()
     with View(*paths, "--edge", 20, "--h", 131072) as view:
-        browser.open(f"http://{view.url}/")
+        browser.open(view.link)
         browser.wait_for("!window.pressed && document.getElementById('message')?.textContent === 'Press Play.'")
         yield Keyboard(browser)
         assert browser.faults == []

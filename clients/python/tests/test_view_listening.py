@@ -1,14 +1,18 @@
 """The live view behind an address of its own, for those who have its link."""
+import contextlib
+import json
 import re
 import signal
+import socket
 import subprocess
+from concurrent.futures import ThreadPoolExecutor
 from typing import Any, Iterator
 
 import pytest
 
 from ljclient.view import pages
-from support import SECONDS
-from viewing import Page, View, command
+from support import SECONDS, wait_until
+from viewing import Page, Stream, View, command
 from web_sockets import Refused
 
 
@@ -47,6 +51,38 @@ def test_without_the_secret_there_is_no_page(view: Any) -> None:
         Page(view.port, {"Origin": f"http://{view.url}", "Host": view.url}, wrong)
 
 
+@pytest.mark.parametrize("words, most", [([], 8), (["--pages-of-an-address", "2"], 2)])
+def test_one_address_has_some_of_the_pages(words: Any, most: int) -> None:
+    """One more is told why it is not answered, and another address has its own. When a page is closed there is room again."""
+    with View("--listen", "127.0.0.1:0", *words) as view, contextlib.ExitStack() as opened:
+        first, *_ = [opened.enter_context(view.page()) for _ in range(most)]
+        why = f"{most} pages are open already from your address, 127.0.0.1, and no more may be. Close one, and load this page anew."
+        with view.page() as refused:
+            assert (refused.first, refused.channel.receive()) == ({"error": why}, None)
+        with Stream(view, "127.0.0.2") as other:
+            assert json.loads(other.first[1])["step"] == 0
+        first.close()
+        wait_until(lambda: "error" not in opened.enter_context(view.page()).first)
+
+
+def closes(port: int, sent: bytes) -> bytes:
+    """What is answered to these bytes until the connection is closed by the other side."""
+    with socket.create_connection(("127.0.0.1", port), SECONDS) as connection:
+        connection.sendall(sent)
+        return b"".join(iter(lambda: connection.recv(4096), b""))
+
+
+def test_a_connection_that_asks_for_nothing_is_let_go(view: Any) -> None:
+    """One that says nothing, one whose request does not end, and one that says no more after its first. A page that says nothing
+    stays."""
+    request = f"GET / HTTP/1.1\r\nHost: {view.url}\r\n"
+    with Page(view.port, {"Origin": f"http://127.0.0.1:{view.port}"}, view.path) as page, ThreadPoolExecutor(3) as threads:
+        answers = list(threads.map(closes, [view.port] * 3, [b"", request.encode(), f"{request}\r\n".encode()]))
+        assert answers[:2] == [b"", b""]
+        assert answers[2].startswith(b"HTTP/1.1 404 ")
+        assert page.ask("frame", steps=1)["step"] == 1
+
+
 def test_no_page_of_another_site_is_answered(view: Any) -> None:
     for headers in ({"Origin": "http://example.org"}, {"Host": "a b"}, {"Host": "x;y"}, {"Host": ""}):
         assert view.get(view.path, **headers)[0] == 403
@@ -70,6 +106,9 @@ def test_it_stays_when_a_page_is_closed_and_ends_by_an_interrupt(view: Any) -> N
         (["--listen", "8000"], "--listen is an ADDRESS:PORT"),
         (["--listen", "0.0.0.0:8000", "--port", "1"], "leave --port out"),
         (["--address", "class.example"], "--address is for --listen"),
+        (["--pages-of-an-address", "8"], "--pages-of-an-address is for --listen"),
+        (["--listen", "0.0.0.0:8000", "--pages-of-an-address", "0"], "--pages-of-an-address is from 1 to 40"),
+        (["--listen", "0.0.0.0:8000", "--pages-of-an-address", "41"], "--pages-of-an-address is from 1 to 40"),
     ],
 )
 def test_words_that_do_not_fit(words: Any, told: Any) -> None:

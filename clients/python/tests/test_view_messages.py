@@ -17,6 +17,7 @@ SCALE = ["--edge", 20, "--sigma", 1, "--h", 131072]
 # Two atoms that move, and in the second file one more in the middle, which feels neither of them and stays.
 FILES = {"two.xyz": "2\n\nAr 0 0 0\nAr 1.5 0 0\n", "three.xyz": "3\n\nAr 0 0 0\nAr 1.5 0 0\nAr 10 10 0\n"}
 TWO, THREE = 0, 1
+ENABLED = "[...document.querySelectorAll('button, select')].filter(each => !each.disabled).map(each => each.id)"
 
 
 class Shown:
@@ -25,7 +26,7 @@ class Shown:
     def __init__(self, browser: Any, view: Any) -> None:
         self.browser = browser
         self.view = view
-        browser.open(f"http://{view.url}/")
+        browser.open(view.link)
         browser.wait_for("document.getElementById('about')?.textContent.startsWith('2 atoms')")
 
     @property
@@ -276,12 +277,24 @@ def test_the_choice_is_that_of_the_atoms_shown(shown: Any) -> None:
     assert shown.browser.text("about").startswith("2 atoms")
 
 
+def test_a_page_that_is_not_let_in_says_why(browser: Any) -> None:
+    browser.leave()
+    with View("--listen", "127.0.0.1:0", "--pages-of-an-address", "1") as view, view.page():
+        browser.open(view.link)
+        browser.wait_for("document.getElementById('play')?.disabled")
+        why = "1 page is open already from your address, 127.0.0.1, and no more may be. Close one, and load this page anew."
+        assert (browser.text("message"), browser.value(ENABLED)) == (why, [])
+        if PICTURES:
+            (pathlib.Path(PICTURES) / "not_let_in.png").write_bytes(browser.picture())
+        browser.leave()
+
+
 def test_why_there_are_no_atoms_is_said_for_good(browser: Any, tmp_path: pathlib.Path) -> None:
     """A program that begins once, when the view tries its atoms, and not for the page."""
     program = tmp_path / "once"
     program.write_text(f'#!/bin/sh\nmkdir "{tmp_path}/begun" 2>/dev/null || exit 7\nexec "{PROGRAM}" "$@"\n')
     program.chmod(0o755)
     with View("--program", program) as view:
-        browser.open(f"http://{view.url}/")
+        browser.open(view.link)
         browser.wait_for("document.getElementById('play')?.disabled")
         assert "has ended with status 7" in browser.text("message")

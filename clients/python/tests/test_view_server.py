@@ -212,7 +212,7 @@ def test_the_page_asks_for_what_it_has_to_know(view: Any, ann: Any) -> None:
     with ann() as user:
         dimer(user).advance(5)
     with Browser() as page:
-        page.open(f"http://{view(token_file=None).url}/")
+        page.open(view(token_file=None).link)
         page.wait_for("document.activeElement?.name === 'token'")
         assert overflow_at_320(page) <= 0
         for button in ("reverse", "save", "second", "play", "csv"):

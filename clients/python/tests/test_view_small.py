@@ -24,7 +24,7 @@ def page(browser: Any, tmp_path: pathlib.Path) -> Iterator[Any]:
     path.write_text(ATOMS)
     browser.leave()
     with View(path, "--edge", 20, "--h", 131072) as view:
-        browser.open(f"http://{view.url}/")
+        browser.open(view.link)
         browser.wait_for("document.getElementById('about')?.textContent.includes('3 atoms')")
         yield browser
         browser.ask("Emulation.clearDeviceMetricsOverride")
@@ -133,7 +133,7 @@ def test_what_it_looks_like(browser: Any, scheme: Any) -> None:
     browser.leave()
     with View() as view:
         browser.in_scheme(scheme)
-        browser.open(f"http://{view.url}/")
+        browser.open(view.link)
         browser.wait_for("document.getElementById('message')?.textContent === 'Press Play.'")
         browser.click("second")
         browser.value("document.getElementById('play').click()")

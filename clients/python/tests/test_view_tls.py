@@ -197,7 +197,7 @@ def test_the_page_shows_why_it_cannot_connect_and_what_it_waits_for(view: Any, s
         dimer(user)
     with Browser() as page:
         with Relay(server.port, good, listener(port)) as relay:
-            page.open(f"http://{view(port, '--ca', good[0]).url}/")
+            page.open(view(port, "--ca", good[0]).link)
             page.wait_for("document.getElementById('about')?.textContent.startsWith('2 atoms')")
             relay.cut()
             page.click("one")

@@ -38,6 +38,7 @@ class View:
         self.said = present(self.child.stdout).readline()
         self.url, _, path = self.said.partition("http://")[2].split(" ")[0].partition("/")
         self.path = f"/{path}"
+        self.link = f"http://{self.url}{self.path}"
         if not self.url:
             self.end()
             raise AssertionError("the view does not begin")
@@ -97,15 +98,15 @@ class Stream(contextlib.AbstractContextManager["Stream"]):
 
     KEY, ACCEPTED = "dGhlIHNhbXBsZSBub25jZQ==", b"s3pPLMBiTxaQ9kYGzzhZRbK+xOo="
 
-    def __init__(self, view: Any) -> None:
-        self.connection = socket.create_connection(("127.0.0.1", view.port), SECONDS)
+    def __init__(self, view: Any, source: str = "127.0.0.1") -> None:
+        self.connection = socket.create_connection(("127.0.0.1", view.port), SECONDS, (source, 0))
         words: Dict[str, Any] = {"Host": view.url, "Origin": f"http://{view.url}", "Connection": "Upgrade", "Upgrade": "websocket"}
         words.update({"Sec-WebSocket-Version": "13", "Sec-WebSocket-Key": self.KEY})
         lines = "".join(f"{name}: {value}\r\n" for name, value in words.items())
-        self.connection.sendall(f"GET /session HTTP/1.1\r\n{lines}\r\n".encode())
+        self.connection.sendall(f"GET {view.path}session HTTP/1.1\r\n{lines}\r\n".encode())
         self.reader = self.connection.makefile("rb")
         self.head = b"".join(iter(self.reader.readline, b"\r\n"))
-        self.receive()
+        self.first = self.receive()
 
     def send(self, first: Any, data: Any, mask: bytes = b"\x37\xfa\x21\x3d") -> None:
         """Sends a frame of less than 126 bytes, masked, whose first byte says its kind and whether it is the last."""

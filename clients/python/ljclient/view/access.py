@@ -1,4 +1,4 @@
-"""Who may ask for the page: those on this machine alone, or those who have a link with a secret."""
+"""Who may ask for the page: those who have its link, which has a secret, on this machine alone or in the network."""
 from __future__ import annotations
 
 import hmac
@@ -26,8 +26,8 @@ class Access:
     """Where the page is, and who may ask for it.
 
     listener  the socket that listens
-    hosts     the hosts that a request may name, or none if the link has a secret. Then any name may lead here
-    prefix    what each path begins with
+    hosts     the hosts that a request may name, or none if others may have the page. Then any name may lead here
+    prefix    what each path begins with, which has the secret
     url       the link to the page
     """
 
@@ -63,15 +63,20 @@ class Access:
         return [f"ws://{host}", f"wss://{host}"] if self.is_open else [f"ws://{each}" for each in self.hosts]
 
 
+def secret_path() -> str:
+    """What each path begins with, which nobody can guess."""
+    return f"/{secrets.token_urlsafe(SECRET_BYTES)}/"
+
+
 def for_this_machine(port: int) -> Access:
-    """A page for those on this machine alone, at a port, or with port 0 at one that is free. OSError if it is taken."""
+    """A page for those on this machine who have its link, at a port, or with port 0 at one that is free. OSError if it is taken."""
     listener = socket.create_server((ADDRESS, port))
-    port = listener.getsockname()[1]
-    return Access(listener, [f"{name}:{port}" for name in (ADDRESS, "localhost")], "/", f"http://{ADDRESS}:{port}/")
+    port, prefix = listener.getsockname()[1], secret_path()
+    return Access(listener, [f"{name}:{port}" for name in (ADDRESS, "localhost")], prefix, f"http://{ADDRESS}:{port}{prefix}")
 
 
-def with_a_secret(address: Address, host: Optional[str]) -> Access:
-    """A page for those who have its link.
+def for_others(address: Address, host: Optional[str]) -> Access:
+    """A page for those in the network who have its link.
 
     address  where it listens; OSError if that cannot be
     host     this machine's name or address as others see it. Without it, it is found. ClientError if it cannot be
@@ -79,7 +84,7 @@ def with_a_secret(address: Address, host: Optional[str]) -> Access:
     family = socket.AF_INET6 if ":" in address.host else socket.AF_INET
     listener = socket.create_server(tuple(address), family=family)
     notice_silence(listener)
-    port, prefix = listener.getsockname()[1], f"/{secrets.token_urlsafe(SECRET_BYTES)}/"
+    port, prefix = listener.getsockname()[1], secret_path()
     shown = host or seen_by_others(listener)
     return Access(listener, [], prefix, f"http://{f'[{shown}]' if ':' in shown else shown}:{port}{prefix}")
 

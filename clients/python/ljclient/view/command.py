@@ -6,7 +6,6 @@ import functools
 import importlib
 import sys
 import threading
-import webbrowser
 from pathlib import Path
 from types import ModuleType
 from typing import Any, Callable, List, Optional, Sequence, cast
@@ -15,18 +14,23 @@ from .. import ClientError, Scale, User, run, units
 from ..names import checked_name
 from ..prompt.starting import add_tls, check_tls
 from ..tokens import stored_token
-from .access import Access, for_this_machine, with_a_secret
+from .access import Access, for_others, for_this_machine
 from .addresses import Address, address_in
+from .links import LinkFile
 from .own import OwnSessions
+from .pages import MAX_PAGES_OF_A_CLASS
 from .scenes import Scene, crystal, of_file
 from .talk import Choice
 from .users import Account, AtServer, Programs, Users
 
 H = 131072
 HEAT = 1.5
+PAGES_OF_AN_ADDRESS = 8
 MISSING = "the page is served by aiohttp, which is not installed: `pip install aiohttp`, or Debian's python3-aiohttp"
 USAGE = "python3 -m ljclient view [HOST:PORT NAME] [FILE.xyz ..] [OPTION ..]"
 TEXT = """Shows atoms in motion on a page of the browser: play, one step, time turned back, tugs, and what they lead to.
+
+The link that it prints has a secret, without which nothing is answered.
 
 Without a file it shows a crystal of 256 atoms that melts. Atoms of a file are argon with a time step of 10 fs, in angstrom,
 if nothing else is said. Atoms begin at rest, or with random velocities of --temperature.
@@ -44,18 +48,23 @@ def main(arguments: List[str]) -> int:
         server_module = imported_server()
         users, choice = users_of(options), choice_of(options)
         access = access_of(options)
-        server = server_module.Server(access, choice, users)
+        link = LinkFile(access.url) if options.browser else None
     except (ClientError, OSError, ValueError) as error:
         print(f"view: {error}", file=sys.stderr)
         return 1
+    pages = said(options.pages_of_an_address, PAGES_OF_AN_ADDRESS)
+    server = server_module.Server(access, choice, users, pages, link.remove if link else lambda: None)
     end = "by Ctrl-C" if access.is_open else "when it is closed"
     print(f"The page is at {access.url} and the program ends {end}.", flush=True)
-    if options.browser:
-        threading.Thread(target=open_browser, args=[access.url], daemon=True).start()
+    if link:
+        threading.Thread(target=link.open, daemon=True).start()
     try:
         server.run()
     except KeyboardInterrupt:
         pass
+    finally:
+        if link:
+            link.remove()
     return 0
 
 
@@ -100,8 +109,10 @@ def reader_of_options() -> argparse.ArgumentParser:
     reader.add_argument("--dt", type=float, help="the time step, in femtoseconds (10)")
     reader.add_argument("--h", type=int, help=f"the step factor, with which units are reduced ({H} for the crystal)")
     reader.add_argument("--port", type=int, default=0, help="the port on 127.0.0.1 (one that is free)")
-    reader.add_argument("--listen", metavar="ADDRESS:PORT", help="for a class: let others have the page, by a link with a secret")
+    reader.add_argument("--listen", metavar="ADDRESS:PORT", help="for a class: let others in the network have the page, by its link")
     reader.add_argument("--address", metavar="HOST", help="this machine as others reach it, where the one that is found is another")
+    pages = f"of the {MAX_PAGES_OF_A_CLASS} pages that --listen lets be open, how many one address may have ({PAGES_OF_AN_ADDRESS})"
+    reader.add_argument("--pages-of-an-address", metavar="N", type=int, help=pages)
     reader.add_argument("--program", help="the program, as ljclient.run takes it")
     reader.add_argument("--no-browser", dest="browser", action="store_false", help="only say where the page is")
     return reader
@@ -109,7 +120,7 @@ def reader_of_options() -> argparse.ArgumentParser:
 
 def fault_of(options: argparse.Namespace) -> Optional[str]:
     """What is wrong with the options of the command, the first if there are several."""
-    physical = [options.epsilon, options.mass, options.dt]
+    physical, pages = [options.epsilon, options.mass, options.dt], options.pages_of_an_address
     is_argon_said = [options.edge, options.sigma, *physical] != [None] * 5
     faults = {
         "--token-file is for HOST:PORT NAME": options.server is None and options.token_file is not None,
@@ -118,6 +129,8 @@ def fault_of(options: argparse.Namespace) -> Optional[str]:
         "--listen is an ADDRESS:PORT, such as 0.0.0.0:8000": options.listen is not None and address_in(options.listen) is None,
         "--listen says the port: leave --port out": options.listen is not None and options.port,
         "--address is for --listen": options.listen is None and options.address is not None,
+        "--pages-of-an-address is for --listen": options.listen is None and pages is not None,
+        f"--pages-of-an-address is from 1 to {MAX_PAGES_OF_A_CLASS}": pages is not None and not 1 <= pages <= MAX_PAGES_OF_A_CLASS,
         "--h stands in place of --epsilon, --mass and --dt": options.h is not None and physical != [None] * 3,
         "--edge, --sigma, --epsilon, --mass and --dt are for the atoms of a file": (
             is_argon_said and not options.files and options.server is None
@@ -130,7 +143,7 @@ def access_of(options: argparse.Namespace) -> Access:
     """Who may have the page. Raises OSError or ClientError if it cannot be served there."""
     if options.listen is None:
         return for_this_machine(options.port)
-    return with_a_secret(cast(Address, address_in(options.listen)), options.address)
+    return for_others(cast(Address, address_in(options.listen)), options.address)
 
 
 def users_of(options: argparse.Namespace) -> Users:
@@ -194,13 +207,3 @@ def try_all(scenes: Sequence[Scene], open_user: Callable[[], User]) -> None:
                 scene.begin(user, "view")
             except (ClientError, ValueError) as error:
                 raise ClientError(f"{scene.title}: {error}") from error
-
-
-def open_browser(url: str) -> None:
-    """Opens a page in a browser with windows. One that would take over the terminal is left alone."""
-    try:
-        browser = webbrowser.get()
-    except webbrowser.Error:
-        return
-    if type(browser) is not webbrowser.GenericBrowser:
-        browser.open(url)

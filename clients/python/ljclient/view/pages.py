@@ -3,42 +3,55 @@ from __future__ import annotations
 
 import asyncio
 import contextlib
-from typing import Any, Iterator, Set
+from typing import Any, Dict, Iterator, Optional
 
 MAX_PAGES = 8
 MAX_PAGES_OF_A_CLASS = 40
+GOING_AWAY = 1001  # of a WebSocket whose server ends
 GRACE_SECONDS = 2.0
 END_SECONDS = 5.0
+ADVICE = "Close one, and load this page anew."
+
+
+def counted(pages: int) -> str:
+    """How many pages are there."""
+    return "1 page is" if pages == 1 else f"{pages} pages are"
 
 
 class Pages:
     """The WebSockets of the pages that are open now. It is made and used within a running loop.
 
-    most  how many pages there may be at once
+    most             how many pages there may be at once
+    most_of_address  how many of them one address may have
     """
 
-    def __init__(self, most: int) -> None:
-        self.most = most
-        self._open: Set[Any] = set()
+    def __init__(self, most: int, most_of_address: int) -> None:
+        self._most = most
+        self._most_of_address = most_of_address
+        self._open: Dict[Any, str] = {}
         self._begun = 0
         self._none = asyncio.Event()
 
     @contextlib.contextmanager
-    def one_more(self, socket: Any) -> Iterator[None]:
-        """Counts a page for as long as it is open."""
+    def one_more(self, socket: Any, address: str) -> Iterator[None]:
+        """Counts a page of an address for as long as it is open."""
         self._begun += 1
-        self._open.add(socket)
+        self._open[socket] = address
         self._none.clear()
         try:
             yield
         finally:
-            self._open.discard(socket)
+            del self._open[socket]
             if not self._open:
                 self._none.set()
 
-    def has_room(self) -> bool:
-        """Whether a page more may be opened."""
-        return len(self._open) < self.most
+    def refusal(self, address: str) -> Optional[str]:
+        """Why an address may not open a page more, if it may not."""
+        if len(self._open) >= self._most:
+            return f"{counted(self._most)} open already, and no more may be. {ADVICE}"
+        if list(self._open.values()).count(address) >= self._most_of_address:
+            return f"{counted(self._most_of_address)} open already from your address, {address}, and no more may be. {ADVICE}"
+        return None
 
     async def until_gone(self) -> None:
         """Waits until there were pages and all are gone, for longer than it takes to load one again."""
@@ -51,7 +64,7 @@ class Pages:
 
     async def close(self) -> None:
         """Ends the connections of all pages, and waits until their sessions are given up."""
-        await asyncio.gather(*(socket.close() for socket in self._open), return_exceptions=True)
+        await asyncio.gather(*(socket.close(code=GOING_AWAY) for socket in self._open), return_exceptions=True)
         if self._open:
             with contextlib.suppress(asyncio.TimeoutError):
                 await asyncio.wait_for(self._none.wait(), END_SECONDS)

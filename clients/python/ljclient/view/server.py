@@ -1,7 +1,7 @@
 """Serves the page by aiohttp, and answers each page that is open.
 
-A page is open for as long as its WebSocket is. Host and Origin of each request are those of this address, or the path has the
-secret of the link: so no page of another site, and no name that leads here, can ask for anything.
+A page is open for as long as its WebSocket is. The path of each request has the secret of the link, so no other account of this
+machine can ask for anything. Host and Origin are those of this address: so neither can a page of another site.
 """
 from __future__ import annotations
 
@@ -9,12 +9,14 @@ import asyncio
 import contextlib
 import importlib
 import itertools
+import json
 import signal
 from pathlib import Path
-from typing import Any, Dict, Optional, Sequence, Tuple
+from typing import Any, Callable, Dict, Optional, Sequence, Tuple
 
 from .access import Access
 from .conversation import converse
+from .idle import SECONDS, Impatient
 from .pages import END_SECONDS, MAX_PAGES, MAX_PAGES_OF_A_CLASS, Pages
 from .talk import Choice, Talk
 from .users import Users
@@ -33,6 +35,7 @@ SESSION = "session"
 MAX_MESSAGE = 1 << 16
 NONE = "'none'"
 FAREWELL_SECONDS = 2.0
+SIGNALS = [getattr(signal, name) for name in ("SIGINT", "SIGTERM", "SIGHUP") if hasattr(signal, name)]
 # A page may load the files of this server, and nothing else; nothing may frame it.
 POLICY = "; ".join(
     [f"{kind}-src 'self'" for kind in ("script", "style", "img")]
@@ -41,44 +44,52 @@ POLICY = "; ".join(
 
 
 class Server:
-    """The page, for those who may ask for it. One that others may have stays until it is ended."""
+    """The page, for those who may ask for it. One that others may have stays until it is ended.
 
-    def __init__(self, access: Access, choice: Choice, users: Users):
+    pages_of_an_address  how many pages one address may have
+    has_come             is called whenever a browser has come by the link
+    """
+
+    def __init__(self, access: Access, choice: Choice, users: Users, pages_of_an_address: int, has_come: Callable[[], None]):
         self._access = access
         self._choice = choice
         self._users = users
+        self._pages_of_an_address = pages_of_an_address
+        self._has_come = has_come
         self._numbers = itertools.count(1)
         self._pages: Pages
+        self._protocols: Impatient
 
     def run(self) -> None:
         """Serves until all pages are gone, or until an interrupt from the keyboard."""
         asyncio.run(self._serve())
 
     async def _serve(self) -> None:
-        self._pages = Pages(MAX_PAGES_OF_A_CLASS if self._access.is_open else MAX_PAGES)
-        app = web.Application()
-        app.router.add_get("/{path:.*}", self._answer)
-        runner = web.AppRunner(app, access_log=None)
-        await runner.setup()
-        await web.SockSite(runner, self._access.listener).start()
+        self._pages = Pages(MAX_PAGES_OF_A_CLASS if self._access.is_open else MAX_PAGES, self._pages_of_an_address)
+        server = web.Server(self._answer, access_log=None, keepalive_timeout=SECONDS)
+        self._protocols = Impatient(server)
+        listening = await asyncio.get_running_loop().create_server(self._protocols, sock=self._access.listener)
         try:
             await (until_signalled() if self._access.is_open else first_of(self._pages.until_gone(), until_signalled()))
         finally:
             await self._pages.close()
             await self._users.close()
+            listening.close()
             with contextlib.suppress(asyncio.TimeoutError):
-                await asyncio.wait_for(runner.cleanup(), END_SECONDS)
+                await asyncio.wait_for(server.shutdown(END_SECONDS), END_SECONDS)
             ignore_signals()
 
     async def _answer(self, request: Any) -> Any:
         """A file of the page, or the page's session."""
+        self._protocols.has_asked(request.protocol)
         path, host = self._access.path_of(request.path), request.headers.get("Host", "")
         if (refused := self._access.refusal(host, request.headers.get("Origin"), path == SESSION)) is not None:
             return said(403, refused)
         if path == SESSION:
             return await self._begun(request)
         if path not in FILES:
-            return said(404, "there is no such page")
+            return said(404, "there is no such page: the link to the live view stands at the terminal where it was begun")
+        self._has_come()
         name, kind = FILES[path]
         return told(200, kind, (FOLDER / name).read_bytes(), self._access.sockets(host))
 
@@ -87,10 +98,12 @@ class Server:
         page = web.WebSocketResponse(max_msg_size=MAX_MESSAGE, compress=False, timeout=FAREWELL_SECONDS)
         if not page.can_prepare(request):
             return said(400, "a session is asked for by a WebSocket")
-        if not self._pages.has_room():
-            return said(503, f"{self._pages.most} pages are open already")
         await page.prepare(request)
-        with self._pages.one_more(page):
+        address = str(request.remote)
+        if (refused := self._pages.refusal(address)) is not None:
+            await refuse(page, refused)
+            return page
+        with self._pages.one_more(page, address):
             await self._play(page)
         return page
 
@@ -103,6 +116,13 @@ class Server:
                 await converse(Messages(page), connection, talk, self._users)
         finally:
             await self._users.leave(connection, talk)
+
+
+async def refuse(page: Any, why: str) -> None:
+    """Tells a page why it is not answered, and ends it. Of an answer of HTTP in place of this a page is told nothing."""
+    with contextlib.suppress(ConnectionError):
+        await Messages(page).tell(json.dumps({"error": why}))
+    await page.close()
 
 
 def said(status: int, text: str) -> Any:
@@ -149,10 +169,11 @@ async def first_of(*things: Any) -> None:
 
 
 async def until_signalled() -> None:
-    """Waits for an interrupt from the keyboard or a request to end. One that is ignored, as under nohup, stays so."""
+    """Waits for an interrupt from the keyboard, for a request to end, or for the end of the terminal. One that is ignored, as under
+    nohup, stays so."""
     signalled = asyncio.Event()
     loop = asyncio.get_running_loop()
-    for number in (signal.SIGINT, signal.SIGTERM):
+    for number in SIGNALS:
         if signal.getsignal(number) is not signal.SIG_IGN:
             with contextlib.suppress(NotImplementedError):
                 loop.add_signal_handler(number, signalled.set)
@@ -162,7 +183,7 @@ async def until_signalled() -> None:
 def ignore_signals() -> None:
     """Ignores further requests to end: one that came while asyncio closes its loop would be written to a file that is closed."""
     loop = asyncio.get_running_loop()
-    for number in (signal.SIGINT, signal.SIGTERM):
+    for number in SIGNALS:
         with contextlib.suppress(NotImplementedError):
             if loop.remove_signal_handler(number):
                 signal.signal(number, signal.SIG_IGN)

@@ -1,0 +1,43 @@
+"""Hands the link of the page to a browser by a file, since all accounts of a machine can read the words of its processes."""
+from __future__ import annotations
+
+import html
+import os
+import shutil
+import tempfile
+import webbrowser
+from pathlib import Path
+
+# A browser goes on from here at once, and tells nobody from where it came.
+TEXT = """<!doctype html>
+<html lang="en">
+<meta charset="utf-8">
+<meta name="referrer" content="no-referrer">
+<meta http-equiv="refresh" content="0; url={link}">
+<title>The live view</title>
+<p><a href="{link}">Go on to the live view</a></p>
+</html>
+"""
+
+
+class LinkFile:
+    """A file with a link that only this account can read, in a folder of its own, until it is removed. OSError without room."""
+
+    def __init__(self, link: str):
+        self._folder = tempfile.mkdtemp(prefix="ljclient-view-")
+        self.path = Path(self._folder, "view.html")
+        with open(os.open(self.path, os.O_WRONLY | os.O_CREAT | os.O_EXCL, 0o600), "w", encoding="utf-8") as file:
+            file.write(TEXT.format(link=html.escape(link)))
+
+    def open(self) -> None:
+        """Opens it in a browser with windows. One that would take over the terminal is left alone."""
+        try:
+            browser = webbrowser.get()
+        except webbrowser.Error:
+            return
+        if type(browser) is not webbrowser.GenericBrowser:
+            browser.open(self.path.as_uri())
+
+    def remove(self) -> None:
+        """Removes it, if it is there still."""
+        shutil.rmtree(self._folder, ignore_errors=True)
