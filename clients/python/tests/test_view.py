@@ -171,6 +171,39 @@ class Told(unittest.TestCase):
         again = page.ask("reverse")
         self.assertEqual((again["step"], again["direction"]), (-2, 1))
 
+    def test_exact_compares_the_motion_too(self) -> None:
+        """A tug changes where an atom was one step before, and not where it is. Taken back, nothing is changed."""
+        page = self.dimer()
+        page.ask("tug", atom=1, by=[0, 0, 1])
+        told = page.ask("exact")
+        self.assertEqual((told["same"], told["moves"], told["turned"]), ({"start": 2}, {"start": 1}, {"start": False}))
+        page.ask("save")
+        page.ask("tug", atom=1, by=[0, 0, -1])
+        told = page.ask("exact")
+        self.assertEqual((told["same"], told["moves"]), ({"start": 2, "kept": 2}, {"start": 2, "kept": 1}))
+        self.assertEqual((told["step"], page.ask("frame", steps=1)["step"]), (0, 1))
+
+    def test_exact_compares_the_motion_turned_back(self) -> None:
+        """At step 0 on the way back, with the step that was made from there. A tug on the way back leads to another place."""
+        page = self.dimer()
+        for tugged, moves in ((0, 2), (1, 1)):
+            page.ask("restart")
+            page.ask("frame", steps=1)
+            page.ask("reverse")
+            page.ask("tug", atom=0, by=[0, tugged, 0])
+            told = page.ask("exact")
+            self.assertEqual((told["step"], told["same"], told["turned"]), (0, {"start": 2}, {"start": True}))
+            self.assertEqual(told["moves"], {"start": moves})
+        self.assertEqual(page.ask("frame", steps=1)["step"], -1)
+
+    def test_steps_before_the_start_are_told(self) -> None:
+        page = self.dimer()
+        self.assertFalse(page.first["before"])
+        self.assertTrue(page.ask("reverse")["before"])
+        self.assertTrue(page.ask("frame", steps=3)["before"])
+        self.assertTrue(page.ask("reverse")["before"])
+        self.assertEqual([page.ask("frame", steps=steps)["before"] for steps in (2, 1)], [True, False])
+
     def test_there_and_back(self) -> None:
         page = self.page()
         away = page.ask("frame", steps=300)
@@ -180,7 +213,7 @@ class Told(unittest.TestCase):
         back = page.ask("frame", steps=299)
         self.assertEqual((back["step"], back["atoms"]), (0, page.first["atoms"]))
         told = page.ask("exact")
-        self.assertEqual((told["same"], told["atoms"]), ({"start": 256}, 256))
+        self.assertEqual((told["same"], told["moves"], told["atoms"]), ({"start": 256}, {"start": 256}, 256))
 
     def test_save_and_restore(self) -> None:
         page = self.page()

@@ -122,7 +122,7 @@ def test_a_verdict_goes_with_its_step(shown: Any) -> None:
     shown.click("play")
     assert shown.says("Back at step 0") == "Back at step 0. Is each atom where it began? Press Exact?"
     shown.click("exact")
-    assert shown.says("2 of 2") == "2 of 2, to the bit: each atom is where it was at the start."
+    assert shown.says("2 of 2") == "2 of 2, to the bit: each atom is where it was at the start, with its motion turned back."
     assert shown.kind == ["good"]
     shown.picture("verdict")
     shown.play_until("<=", -40)
@@ -163,6 +163,53 @@ def test_a_verdict_says_which_places_it_counts(shown: Any) -> None:
     shown.go(2)
     shown.click("exact")
     assert shown.says("1 of 3") == "1 of 3 atoms have the place that they had when it was saved. This is step 2."
+
+
+def test_a_verdict_is_of_the_motion_too(shown: Any) -> None:
+    """A tug at the start changes no place. Saved after it, and restored, the atoms are where they were and move as they did then."""
+    shown.loads(THREE)
+    shown.pull(60)
+    shown.says("Atom 2 was tugged at step 0,")
+    shown.click("exact")
+    assert shown.says("3 of 3") == "3 of 3 atoms have the place that they had at the start, but 1 moves differently. This is step 0."
+    assert shown.kind == []
+    shown.picture("moves_differently")
+    shown.click("save")
+    shown.says("Saved at step 0.")
+    shown.click("exact")
+    assert shown.says("3 of 3, to the bit") == "3 of 3, to the bit: each atom is where it was when it was saved, and moves as it did."
+    assert shown.kind == ["good"]
+
+
+def test_escape_gives_a_pull_up(shown: Any) -> None:
+    shown.loads(THREE)
+    x, y = shown.browser.take(lambda box: (box["x"] + box["width"] / 2, box["y"] + box["height"] / 2))
+    shown.browser.mouse("mouseMoved", x + 60, y)
+    for kind in ("rawKeyDown", "keyUp"):
+        shown.browser.ask("Input.dispatchKeyEvent", type=kind, key="Escape", code="Escape", windowsVirtualKeyCode=27)
+    shown.browser.wait_for("!document.getElementById('box').classList.contains('holding')")
+    shown.browser.mouse("mouseReleased", x + 60, y)
+    assert shown.message == "Press Play."
+    shown.click("exact")
+    assert shown.says("3 of 3") == "3 of 3, to the bit: each atom is where it was at the start, and moves as it did."
+
+
+def test_before_the_start_it_says_so(shown: Any) -> None:
+    """By Reverse time at the start, on the way further back, and on the way forward until the start."""
+    text = "This is before the start, step 0: the motion that would have led to it."
+    assert shown.browser.text("before") == ""
+    for _ in range(2):
+        shown.click("reverse")
+        shown.waits_for("before", "===", text)
+        shown.go(-2)
+        assert shown.browser.text("before") == text
+        shown.picture("before_the_start")
+        shown.click("reverse")
+        shown.waits_for("step", "===", -1)
+        shown.go(0)
+        shown.waits_for("before", "===", "")
+    shown.go(1)
+    assert shown.browser.text("before") == ""
 
 
 def test_time_has_turned_for_as_long_as_it_runs_back(shown: Any) -> None:

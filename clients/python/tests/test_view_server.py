@@ -128,7 +128,18 @@ def test_exact_counts_places_to_the_bit(view: Any, ann: Any) -> None:
         assert page.ask("exact")["same"] == {"start": 0}
         page.ask("reverse")
         page.ask("frame", steps=4)
-        assert page.ask("exact")["same"] == {"start": 2}
+        assert exact(page) == (2, 2, True)
+        page.ask("tug", atom=0, by=[0, 0, 1])
+        assert exact(page) == (2, 1, True)
+        page.ask("restart")
+        assert exact(page) == (2, 2, False)
+        assert page.ask("frame", steps=0)["step"] == 0
+
+
+def exact(page: Any) -> Any:
+    """How many atoms have the places of the start, how many of them the same motion, and whether it is turned."""
+    told = page.ask("exact")
+    return tuple(told[word]["start"] for word in ("same", "moves", "turned"))
 
 
 def test_what_was_saved_and_loaded_is_given_up_with_the_page(view: Any, ann: Any) -> None:

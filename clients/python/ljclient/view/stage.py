@@ -6,7 +6,7 @@ from __future__ import annotations
 
 from typing import Any, Callable, Dict, List, NamedTuple, Tuple
 
-from .. import ClientError, Measurement, Scale, Session, User
+from .. import ClientError, Measurement, Scale, User, arrays, frames
 from ..refusals import NoSession
 from ..replies import number_after, whole_numbers
 from ..units import RING
@@ -33,6 +33,18 @@ class Moment(NamedTuple):
     direction: int
 
 
+class Motion(NamedTuple):
+    """The places of all atoms at a step, and one step before, in ring units. Both are the simulation."""
+
+    places: List[Any]
+    before: List[Any]
+
+    def same(self, other: "Motion") -> Tuple[int, int]:
+        """How many atoms have the same places in another one, and how many of these were at the same places one step before."""
+        stays = [one == their for one, their in zip(self.places, other.places)]
+        return sum(stays), sum(stay and one == their for stay, one, their in zip(stays, self.before, other.before))
+
+
 class Stage:
     """A session at a user's, as pages show it.
 
@@ -51,14 +63,14 @@ class Stage:
         self._is_own = is_own
         self._second = SecondRun(name, second)
         self._user = user
-        self._places: Dict[str, List[Tuple[int, ...]]] = {}
+        self._motions: Dict[str, Motion] = {}
         self._saved: Dict[str, Moment] = {}
         self._now = self._found(user)
         self.save(START)
         self._acts: Dict[str, Callable[[Wish], Answer]] = {
             "frame": lambda wish: self.advance(number_in(wish, "steps", 0, MAX_STEPS)),
             "reverse": lambda _: self.reverse(),
-            "tug": lambda wish: self.tug(number_in(wish, "atom", 0, len(self._places[START]) - 1), wish.get("by")),
+            "tug": lambda wish: self.tug(number_in(wish, "atom", 0, len(self._motions[START].places) - 1), wish.get("by")),
             "save": lambda _: self.save(KEPT),
             "restore": lambda _: self.restore(KEPT),
             "restart": lambda _: self.restore(START),
@@ -107,7 +119,7 @@ class Stage:
         """Saves the simulation, in place of what was saved before."""
         frees = [f"FORGET {self.name} {name}"] if name in self._left() else []
         frame = self._frame(*frees, f"BRANCH {self.name} {name}")
-        self._places[name] = self._present()
+        self._motions[name] = self._motion()
         self._saved[name] = self._now
         return {**frame, **self._when(self._now.direction)}
 
@@ -120,10 +132,15 @@ class Stage:
         return {**frame, **self._when(self._saved[name].direction), "jumped": True}
 
     def compare(self) -> Answer:
-        """How many atoms have the very places that they had at the start, and when it was saved."""
-        present = self._present()
-        same = {NAMES[name]: sum(one == other for one, other in zip(present, places)) for name, places in self._places.items()}
-        return {"same": same, "atoms": len(present), **self._when(self._now.direction)}
+        """How many atoms have the very places that they had at the start, and when it was saved; how many of these move as they did
+        then; and whether that is the motion turned back."""
+        direction = self._now.direction
+        turned = {name: self._saved[name].direction != direction for name in self._motions}
+        motions = {is_turned: self._motion(is_turned) for is_turned in set(turned.values())}
+        found = {NAMES[name]: motions[turned[name]].same(then) for name, then in self._motions.items()}
+        told = {"same": {name: same for name, (same, _) in found.items()}, "moves": {name: moves for name, (_, moves) in found.items()}}
+        told["turned"] = {NAMES[name]: is_turned for name, is_turned in turned.items()}
+        return {**told, "atoms": len(self._motions[START].places), **self._when(direction)}
 
     def both(self) -> Answer:
         """The places now and one step before, of which speeds are told. The motion is turned back and turned again."""
@@ -147,9 +164,16 @@ class Stage:
         self._second.end(self._user)
         return self.advance(0)
 
-    def _present(self) -> List[Tuple[int, ...]]:
-        """The places of all atoms, each asked for on its own."""
-        return [tuple(map(int, place)) for place in Session(self._user, self.name).places()]
+    def _motion(self, is_turned: bool = False) -> Motion:
+        """The motion to the bit, or what it is when it is turned back: then the step before is the one that comes next now."""
+        user, name = self._user, self.name
+        atoms = None if self._is_exact else user.row(name).atoms
+        if is_turned:
+            told = frames.three_dumped(user, name) if atoms is None else frames.three_shown(user, name, atoms)
+            _, now, before = told
+        else:
+            now, before = frames.both_dumped(user, name) if atoms is None else frames.both_shown(user, name, atoms)
+        return Motion(arrays.listed(now.places), arrays.listed(before.places))
 
     def _frame(self, *commands: str) -> Answer:
         """What these commands lead to: all places and what is measured, asked for at once."""
@@ -167,10 +191,12 @@ class Stage:
         }
 
     def _when(self, direction: int) -> Answer:
-        """The step and the direction of time, which is this, and at which step the simulation was saved."""
+        """The step and the direction of time, which is this, whether that is before the start, and at which step the simulation was
+        saved."""
         self._now = self._now._replace(direction=direction)
-        saved = self._saved.get(KEPT)
-        return {"step": self._now.step, "direction": direction, "saved": saved and saved.step}
+        start, saved = self._saved[START], self._saved.get(KEPT)
+        is_before = (self._now.step - start.step) * start.direction < 0
+        return {"step": self._now.step, "direction": direction, "before": is_before, "saved": saved and saved.step}
 
     def _take_up(self, user: User) -> Answer:
         """Finds the session again over another connection. Meanwhile somebody else may have gone on with it."""
@@ -184,7 +210,7 @@ class Stage:
         if START not in left:
             raise Lost(f"{self.name} was loaded anew: choose it again")
         self._saved = {name: moment for name, moment in self._saved.items() if name in left}
-        self._places = {name: places for name, places in self._places.items() if name in left}
+        self._motions = {name: motion for name, motion in self._motions.items() if name in left}
         self.is_lost = False
         return {"jumped": True}
 
@@ -210,6 +236,7 @@ class Stage:
             "sigma": scale.sigma_on_ring,
             "unit": MILLION if self._is_exact else RING / scale.edge,
             "exact": self._is_exact,
+            "start": self._saved[START].step,
             "reduced_dt": scale.reduced_dt,
             "dt": scale.dt,
             "speed": None if scale.dt is None else scale.sigma * scale.reduced_dt / scale.dt * METRES_PER_SECOND,

@@ -36,6 +36,7 @@ export function listenToKeys(page, list, isIdle) {
     addRow(page, list.querySelector("dl"), name, does);
   }
   addRow(page, list.querySelector("dl"), "Enter", "press the button that has the focus");
+  addRow(page, list.querySelector("dl"), "Escape", "give up the pull of an atom");
   addRow(page, list.querySelector("dl"), "?", "show or hide this list");
 }
 

@@ -6,6 +6,10 @@ export class Message {
     Object.assign(this, { element, present, said: [] });
   }
 
+  get isSaid() {
+    return this.element.textContent !== "";
+  }
+
   // `names` are those of the values that a message is said of. One without a name stays until another is said.
   say(text, names, kind = "") {
     const now = this.present();

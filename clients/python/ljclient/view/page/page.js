@@ -12,6 +12,7 @@ import { csvOf, download, pictureOf } from "./saving.js";
 import { Settings } from "./settings.js";
 import { ShownCharts } from "./shown.js";
 import { Talk } from "./talk.js";
+import { verdict } from "./verdict.js";
 
 const PULL = 2; // the velocity that a pull by one sigma gives, in sigma per unit of time
 const READ_EACH = 100; // milliseconds
@@ -33,7 +34,7 @@ let history = new History();
 let scene = null;
 let clock = null; // the time of its steps
 let start = null;
-let begun = 0; // the step of the start
+let stopped = false; // whether nothing can be asked any more
 let latest = null; // the frame that is shown
 let refusal = ""; // why there are no atoms
 let playing = false;
@@ -42,9 +43,10 @@ let stale = false; // whether numbers and lines have changed since they were sho
 let told = 0; // when they were
 let frames = []; // when the last frames were drawn
 const watch = new BurstWatch();
-const present = () => ({ scene, frame: latest, direction: latest?.direction, saved: latest?.saved, playing, hasBurst: watch.hasBurst });
+const present = () => ({ scene, frame: latest, direction: latest?.direction, before: latest?.before, saved: latest?.saved, playing, hasBurst: watch.hasBurst });
 const message = new Message(part("message"), present);
 const warning = new Message(part("warning"), present);
+const beforeStart = new Message(part("before"), present);
 const talk = new Talk(heard, (text) => (part("waits").textContent = text), ended);
 const question = new Question(part("question"), (what) => talk.ask(what));
 const settings = new Settings(part("settings"), beginAnew);
@@ -116,7 +118,6 @@ function begin(answer) {
   clock = new Clock(scene);
   part("axis").options[1].textContent = `time in ${clock.unit}`;
   start = placesOf(answer.atoms, scene.unit);
-  begun = answer.step;
   history = new History();
   box.begin(start, scene.edge, scene.sigma);
   cut();
@@ -163,10 +164,14 @@ function takeSecond(frame, places) {
   const second = frame.second ? placesOf(frame.second) : null;
   box.second = second;
   const had = part("second").getAttribute("aria-pressed") === "true";
+  beforeStart.keep();
+  if (frame.before && !beforeStart.isSaid) beforeStart.say(beforeText(), ["scene", "before"]);
   if (had !== Boolean(second)) shownCharts.set("of-second", Boolean(second));
   part("second").setAttribute("aria-pressed", String(Boolean(second)));
   return second && distance(places, second) / scene.sigma;
 }
+const beforeText = () => `This is before the start, step ${scene.start.toLocaleString("en")}: the motion that would have led to it.`;
+
 
 // Says that the simulation has burst for as long as it has.
 function watchEnergy(does, energy) {
@@ -217,11 +222,11 @@ function play(on) {
 async function goOn(steps) {
   if (!history.last) return;
   const { step, direction } = history.last;
-  const left = (begun - step) * direction;
+  const left = (scene.start - step) * direction;
   const frame = await talk.ask({ do: "frame", steps: left > 0 ? Math.min(steps, left) : steps });
-  if (frame.step === begun && left > 0) {
+  if (frame.step === scene.start && left > 0) {
     play(false);
-    message.say(`Back at step ${begun.toLocaleString("en")}. Is each atom where it began? Press Exact?`, NOW);
+    message.say(`Back at step ${frame.step.toLocaleString("en")}. Is each atom where it began? Press Exact?`, NOW);
   }
 }
 
@@ -330,14 +335,13 @@ async function goBack(what, text) {
   if (frame.step !== undefined) message.say(`${text} step ${frame.step.toLocaleString("en")}.`, NOW);
 }
 
-// Compares the places of this step, so time stands still for it.
+// Compares the atoms of this step, so time stands still for it.
 async function compare() {
   play(false);
-  const { same, atoms, step } = await talk.ask({ do: "exact" });
-  if (!same) return;
-  const [found, then] = same.kept > same.start ? [same.kept, "when it was saved"] : [same.start, "at the start"];
-  if (found === atoms) message.say(`${found} of ${atoms}, to the bit: each atom is where it was ${then}.`, NOW, "good");
-  else message.say(`${found} of ${atoms} atoms have the place that they had ${then}. This is step ${step.toLocaleString("en")}.`, NOW);
+  const found = await talk.ask({ do: "exact" });
+  if (!found.same) return;
+  const { text, kind } = verdict(found);
+  message.say(text, NOW, kind);
 }
 
 const acts = {
@@ -366,6 +370,7 @@ addEventListener("resize", () => (fresh = true));
 function slide() {
   box.depth = Number(part("depth").value);
   box.thickness = Number(part("thickness").value);
+document.addEventListener("keydown", ({ key }) => key === "Escape" && box.forget());
   part("thick").textContent = `${box.thickness.toFixed(1)} σ`;
   part("pace").textContent = `${part("speed").value} a frame`;
   fresh = true;
