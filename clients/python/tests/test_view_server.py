@@ -11,7 +11,7 @@ import pytest
 
 from browsing import CHROMIUM, Browser
 from ljclient.view import connection
-from support import DIMER, RING, SECONDS, TOKEN, dimer, joined
+from support import DIMER, RING, SECONDS, TOKEN, dimer, joined, wait_until
 from viewing import View, command
 
 SCALE = ["--edge", 256, "--sigma", 1, "--h", 131072]
@@ -157,6 +157,39 @@ def test_what_was_saved_and_loaded_is_given_up_with_the_page(view: Any, ann: Any
     with ann() as user:
         assert [row.name for row in user.sessions()] == ["a"]
         assert user.session("a").saved() == []
+
+
+def saved_in(ann: Any) -> Any:
+    """The names of the user's sessions, and those that are saved in the first of them."""
+    with ann() as user:
+        return [row.name for row in user.sessions()], [row.name for row in user.session("a").saved()]
+
+
+def test_what_was_saved_is_given_up_while_another_connection_is_open(server: Any, view: Any, ann: Any) -> None:
+    """The view is for a class, and goes on without a page. The page is closed while a prompt is in, which then ends."""
+    with ann() as user:
+        dimer(user)
+    shown = view("--listen", "127.0.0.1:0", *SCALE)
+    with shown.page() as page:
+        page.ask("save")
+        page.ask("load", scene=0)
+        page.ask("load", session="a")
+        user = ann()
+        assert [row.name for row in user.session("a").saved()] == ["view-start"]
+    user.close()
+    wait_until(lambda: saved_in(ann) == (["a"], []))
+    assert shown.child.poll() is None
+
+
+def test_what_cannot_be_given_up_is_told_at_the_end(server: Any, ann: Any, tmp_path: pathlib.Path) -> None:
+    """The view ends while a prompt is in."""
+    (tmp_path / "token").write_text(TOKEN)
+    with ann() as user:
+        dimer(user)
+    with View(f"127.0.0.1:{server.port}", "ann", "--token-file", tmp_path / "token", *SCALE) as shown, shown.page(), ann():
+        status, told = shown.end()
+    left = "the branches view-start and view-kept of a"
+    assert (status, told) == (0, f"view: 127.0.0.1:{server.port} could not be asked to give up {left}\n")
 
 
 def test_without_a_scale_the_page_is_asked_for_it(view: Any, ann: Any) -> None:

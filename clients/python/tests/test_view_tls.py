@@ -190,6 +190,22 @@ def test_a_page_that_connects_again_says_why_it_cannot(view: Any, server: Any, g
             assert (told["step"], told["jumped"]) == (2, True)
 
 
+def test_what_was_saved_is_given_up_after_a_lost_link(view: Any, relay: Any, good: Any, ann: Any) -> None:
+    """The link is cut, and then the page is closed: the view connects once more before it ends."""
+    with ann() as user:
+        dimer(user)
+    shown = view(relay.port, "--ca", good[0])
+    with shown.page() as page:
+        assert first(page)["step"] == 0
+        page.ask("save")
+        page.ask("second", on=True)
+        relay.cut()
+    assert shown.child.wait(SECONDS) == 0
+    with ann() as user:
+        assert [row.name for row in user.sessions()] == ["a"]
+        assert user.session("a").saved() == []
+
+
 @pytest.mark.skipif(not CHROMIUM, reason="Chromium is not installed")
 def test_the_page_shows_why_it_cannot_connect_and_what_it_waits_for(view: Any, server: Any, good: Any, other: Any, ann: Any) -> None:
     port = free_port()

@@ -5,10 +5,11 @@ import contextlib
 import itertools
 from typing import Callable, Dict, List, Optional
 
-from .. import Scale, User, box
+from .. import ClientError, Scale, User, box
+from ..errors import Refused
 from ..frames import RING_EDGE
 from ..units import MAX_STEP_FACTOR, RING
-from .stage import Lost, Stage
+from .stage import Stage
 from .wishes import Answer, Wish
 
 # Sessions that the view has loaded itself.
@@ -45,6 +46,7 @@ class OwnSessions:
         self._numbers = itertools.count(1)
         self._stages: Dict[str, Stage] = {}
         self._watched: Dict[str, int] = {}
+        self._left: List[Stage] = []  # sessions that no page shows any more, and in which something is saved still
 
     def names(self, user: User) -> List[str]:
         """The sessions that are there, in order of loading."""
@@ -60,16 +62,32 @@ class OwnSessions:
             scale = self._said(name, edge, wish)
             if not seen.fits(scale.edge):
                 raise Unknown(name, edge, f"{name} is in a box whose edge is about {edge}")
-            self._stages[name] = Stage(user, name, scale, is_exact, f"{PREFIX}own-{next(self._numbers)}", is_own=True)
+            stage = Stage(user, name, scale, is_exact, f"{PREFIX}own-{next(self._numbers)}", is_own=True)
+            self._left = [stage, *(other for other in self._left if other.name != name)]  # until a page shows it
+            stage.begin()
+            self._left.remove(stage)
+            self._stages[name] = stage
         self._watched[name] = self._watched.get(name, 0) + 1
         return self._stages[name]
 
     def leave(self, user: User, name: str) -> None:
-        """Has a page less show a session. With the last one, what was saved for pages is given up."""
+        """Has a page less show a session. With the last one, what was saved for pages is given up, or is to be later."""
         self._watched[name] -= 1
         if self._watched[name] == 0:
-            with contextlib.suppress(Lost):
-                self._stages.pop(name).leave(user)
+            self._left.append(self._stages.pop(name))
+            with contextlib.suppress(ClientError):
+                self.give_up(user)
+
+    def give_up(self, user: User) -> None:
+        """Gives up what was saved for pages that are gone. What is not, since the connection has ended, is to be later."""
+        while self._left:
+            with contextlib.suppress(Refused):
+                self._left[-1].leave(user)
+            self._left.pop()
+
+    def left(self) -> List[str]:
+        """The sessions in which something is saved that was to be given up."""
+        return [stage.name for stage in self._left]
 
     def _said(self, name: str, edge: str, wish: Wish) -> Scale:
         """The scale that the page says, or else the command line."""

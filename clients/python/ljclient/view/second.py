@@ -1,9 +1,11 @@
 """A second run beside a session: the same simulation, but for one atom that goes one ring unit further in each step."""
 from __future__ import annotations
 
+import contextlib
 from typing import List, Optional
 
 from .. import Scale, User, arrays, frames
+from ..errors import Refused
 from ..order import Order
 from ..refusals import NoSession
 from ..state import State
@@ -30,17 +32,19 @@ class SecondRun:
         places, before = (arrays.listed(frame.places) for frame in both)
         state = State(self.name, scale, None, 0, 1, symbols, places, before)
         self.end(user)
-        user.ask_commands([state.command(Order()), (f"TUG {self.name} {ATOM} 1 0 0", b"")])
-        self.is_there = True
+        self.is_there = True  # also where no reply comes
+        try:
+            user.ask_commands([state.command(Order()), (f"TUG {self.name} {ATOM} 1 0 0", b"")])
+        except Refused:
+            self.is_there = False
+            raise
 
     def end(self, user: User) -> None:
         """Gives it up. Another connection may have done so already."""
         if self.is_there:
-            self.is_there = False
-            try:
+            with contextlib.suppress(NoSession):
                 user.ask(f"DROP {self.name}")
-            except NoSession:
-                pass
+            self.is_there = False
 
     def goes_on(self, steps: int) -> List[str]:
         """The commands by which it goes on while the first session does."""

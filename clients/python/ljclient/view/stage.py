@@ -65,8 +65,7 @@ class Stage:
         self._user = user
         self._motions: Dict[str, Motion] = {}
         self._saved: Dict[str, Moment] = {}
-        self._now = self._found(user)
-        self.save(START)
+        self._now = Moment(0, 1)
         self._acts: Dict[str, Callable[[Wish], Answer]] = {
             "frame": lambda wish: self.advance(number_in(wish, "steps", 0, MAX_STEPS)),
             "reverse": lambda _: self.reverse(),
@@ -78,6 +77,11 @@ class Stage:
             "speeds": lambda _: self.both(),
             "second": lambda wish: self.begin_second() if wish.get("on") is True else self.end_second(),
         }
+
+    def begin(self) -> None:
+        """Finds the session, and saves where pages begin."""
+        self._now = self._found(self._user)
+        self.save(START)
 
     def answer(self, user: User, wish: Wish) -> Answer:
         """The answer to what a page wishes. What cannot be done changes nothing, and raises ClientError or ValueError."""
@@ -93,9 +97,9 @@ class Stage:
         return {**self.advance(0), "likeness": self._likeness()}
 
     def leave(self, user: User) -> None:
-        """Gives up what was saved for the pages, and the second run."""
+        """Gives up what was saved for the pages, and the second run. Raises NoSession if the session is gone."""
         self._second.end(user)
-        self._take_up(user)
+        self._user = user
         user.ask_all(f"FORGET {self.name} {name}" for name in self._left())
 
     def advance(self, steps: int) -> Answer:
@@ -232,11 +236,11 @@ class Stage:
         """What a page must know of the session, to draw it and to tug its atoms."""
         scale = self.scale
         return {
+            "start": self._saved[START].step,
             "edge": edge_in_sigma(scale),
             "sigma": scale.sigma_on_ring,
             "unit": MILLION if self._is_exact else RING / scale.edge,
             "exact": self._is_exact,
-            "start": self._saved[START].step,
             "reduced_dt": scale.reduced_dt,
             "dt": scale.dt,
             "speed": None if scale.dt is None else scale.sigma * scale.reduced_dt / scale.dt * METRES_PER_SECOND,

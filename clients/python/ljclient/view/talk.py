@@ -1,14 +1,16 @@
 """What one page asks for, and what it is answered: which atoms it shows, and what is done with them."""
 from __future__ import annotations
 
+import contextlib
 import json
 from dataclasses import dataclass
 from typing import List, Optional, Sequence
 
 from .. import ClientError, User
+from ..refusals import NoSession
 from .own import OwnSessions, Unknown
 from .scenes import Scene
-from .stage import Lost, Stage
+from .stage import KEPT, START, Lost, Stage
 from .wishes import Answer, Wish, number_in
 
 
@@ -51,10 +53,21 @@ class Talk:
         return self._answered(user, wish if isinstance(wish, dict) else {})
 
     def end(self, user: User) -> None:
-        """Gives up what was loaded and saved for the page."""
+        """Gives up what was loaded and saved for the page. Where the connection ends meanwhile, it is to be called again."""
         self._leave(user)
         if self._has_loaded:
-            user.ask_all([f"DROP {self._loaded}"])
+            with contextlib.suppress(NoSession):
+                user.ask(f"DROP {self._loaded}")
+            self._has_loaded = False
+        if self._choice.own is not None:
+            self._choice.own.give_up(user)
+
+    def left(self) -> List[str]:
+        """What there may be at the server still of what was to be given up, in words."""
+        sessions = [self._shared] if self._shared else []
+        sessions += [] if self._choice.own is None else self._choice.own.left()
+        loaded = [f"the session {self._loaded}"] if self._has_loaded else []
+        return [*loaded, *(f"the branches {START} and {KEPT} of {name}" for name in sessions)]
 
     def _answered(self, user: User, wish: Wish) -> str:
         try:
@@ -95,16 +108,18 @@ class Talk:
         """A scene, loaded for this page."""
         self._has_loaded = True
         scene.begin(user, self._loaded)
-        return Stage(user, self._loaded, scene.scale, True, f"{self._loaded}-2")
+        stage = Stage(user, self._loaded, scene.scale, True, f"{self._loaded}-2")
+        stage.begin()
+        return stage
 
     def _leave(self, user: User) -> None:
         """Has the page show no atoms any more."""
         stage, shared = self._stage, self._shared
+        if stage is not None and not shared:
+            stage.end_second_of(user)
         self._stage, self._shared = None, ""
         if shared and self._choice.own is not None:
             self._choice.own.leave(user, shared)
-        elif stage is not None:
-            stage.end_second_of(user)
 
     def _own_names(self, user: User) -> List[str]:
         return [] if self._choice.own is None else self._choice.own.names(user)

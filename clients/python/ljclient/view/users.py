@@ -3,8 +3,10 @@ from __future__ import annotations
 
 import asyncio
 import contextlib
+import socket
+import sys
 from dataclasses import dataclass
-from typing import List, Optional, Protocol
+from typing import Awaitable, List, Optional, Protocol, Set
 
 from .. import ClientError, User
 from ..transport import Transport
@@ -41,6 +43,9 @@ class Users(Protocol):
     def waits(self) -> Optional[str]:
         """What a page is told for which nothing was heard for a while, if there is anything."""
 
+    async def end(self) -> Optional[str]:
+        """What has ended together with the connection, so that no button of a page can do anything any more, if it has."""
+
 
 class Programs:
     """Each page has a program of its own, with which its sessions are gone."""
@@ -59,6 +64,9 @@ class Programs:
 
     def waits(self) -> Optional[str]:
         return None
+
+    async def end(self) -> Optional[str]:
+        return "The program has ended. Load this page anew to begin again"
 
 
 @dataclass
@@ -94,6 +102,14 @@ class Account:
         self.is_reached = True
         return transport
 
+    def is_served(self) -> bool:
+        """Whether it is not certain that no server listens at the address any more."""
+        try:
+            socket.create_connection((self.address.host, self.address.port), SECONDS_OF_A_TRY).close()
+        except OSError as error:
+            return not isinstance(error, ConnectionRefusedError)
+        return True
+
     def take(self, token: object) -> Optional[str]:
         """Takes a token that was typed. Returns what is wrong with it, if it is none."""
         typed = without_blanks(token) if isinstance(token, str) else ""
@@ -122,42 +138,79 @@ class AtServer:
         self.account = account
         self._connection: Optional[Connection] = None
         self._gone: List[Talk] = []
+        self._tasks: Set["asyncio.Future[None]"] = set()
+        self._pages = 0
 
     def enter(self) -> Connection:
         if self._connection is None:
             self._connection = Connection(self._open, PATIENCE)
+        self._pages += 1
         return self._connection
 
     async def leave(self, connection: Connection, talk: Talk) -> None:
-        """Has what was loaded for the page be given up, at once if the user is in, or else when the view ends."""
+        """Has what was loaded and saved for the page be given up: at once if the user is in, or else as soon as the user gets in."""
+        self._pages -= 1
         self._gone.append(talk)
         if connection.is_open:
-            await connection.do(self._give_up)
+            await self._give_up_over(connection)
+        if self._gone:
+            task = asyncio.ensure_future(self._give_up_later(connection))
+            self._tasks.add(task)
+            task.add_done_callback(self._tasks.discard)
 
     async def close(self) -> None:
-        """Gives up what pages have left at the server, if the user gets in soon, and takes leave."""
+        """Gives up what pages have left at the server, if the user gets in soon, and takes leave. What is left there is told."""
         if self._connection is None:
             return
-        with contextlib.suppress(asyncio.TimeoutError, ClientError):
-            if self._gone and self.account.token is not None:
-                await asyncio.wait_for(self._connection.do(self._give_up), SECONDS_OF_A_TRY)
-            await asyncio.wait_for(self._connection.close(), SECONDS_OF_A_TRY)
+        if self._gone and self.account.token is not None:
+            await within(SECONDS_OF_A_TRY, self._give_up_over(self._connection))
+        await within(SECONDS_OF_A_TRY, self._connection.close())
+        left = sorted({what for talk in self._gone for what in talk.left()})
+        if left and await self.end() is None:
+            print(f"view: {self._address} could not be asked to give up {', '.join(left)}", file=sys.stderr)
 
     def waits(self) -> Optional[str]:
         if self._connection is None or self._connection.is_open:
             return None
-        name, (host, port) = self.account.name, self.account.address
         if not self.account.is_reached:
-            return f"{host}:{port} has not answered yet. This page goes on when it has, or says what is wrong."
+            return f"{self._address} has not answered yet. This page goes on when it has, or says what is wrong."
+        name = self.account.name
         return f"{name} is in by another connection, such as a prompt or a notebook. This page goes on when that one has ended."
+
+    async def end(self) -> Optional[str]:
+        if await asyncio.to_thread(self.account.is_served):
+            return None
+        return f"The server at {self._address} has ended. Load this page anew when it is there again"
+
+    @property
+    def _address(self) -> str:
+        return "{}:{}".format(*self.account.address)
 
     def _open(self) -> User:
         user = self.account.open()
-        self._give_up(user)
+        with contextlib.suppress(ClientError):
+            self._give_up(user)
         return user
 
+    async def _give_up_over(self, connection: Connection) -> None:
+        """Gives up what pages that are gone have left, when the user gets in, if that can be."""
+        with contextlib.suppress(ClientError):
+            await connection.do(self._give_up)
+
+    async def _give_up_later(self, connection: Connection) -> None:
+        """The same. If there is no page any more then, the user takes leave at once."""
+        await self._give_up_over(connection)
+        if connection.is_open and not self._pages:
+            await connection.do(User.close)
+
     def _give_up(self, user: User) -> None:
-        """Gives up what pages that are gone have left."""
-        while self._gone:
-            with contextlib.suppress(ClientError):
-                self._gone.pop().end(user)
+        """Gives up what pages that are gone have left. Where the connection ends meanwhile, the next one goes on with it."""
+        for talk in list(self._gone):
+            talk.end(user)
+            self._gone.remove(talk)
+
+
+async def within(seconds: float, act: Awaitable[None]) -> None:
+    """Waits for something, but not for longer than this."""
+    with contextlib.suppress(asyncio.TimeoutError):
+        await asyncio.wait_for(act, seconds)
