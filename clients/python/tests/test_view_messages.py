@@ -304,23 +304,29 @@ def test_an_end_is_said_for_good(shown: Any) -> None:
     shown.click("save")
     shown.says("Saved at step 0.")
     shown.view.end()
-    message = shown.says("The program has ended")
+    message = shown.says("The live view")
+    assert message == "The live view has ended. Begin it again, and open its new link."
     slab = "document.getElementById('depth')"
     shown.browser.value(f"{slab}.value = 0.2; {slab}.dispatchEvent(new Event('input'))")
     shown.browser.value("new Promise(done => requestAnimationFrame(() => requestAnimationFrame(done))).then(() => true)")
-    enabled = "[...document.querySelectorAll('button, select')].filter(each => !each.disabled).map(each => each.id)"
-    assert shown.browser.value(enabled) == []
+    assert shown.browser.value(ENABLED) == []
     assert (shown.message, shown.kind) == (message, ["bad"])
     shown.picture("ended")
 
 
-def test_the_choice_is_that_of_the_atoms_shown(shown: Any) -> None:
-    """A file that cannot be loaded, as the session's program is gone, is not the one that is chosen."""
+def test_an_end_of_the_program_is_said_for_good(shown: Any) -> None:
+    """It plays, and no button is left to be pressed. A file that cannot be loaded any more is not the one that is chosen."""
     (program,) = children_of(shown.view.child.pid)
+    shown.click("play")
+    shown.waits_for("step", ">=", 8)
     os.kill(program, signal.SIGKILL)
+    message = shown.says("The program has ended. Load this page anew to begin again (")
+    assert "has ended with status -9" in message
+    assert (shown.browser.value(ENABLED), shown.browser.text("play"), shown.kind) == ([], "Play", ["bad"])
+    shown.picture("program_ended")
     shown.choose(THREE)
-    shown.browser.wait_for("document.getElementById('message').textContent.includes('has ended with status -9')")
-    assert shown.browser.value("document.getElementById('scene').value") == str(TWO)
+    shown.browser.wait_for(f"document.getElementById('scene').value === '{TWO}'")
+    assert shown.message.startswith("The program has ended. ")
     assert shown.browser.text("about").startswith("2 atoms")
 
 

@@ -87,8 +87,10 @@ class Ends(unittest.TestCase):
         with shown.page() as page:
             (program,) = children_of(shown.child.pid)
             subprocess.run(["kill", "-9", str(program)], check=True)
-            self.assertIn("has ended with status -9", page.ask("frame", steps=1)["error"])
-            self.assertEqual(list(page.ask("frame", steps=1)), ["error"])
+            for _ in range(2):
+                told = page.ask("frame", steps=1)
+                self.assertRegex(told["error"], r"^The program has ended\. Load this page anew to begin again \(.* status -9.*\)\.$")
+                self.assertTrue(told["ended"])
 
 
 class Options(unittest.TestCase):

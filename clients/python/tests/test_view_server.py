@@ -192,6 +192,41 @@ def test_what_cannot_be_given_up_is_told_at_the_end(server: Any, ann: Any, tmp_p
     assert (status, told) == (0, f"view: 127.0.0.1:{server.port} could not be asked to give up {left}\n")
 
 
+def end_of(server: Any) -> str:
+    """What a page says of the end of a server, before the reason."""
+    return f"The server at 127.0.0.1:{server.port} has ended. Load this page anew when it is there again ("
+
+
+def test_the_end_of_the_server_is_told(server: Any, view: Any, ann: Any) -> None:
+    with ann() as user:
+        dimer(user)
+    with view(*SCALE).page() as page:
+        page.ask("frame", steps=1)
+        server.end()
+        for _ in range(2):
+            told = page.ask("frame", steps=1)
+            assert told["error"].startswith(end_of(server))
+            assert told["ended"] is True
+
+
+@pytest.mark.skipif(not CHROMIUM, reason="Chromium is not installed")
+def test_the_page_says_that_the_server_has_ended(server: Any, view: Any, ann: Any) -> None:
+    """It plays. Then no button is left to be pressed, and no atom to be pulled."""
+    with ann() as user:
+        dimer(user)
+    with Browser() as page:
+        page.open(view(*SCALE).link)
+        page.wait_for("document.getElementById('about')?.textContent.startsWith('2 atoms')")
+        page.click("play")
+        page.wait_for("Number(document.getElementById('step').textContent) >= 8")
+        server.end()
+        page.wait_for(f"document.getElementById('message').textContent.startsWith('{end_of(server)}')")
+        assert page.text("play") == "Play"
+        assert page.value("[...document.querySelectorAll('button, select')].every(each => each.disabled)")
+        picture(page, "server_ended")
+        assert page.faults == []
+
+
 def test_without_a_scale_the_page_is_asked_for_it(view: Any, ann: Any) -> None:
     with ann() as user:
         user.load("a", DIMER, edge=21.04, sigma=1, h=131072).tug(0, (RING // 3, 0, 0))

@@ -184,7 +184,7 @@ def test_a_page_that_connects_again_says_why_it_cannot(view: Any, server: Any, g
         with peer(lambda connection, stop: stop.wait(SECONDS), port):
             page.send("frame", steps=1)
             assert page.receive() == not_answered(port)
-        assert page.receive() == {"error": cannot_connect(port, ENDED)}
+        assert cannot_connect(port, ENDED) in page.receive()["error"]
         with Relay(server.port, good, listener(port)):
             told = asked(page, "frame", steps=1)
             assert (told["step"], told["jumped"]) == (2, True)

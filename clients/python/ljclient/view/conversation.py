@@ -32,9 +32,10 @@ async def converse(page: Page, connection: Connection, talk: Talk, users: Users)
         return await page.tell(json.dumps({"error": str(error)}))
     if first is None:
         return
-    await page.tell(first)
+    await page.tell(await with_end(first, connection, users))
     while (message := await page.heard()) is not None:
-        await page.tell(await answered(page, connection, users, lambda user: talk.answer(user, str(message))))
+        told = await answered(page, connection, users, lambda user: talk.answer(user, str(message)))
+        await page.tell(await with_end(told, connection, users))
 
 
 async def begun(page: Page, connection: Connection, talk: Talk, users: Users) -> Optional[str]:
@@ -75,6 +76,13 @@ async def answered(page: Page, connection: Connection, users: Users, act: Callab
         return await done(page, connection, users, act)
     except ClientError as error:
         return json.dumps({"error": str(error)})
+
+
+async def with_end(told: str, connection: Connection, users: Users) -> str:
+    """An answer. If it is an error with which the server or the program has ended, it says so."""
+    if connection.is_open or "error" not in (answer := json.loads(told)) or (end := await users.end()) is None:
+        return told
+    return json.dumps({**answer, "error": f"{end} ({answer['error']}).", "ended": True})
 
 
 async def done(page: Page, connection: Connection, users: Users, act: Callable[[User], str]) -> str:

@@ -66,13 +66,14 @@ function ask(answer) {
   if (!scene) message.say("", []);
 }
 
-// Says why something was not done. Where the atoms are gone others can be chosen.
-function fail({ error, lost, choice }) {
+// Says why something was not done. Where the atoms are gone others can be chosen, and where the server is gone nothing can be done.
+function fail({ error, lost, choice, ended }) {
   play(false);
   if (lost) offer(choice, null);
   else if (scene) part("scene").value = chosen(scene);
   else refusal = error;
-  message.say(error, NOW, "bad");
+  if (ended) stop(error);
+  else message.say(error, NOW, "bad");
 }
 
 // The value that a choice of atoms has in the list.
@@ -88,10 +89,18 @@ function offer({ titles, sessions }, value) {
   part("scene").value = value;
 }
 
-function ended() {
+// Says for good why nothing can be asked any more.
+function stop(why) {
+  stopped = true;
   play(false);
+  box.forget();
   for (const control of document.querySelectorAll("button, select")) control.disabled = true;
-  message.say(refusal || "The program has ended, or has no room for a page more. Start it again, or load this page anew.", [], "bad");
+  message.say(why, [], "bad");
+}
+
+function ended(isEndOfView) {
+  const why = isEndOfView ? "The live view has ended. Begin it again, and open its new link." : "The live view has ended, or its link is lost. Load this page anew.";
+  stop(refusal || why);
 }
 
 // Asks for other atoms.
@@ -155,23 +164,23 @@ function show(frame, does) {
   latest = frame;
   fresh = true;
   message.keep();
+  beforeStart.keep();
+  if (frame.before && !beforeStart.isSaid) beforeStart.say(beforeText(), ["scene", "before"]);
   watchEnergy(does, row.total);
   if (!playing) tell();
 }
+
+const beforeText = () => `This is before the start, step ${scene.start.toLocaleString("en")}: the motion that would have led to it.`;
 
 // Takes in the places of the second run, and returns how far it is from the first. Without one that is nothing.
 function takeSecond(frame, places) {
   const second = frame.second ? placesOf(frame.second) : null;
   box.second = second;
   const had = part("second").getAttribute("aria-pressed") === "true";
-  beforeStart.keep();
-  if (frame.before && !beforeStart.isSaid) beforeStart.say(beforeText(), ["scene", "before"]);
   if (had !== Boolean(second)) shownCharts.set("of-second", Boolean(second));
   part("second").setAttribute("aria-pressed", String(Boolean(second)));
   return second && distance(places, second) / scene.sigma;
 }
-const beforeText = () => `This is before the start, step ${scene.start.toLocaleString("en")}: the motion that would have led to it.`;
-
 
 // Says that the simulation has burst for as long as it has.
 function watchEnergy(does, energy) {
@@ -200,7 +209,7 @@ function tell() {
   part("distance").textContent = farText(far, scene.exact);
   for (const name of ["kinetic", "potential", "total"]) part(name).textContent = energyText(row[name]);
   part("temperature").textContent = scene.in_kelvin ? `${frame.temperature.toFixed(1)} K` : `${frame.temperature.toFixed(2)} ε/k`;
-  part("restore").disabled = frame.saved === null || !talk.isOpen;
+  part("restore").disabled = frame.saved === null || stopped;
   part("restore").textContent = frame.saved === null ? "Restore" : `Restore step ${frame.saved.toLocaleString("en")}`;
 }
 
@@ -262,7 +271,7 @@ async function look(isNew) {
     radialChart.take(places, scene, jumped);
     stale = true;
   }
-  if (!speedsChart.isShown || !(jumped || speedsChart.isDue(now))) return;
+  if (stopped || !speedsChart.isShown || !(jumped || speedsChart.isDue(now))) return;
   const { now: present, before } = await talk.ask({ do: "speeds" });
   if (!before) return;
   const temperature = (2 / 3) * history.last.kinetic;
@@ -286,6 +295,7 @@ async function reverse() {
 }
 
 async function tug(atom, right, up) {
+  if (stopped) return;
   const unit = PULL * scene.reduced_dt * scene.sigma;
   const by = [right, up, 0].map((pull) => Math.round(pull * unit));
   const frame = await talk.ask({ do: "tug", atom, by });
@@ -360,6 +370,7 @@ const acts = {
 // Before there are atoms a button does nothing.
 for (const [name, act] of Object.entries(acts)) part(name).addEventListener("click", () => scene && act());
 listenToKeys(document, part("keys"), () => talk.isIdle);
+document.addEventListener("keydown", ({ key }) => key === "Escape" && box.forget());
 for (const name of ["depth", "thickness", "speed"]) part(name).addEventListener("input", slide);
 for (const chart of charts) chart.moved = () => (stale = true);
 part("axis").addEventListener("change", () => (stale = true));
@@ -370,7 +381,6 @@ addEventListener("resize", () => (fresh = true));
 function slide() {
   box.depth = Number(part("depth").value);
   box.thickness = Number(part("thickness").value);
-document.addEventListener("keydown", ({ key }) => key === "Escape" && box.forget());
   part("thick").textContent = `${box.thickness.toFixed(1)} σ`;
   part("pace").textContent = `${part("speed").value} a frame`;
   fresh = true;

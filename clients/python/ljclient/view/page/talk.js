@@ -1,7 +1,10 @@
 // The conversation with the program: each question is answered in its turn, over one WebSocket.
 
+const GOING_AWAY = 1001; // of a WebSocket whose server ends
+
 export class Talk {
-  // `heard` is told each answer and what was asked for, `waits` what an answer waits for, and `ended` once that there will be no more.
+  // `heard` is told each answer and what was asked for, `waits` what an answer waits for, and `ended` once that there will be no more,
+  // and whether that is since the view has ended.
   constructor(heard, waits, ended) {
     this.waiting = [{ does: "load" }]; // the first message comes unasked
     const scheme = location.protocol === "https:" ? "wss:" : "ws:";
@@ -14,7 +17,7 @@ export class Talk {
       asked?.resolve?.(answer);
       heard(answer, asked?.does);
     };
-    this.socket.onclose = () => ended();
+    this.socket.onclose = ({ code }) => ended(code === GOING_AWAY);
   }
 
   get isIdle() {
