@@ -73,7 +73,8 @@ async function clientOfServer(address, name) {
 
 /** A client of a program of its own. */
 function clientOfProgram(program) {
-  const child = spawn(program, ['run'], { stdio: ['pipe', 'pipe', 'inherit'] });
+  const { LJSERVE_TOKEN, ...env } = process.env; // the program needs no token
+  const child = spawn(program, ['run'], { env, stdio: ['pipe', 'pipe', 'inherit'] });
   child.on('error', (error) => child.stdout.destroy(error));
   return new Client(child.stdin, child.stdout);
 }

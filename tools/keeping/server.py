@@ -9,6 +9,7 @@ import socket
 import subprocess
 from typing import Callable, Dict, List, Sequence, Tuple
 
+from children import environment
 from keeping.accounts import Accounts, new_tokens, server_text
 from user_files import Fault
 
@@ -77,6 +78,7 @@ async def begin(words: Words, accounts: Accounts) -> Server:
             stdin=subprocess.DEVNULL,
             stdout=subprocess.DEVNULL,
             pass_fds=[users],
+            env=environment(),
             preexec_fn=dying_with_parent(),
             start_new_session=True,
         )
@@ -104,7 +106,7 @@ async def version_of(program: str) -> Tuple[str, ...]:
     try:
         process = await asyncio.create_subprocess_exec(
             program, "--version", stdin=subprocess.DEVNULL, stdout=subprocess.PIPE, stderr=subprocess.DEVNULL,
-            preexec_fn=dying_with_parent(), start_new_session=True,
+            preexec_fn=dying_with_parent(), start_new_session=True, env=environment(),
         )  # fmt: skip
     except OSError:
         return ()

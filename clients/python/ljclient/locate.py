@@ -9,6 +9,7 @@ import sys
 from typing import Dict, List, Optional
 
 from .errors import CannotStart
+from .tokens import environment_without_token
 
 BUILD_SECONDS = 3600.0
 VERSION_SECONDS = 30.0
@@ -57,8 +58,9 @@ def _of_repository(package: pathlib.Path) -> Optional[str]:
 
 def _build(script: pathlib.Path) -> None:
     """Has the repository's program built, if it is not; it says itself on standard error that this takes minutes."""
+    words, env = [str(script), "--version"], environment_without_token()
     try:
-        done = subprocess.run([str(script), "--version"], stdin=subprocess.DEVNULL, stdout=subprocess.DEVNULL, timeout=BUILD_SECONDS)
+        done = subprocess.run(words, stdin=subprocess.DEVNULL, stdout=subprocess.DEVNULL, timeout=BUILD_SECONDS, env=env)
     except (OSError, subprocess.TimeoutExpired) as error:
         raise CannotStart(f"{script} cannot be started: {error}") from error
     if done.returncode != 0:
@@ -67,8 +69,9 @@ def _build(script: pathlib.Path) -> None:
 
 def version_of(program: str, env: Optional[Dict[str, str]] = None) -> List[str]:
     """The lines in which a program tells its version, none if it tells none."""
+    words, env = [program, "--version"], environment_without_token(env)
     try:
-        done = subprocess.run([program, "--version"], stdin=subprocess.DEVNULL, capture_output=True, timeout=VERSION_SECONDS, env=env)
+        done = subprocess.run(words, stdin=subprocess.DEVNULL, capture_output=True, timeout=VERSION_SECONDS, env=env)
     except (OSError, subprocess.TimeoutExpired):
         return []
     return done.stdout.decode("ascii", "replace").splitlines() if done.returncode == 0 else []

@@ -7,7 +7,7 @@ from __future__ import annotations
 import getpass
 import os
 import sys
-from typing import Optional
+from typing import Dict, Mapping, Optional
 
 from .errors import ClientError
 
@@ -15,6 +15,19 @@ VARIABLE = "LJSERVE_TOKEN"
 MAX_BYTES = 65_536
 LENGTH = 32
 NOT_IN_COMMANDS = f"a token is never said on the command line, where others see it: use --token-file FILE or {VARIABLE}"
+
+
+def environment_without_token(environment: Optional[Mapping[str, str]] = None) -> Dict[str, str]:
+    """The environment of a child process, which is that of this process if no other is said: without the token.
+
+    No program of `run` needs it, and what a child has others may read, such as what the child begins.
+    """
+    return {name: value for name, value in (os.environ if environment is None else environment).items() if name != VARIABLE}
+
+
+def forget_variable() -> None:
+    """Takes the token out of the environment of this process, once it was read: a browser or an editor gets all that is there."""
+    os.environ.pop(VARIABLE, None)
 
 
 def without_blanks(token: str) -> str:

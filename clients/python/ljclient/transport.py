@@ -8,6 +8,7 @@ import tempfile
 from typing import IO, Dict, List, Optional, Protocol, Tuple, cast
 
 from .errors import CannotStart, ConnectionLost
+from .tokens import environment_without_token
 
 PATIENCE = 5.0
 MAX_LAST_WORDS = 500
@@ -76,7 +77,7 @@ class ChildTransport:
     """A child process: its standard input and output.
 
     It stands in a process group of its own, so that an interrupt from the keyboard stops what waits for it and not the
-    process. It is ended and waited for when the ends are closed.
+    process. It is ended and waited for when the ends are closed. It has no LJSERVE_TOKEN in its environment.
     """
 
     def __init__(self, command: List[str], env: Optional[Dict[str, str]] = None):
@@ -90,7 +91,7 @@ class ChildTransport:
                 stderr=self._errors,
                 bufsize=0,
                 start_new_session=True,
-                env=env,
+                env=environment_without_token(env),
             )
         except OSError as error:
             self._errors.close()

@@ -468,7 +468,7 @@ def run(
                                package stands in (which builds it on first use), else `ljserve` on the PATH
     sessions, atoms, branches  the quota, at most 64, 65536 and 256
     timeout                    as in `connect`
-    env                        the environment of the program; without it, that of this process
+    env                        the environment of the program; without it, that of this process. LJSERVE_TOKEN is left out of it
 
     What is loaded is gone when the program ends, which it does when the user is closed. Raises `CannotStart` where it can
     not be started.

@@ -11,7 +11,7 @@ from typing import Callable, Iterator, List, NoReturn, Tuple
 
 from ..errors import ClientError
 from ..refusals import Denied
-from ..tokens import NOT_IN_COMMANDS, stored_token, token_of, typed_token
+from ..tokens import NOT_IN_COMMANDS, forget_variable, stored_token, token_of, typed_token
 from ..user import User, connect, run
 from .dialogue import PipeTalk, TerminalTalk, columns_of
 from .helping import wrapped
@@ -165,6 +165,7 @@ def talk(options: argparse.Namespace) -> int:
     """The whole dialogue. Returns the exit status."""
     is_terminal = sys.stdin.isatty() and sys.stdout.isatty()
     link = link_of(options, is_terminal)
+    forget_variable()
     try:
         if not is_terminal:
             return PipeTalk(link, sys.stdout).run(PipeInput(sys.stdin.buffer))

@@ -13,7 +13,7 @@ from typing import Any, Callable, List, Optional, Sequence, cast
 from .. import ClientError, Scale, User, run, units
 from ..names import checked_name
 from ..prompt.starting import add_tls, check_tls
-from ..tokens import stored_token
+from ..tokens import forget_variable, stored_token
 from .access import Access, for_others, for_this_machine
 from .addresses import Address, address_in
 from .links import LinkFile
@@ -49,6 +49,7 @@ def main(arguments: List[str]) -> int:
         users, choice = users_of(options), choice_of(options)
         access = access_of(options)
         link = LinkFile(access.url) if options.browser else None
+        forget_variable()
     except (ClientError, OSError, ValueError) as error:
         print(f"view: {error}", file=sys.stderr)
         return 1
