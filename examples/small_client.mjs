@@ -46,7 +46,9 @@ class Client {
 
   #answer(lines) {
     const { resolve, reject } = this.#waiting.shift() ?? {};
-    if (lines[0].startsWith('ERR ')) reject?.(new Error(lines[0]));
+    // What is printed here is for a terminal, which heeds other bytes.
+    if (lines.some((line) => /[^ -~]/.test(line))) reject?.(new Error('a reply is no text of the protocol'));
+    else if (lines[0].startsWith('ERR ')) reject?.(new Error(lines[0]));
     else resolve?.(lines);
   }
 

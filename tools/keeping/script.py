@@ -351,5 +351,5 @@ def unless_alike(position: Position, words: Words, reply: bytes) -> None:
 
 
 def shown(reply: bytes) -> str:
-    """The first line of a reply."""
-    return reply.partition(b"\n")[0].decode(errors="replace")
+    """The first line of a reply, whose bytes that are no printing characters are shown: it is for a terminal and a log."""
+    return re.sub(rb"[^ -~]", lambda other: b"\\x%02x" % other[0][0], reply.partition(b"\n")[0]).decode("ascii")

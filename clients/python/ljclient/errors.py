@@ -108,9 +108,17 @@ class Refused(ClientError):
         return f"ERR {self.number:02} {self.name}{where}{meaning}{asked}"
 
 
+def printable(text: str) -> str:
+    """A text for a terminal: what would not be printed, but heeded as the start of a colour or a title is, is written as in Python.
+
+    Line ends and tabs stay as they are.
+    """
+    return text if text.isprintable() else "".join(mark if mark.isprintable() or mark in "\n\t" else ascii(mark)[1:-1] for mark in text)
+
+
 def shown(command: str) -> str:
-    """A command line as messages show it: cut where it is long, and without the token of a HELLO."""
-    text = " ".join(command.split()[:2]) if command.startswith("HELLO") else command
+    """A command line as messages show it: cut where it is long, without the token of a HELLO, and printable."""
+    text = printable(" ".join(command.split()[:2]) if command.startswith("HELLO") else command)
     return text if len(text) <= 60 else text[:57] + "..."
 
 

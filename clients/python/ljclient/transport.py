@@ -7,7 +7,7 @@ import subprocess
 import tempfile
 from typing import IO, Dict, List, Optional, Protocol, Tuple, cast
 
-from .errors import CannotStart, ConnectionLost
+from .errors import CannotStart, ConnectionLost, printable
 from .tokens import environment_without_token
 
 PATIENCE = 5.0
@@ -132,7 +132,7 @@ class ChildTransport:
         except subprocess.TimeoutExpired:
             return ""
         self._errors.seek(0)
-        said = self._errors.read(MAX_LAST_WORDS).decode(errors="replace").strip()
+        said = printable(self._errors.read(MAX_LAST_WORDS).decode(errors="replace").strip())
         return f"{self._command[0]} has ended with status {status}" + (f" ({said})" if said else "")
 
     def _end_child(self) -> None:

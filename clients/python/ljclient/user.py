@@ -448,6 +448,8 @@ def _greet(wire: Wire, name: str, token: str) -> None:
     except ConnectionLost as error:
         causes = "has the server no place for more connections? or are all its --connections used up?"
         raise ConnectionLost(f"{error} ({causes} or does it want tls=True or --tls?)") from error
+    except BadReply as error:
+        raise BadReply(f"{error} (is it another kind of server? or does it want tls=True or --tls?)") from error
     if reply.words != ["HELLO", name]:
         raise BadReply(f"HELLO was answered {' '.join(reply.words)[:80]!r}")
 

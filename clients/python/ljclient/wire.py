@@ -8,6 +8,7 @@ from __future__ import annotations
 
 import contextlib
 import itertools
+import re
 import selectors
 import time
 from collections import deque
@@ -27,6 +28,9 @@ MAX_LINES = 10_000
 PIECE = 1 << 16
 TICK_SECONDS = 0.25
 ENDS_THE_CONNECTION = (1, 4, 5, 8)
+# What replies have: printing characters of ASCII, and the ends of lines.
+PLAIN = b"\n" + bytes(range(0x20, 0x7F))
+NOT_PLAIN = re.compile(rb"[^\n -~]")
 
 
 class Reply(NamedTuple):
@@ -41,6 +45,13 @@ def checked_timeout(seconds: float) -> float:
     if not 0 < seconds < float("inf"):
         raise ValueError(f"a timeout is a number of seconds above 0, not {seconds!r}")
     return seconds
+
+
+def first_line_of_others(text: bytes) -> bytes:
+    """The first line of a text that has other bytes than those of replies."""
+    found = NOT_PLAIN.search(text)
+    at = len(text) if found is None else found.start()
+    return text[text.rfind(b"\n", 0, at) + 1 :].partition(b"\n")[0]
 
 
 class Listener(Protocol):
@@ -265,6 +276,14 @@ class Wire:
                 self._keeps_whole = False
                 self._split()
 
+    def _take(self, data: bytes) -> None:
+        """Takes in what was received."""
+        self._partial += data
+        if self._keeps_whole:
+            self._unsplit += count_of_lines(data)
+        else:
+            self._split()
+
     def _split(self) -> None:
         """Takes the whole lines apart that were received."""
         *lines, self._partial = self._partial.split(b"\n")
@@ -273,7 +292,7 @@ class Wire:
 
     def _words(self, line: bytes) -> List[str]:
         """The words of a reply's first line, which is one to the first command that awaits its reply."""
-        words = self._text(line).split(" ")
+        words = line.decode("ascii").split(" ")
         asked = self._unanswered[0].split()[:1]
         if words[0] == "OK" and words[1:2] == asked:
             return words
@@ -289,15 +308,9 @@ class Wire:
             return int(words[-1])
         raise self._given_up(BadReply(f"{' '.join(words)[:80]!r} says no number of lines"))
 
-    def _text(self, line: bytes) -> str:
-        try:
-            return line.decode("ascii")
-        except UnicodeDecodeError:
-            raise self._given_up(BadReply(f"{line[:80]!r} is no text of the protocol")) from None
-
     def _texts(self, lines: List[bytes]) -> List[str]:
         """The texts of some lines, which are decoded together."""
-        return self._text(b"\n".join(lines)).split("\n") if lines else []
+        return b"\n".join(lines).decode("ascii").split("\n") if lines else []
 
     def _await_lines(self, count: int) -> None:
         """Sends and receives until so many lines are there."""
@@ -366,7 +379,10 @@ class Wire:
         return sent > 0
 
     def _receive(self) -> bool:
-        """Receives what is there. Answers whether a line came whole."""
+        """Receives what is there. Answers whether a line came whole.
+
+        Whatever reads a reply has text alone, since a byte that is none ends the connection here: it could be for a terminal.
+        """
         with held():
             self._torn = True
             try:
@@ -376,12 +392,11 @@ class Wire:
                 data = b""
             except OSError as error:
                 data, self._at_end = b"", f"the connection is lost ({error.strerror or error})"
-            self._partial += data
-            if self._keeps_whole:
-                self._unsplit += count_of_lines(data)
-            else:
-                self._split()
-            self._torn = False
+            self._torn = bool(data.translate(None, PLAIN))
+            if not self._torn:
+                self._take(data)
+        if self._torn:
+            raise self._given_up(BadReply(f"{first_line_of_others(self._partial + data)[:80]!r} is no text of the protocol"))
         rest = self._partial.rfind(b"\n") + 1
         if len(self._partial) - rest > MAX_LINE:
             raise self._given_up(BadReply(f"{self._partial[rest : rest + 40]!r}.. is no line of the protocol"))

@@ -9,7 +9,7 @@ from typing import Any, Dict, Tuple
 
 import pytest
 
-from ljclient import ClientError, ConnectionLost, connect, refusals, tls, user as users
+from ljclient import BadReply, ClientError, ConnectionLost, connect, refusals, tls, user as users
 from record_texts import DIMER_TEXT, verified, with_checks
 from relays import ENDED, NO_TLS, UNKNOWN, Relay, certificate, denies, expired, of_another_issuer
 from support import EXAMPLES, SECONDS, TOKEN, dimer, free_port, listed, peer
@@ -121,7 +121,7 @@ def test_a_wrong_token(relay: Any, good: Any) -> None:
 
 
 def test_a_plain_client_is_told_of_tls(relay: Any) -> None:
-    with pytest.raises(ConnectionLost, match=r"or does it want tls=True or --tls\?\)$"):
+    with pytest.raises((BadReply, ConnectionLost), match=r"or does it want tls=True or --tls\?\)$"):
         joined(relay, tls=False)
 
 

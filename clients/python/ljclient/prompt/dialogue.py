@@ -8,7 +8,7 @@ import time
 import warnings
 from typing import Iterator, List, TextIO, Tuple
 
-from ..errors import ClientError, Refused
+from ..errors import ClientError, Refused, printable
 from ..stepping import MAX_STEPS
 from ..interrupts import held
 from ..progress import reporter
@@ -42,8 +42,8 @@ class Talk:
         self.out = out
 
     def tell(self, *lines: str) -> None:
-        """Writes lines at once."""
-        self.out.write("".join(line + "\n" for line in lines))
+        """Writes lines at once. Bytes of a server or of a file that a terminal would heed are shown, as `printable` does."""
+        self.out.write("".join(printable(line) + "\n" for line in lines))
         self.out.flush()
 
     def show_refusal(self, refusal: Refused) -> None:
@@ -92,7 +92,7 @@ class TerminalTalk(Talk):
 
     def note(self, *texts: str) -> None:
         """Tells something beside the replies, in lines that fit the terminal."""
-        self.tell(*(line for text in texts for line in wrapped(text.strip(), "  ", "  ", columns_of(self.out))))
+        self.tell(*(line for text in texts for line in wrapped(printable(text.strip()), "  ", "  ", columns_of(self.out))))
 
     def run(self, lines: TerminalInput) -> int:
         """Does what each line says until the end. Interrupts end nothing here, one while another is told included."""

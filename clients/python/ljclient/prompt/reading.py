@@ -118,7 +118,7 @@ class TerminalInput:
         while self._files:
             line = self._files[-1].line()
             if line is not None:
-                self._show(f"{self._prompt}{line}")
+                self._show(f"{self._prompt}{line}".rstrip("\r"))
                 return line
             self._files.pop()
         try:

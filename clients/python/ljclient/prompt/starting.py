@@ -9,7 +9,7 @@ import sys
 import threading
 from typing import Callable, Iterator, List, NoReturn, Tuple
 
-from ..errors import ClientError
+from ..errors import ClientError, printable
 from ..refusals import Denied
 from ..tokens import NOT_IN_COMMANDS, forget_variable, stored_token, token_of, typed_token
 from ..user import User, connect, run
@@ -180,7 +180,7 @@ def main(words: List[str]) -> int:
     try:
         return talk(options)
     except (ClientError, Fault, ValueError) as error:
-        print(f"ljclient: {error}", file=sys.stderr)
+        print(f"ljclient: {printable(str(error))}", file=sys.stderr)
     except BrokenPipeError:
         os.dup2(os.open(os.devnull, os.O_WRONLY), sys.stdout.fileno())
     except KeyboardInterrupt:

@@ -11,6 +11,7 @@ from types import ModuleType
 from typing import Any, Callable, List, Optional, Sequence, cast
 
 from .. import ClientError, Scale, User, run, units
+from ..errors import printable
 from ..names import checked_name
 from ..prompt.starting import add_tls, check_tls
 from ..tokens import forget_variable, stored_token
@@ -47,11 +48,11 @@ def main(arguments: List[str]) -> int:
     try:
         server_module = imported_server()
         users, choice = users_of(options), choice_of(options)
+        forget_variable()
         access = access_of(options)
         link = LinkFile(access.url) if options.browser else None
-        forget_variable()
     except (ClientError, OSError, ValueError) as error:
-        print(f"view: {error}", file=sys.stderr)
+        print(f"view: {printable(str(error))}", file=sys.stderr)
         return 1
     pages = said(options.pages_of_an_address, PAGES_OF_AN_ADDRESS)
     server = server_module.Server(access, choice, users, pages, link.remove if link else lambda: None)
