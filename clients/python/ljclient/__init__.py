@@ -28,6 +28,7 @@ from .sampling import Samples
 from .session import Row, Saved, Session
 from .snapshots import Snapshot
 from .thermo import Thermo, ThermoInElectronvolt, ThermoInKelvin
+from .transport import PlainTextWarning
 from .units import Scale
 from .user import User, connect, run
 
@@ -48,6 +49,7 @@ __all__ = [
     "Motion",
     "NotRecorded",
     "Order",
+    "PlainTextWarning",
     "Refused",
     "Row",
     "Samples",

@@ -7,21 +7,24 @@ from __future__ import annotations
 import sys
 from typing import List, Optional
 
+from .warning import told_in_a_line
+
 
 def main(words: Optional[List[str]] = None) -> int:
     """Runs what the words say, else those of the command line, and returns the exit status."""
     words = sys.argv[1:] if words is None else words
-    if words[:1] == ["view"]:
-        from . import view
+    with told_in_a_line():
+        if words[:1] == ["view"]:
+            from . import view
 
-        return view.main(words[1:])
-    if words[:1] == ["verify"]:
-        from . import verify
+            return view.main(words[1:])
+        if words[:1] == ["verify"]:
+            from . import verify
 
-        return verify.main(words[1:])
-    from . import prompt
+            return verify.main(words[1:])
+        from . import prompt
 
-    return prompt.main(words)
+        return prompt.main(words)
 
 
 if __name__ == "__main__":

@@ -1,17 +1,25 @@
 """The two ends of a stream that a wire reads and writes: those of a socket, and those of a child process."""
 from __future__ import annotations
 
+import ipaddress
 import os
 import socket
 import subprocess
 import tempfile
-from typing import IO, Dict, List, Optional, Protocol, Tuple, cast
+from typing import IO, Dict, List, Optional, Protocol, Set, Tuple, cast
 
 from .errors import CannotStart, ConnectionLost, printable
 from .tokens import environment_without_token
+from .warning import warn_caller
 
 PATIENCE = 5.0
 MAX_LAST_WORDS = 500
+# The hosts that were warned of.
+warned: Set[str] = set()
+
+
+class PlainTextWarning(UserWarning):
+    """A connection to another machine is not encrypted, so the network sees the token and all else. It comes once for each host."""
 
 
 class Transport(Protocol):
@@ -54,6 +62,13 @@ class SocketTransport:
         """The socket that is read and written."""
         return plain
 
+    def peer(self) -> str:
+        """The address of the other side; nothing where that has ended the connection already."""
+        try:
+            return str(self._socket.getpeername()[0])
+        except OSError:
+            return ""
+
     def source(self) -> int:
         return self._socket.fileno()
 
@@ -71,6 +86,32 @@ class SocketTransport:
 
     def last_words(self) -> str:
         return ""
+
+
+def opened_plainly(host: str, port: int, timeout: float) -> SocketTransport:
+    """A TCP connection that is not encrypted. Of another machine there is a `PlainTextWarning` before anything is said to it."""
+    transport = SocketTransport(host, port, timeout)
+    if host in warned or is_this_machine(host, transport.peer()):
+        return transport
+    try:
+        warn_caller(
+            f"the connection to {host} is not encrypted, so the network sees the token: say tls=True or --tls if the server has TLS, "
+            "or connect through ssh -L",
+            PlainTextWarning,
+        )
+    except PlainTextWarning:
+        transport.close()
+        raise
+    warned.add(host)
+    return transport
+
+
+def is_this_machine(host: str, address: str) -> bool:
+    """Whether a connection stays on this machine: by the word for the host, or by the address that it came to, if that is known."""
+    if host.lower().rstrip(".") == "localhost" or not address:
+        return True
+    number = ipaddress.ip_address(address.partition("%")[0])
+    return (getattr(number, "ipv4_mapped", None) or number).is_loopback
 
 
 class ChildTransport:

@@ -28,7 +28,7 @@ from .session import Row, Session
 from .state import Command, can_be_loaded
 from .threads import whole
 from .tokens import without_blanks
-from .transport import ChildTransport, SocketTransport, Transport
+from .transport import ChildTransport, Transport, opened_plainly
 from .wire import Reply, Wire, checked_timeout
 
 MAX_ITEMS = 1_000_000
@@ -391,7 +391,8 @@ def connect(host: str, port: int, name: str, token: str, *, timeout: float = 60.
     tls      whether the connection is encrypted, to a server or a proxy before it that has a certificate of the name `host`
     ca       with `tls`, a file with the certificate of the issuer, in PEM; without it one that the system knows
 
-    With `tls` the token is sent only if the certificate is valid; `ConnectionLost` says what to do if it is not.
+    With `tls` the token is sent only if the certificate is valid; `ConnectionLost` says what to do if it is not. Without it there is
+    a `PlainTextWarning`, once for each host that is another machine; `warnings.simplefilter("ignore", PlainTextWarning)` silences it.
 
     Raises `refusals.Denied` where the server knows no user of that name and token, and `ConnectionLost` where there is no
     server, or where it has no place for a connection more.
@@ -432,7 +433,7 @@ def transport_opener(tls: bool, ca: Optional[Path]) -> Callable[[str, int, float
     if not tls:
         if ca is not None:
             raise ValueError("ca= is of a server's certificate: say tls=True too")
-        return SocketTransport
+        return opened_plainly
     from .tls import Trust
 
     return Trust(ca).transport

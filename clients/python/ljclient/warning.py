@@ -1,10 +1,13 @@
 """Warnings, which are shown at the line of whoever calls this package."""
 from __future__ import annotations
 
+import contextlib
 import os
 import sys
 import warnings
-from typing import Type
+from typing import Iterator, Type, Union
+
+from .errors import printable
 
 PACKAGE = os.path.dirname(__file__) + os.sep
 
@@ -15,3 +18,15 @@ def warn_caller(text: str, kind: Type[Warning] = UserWarning) -> None:
     while frame.f_back is not None and frame.f_code.co_filename.startswith(PACKAGE):
         level, frame = level + 1, frame.f_back
     warnings.warn(text, kind, stacklevel=level)
+
+
+@contextlib.contextmanager
+def told_in_a_line() -> Iterator[None]:
+    """Has each warning within the block be a line of standard error, as a program tells it, without the line of its source."""
+
+    def tell(message: Union[Warning, str], *_: object, **__: object) -> None:
+        print(f"ljclient: warning: {printable(str(message))}", file=sys.stderr, flush=True)
+
+    with warnings.catch_warnings():
+        warnings.showwarning = tell
+        yield

@@ -189,9 +189,9 @@ class Server:
 
 
 @contextlib.contextmanager
-def peer(talk: Any, port: int = 0) -> Iterator[Any]:
+def peer(talk: Any, port: int = 0, host: str = "127.0.0.1") -> Iterator[Any]:
     """The port of a peer, a free one if none is said, that talks in its own way to the one connection that it accepts."""
-    listener = socket.create_server(("127.0.0.1", port))
+    listener = socket.create_server((host, port))
     listener.settimeout(SECONDS)
     stop = threading.Event()
     faults = []
