@@ -7,6 +7,7 @@ from __future__ import annotations
 
 import contextlib
 import functools
+import math
 import os
 import pathlib
 import tempfile
@@ -14,8 +15,10 @@ import time
 from dataclasses import dataclass
 from typing import TYPE_CHECKING, Any, Callable, ContextManager, Dict, Iterator, List, NamedTuple, Optional, Sequence, Tuple, Union
 
+from . import notes
 from .errors import ConnectionLost, Damaged
 from .files import Path, write_whole
+from .notes import Noted
 from .session import Session
 from .user import Program, User, run
 
@@ -25,6 +28,7 @@ if TYPE_CHECKING:
 
 # Names of errors of Dask, which need not be installed, that tell of a worker that is gone.
 LOST_NAMES = ("KilledWorker", "CommClosedError")
+OLD_NOTES = "delete it, and its job is computed again, or say another folder="
 # An executor, or what makes one, or none.
 Pool = Union["Executor", Callable[[], "Executor"], None]
 # What was noted of each job that is done, by its number.
@@ -38,7 +42,8 @@ class Job:
     `begin` is given a user of a program that is the job's own, and returns the session that it has loaded, or a list of
     sessions, which go on side by side. `look` is given these sessions, and what it returns is noted: at the beginning and
     after each `every` steps. Both are functions of a module (or a `functools.partial` of one), since they are sent to
-    other processes; so is what is noted. What is saved by `branch` is not in a checkpoint, so `look` needs none.
+    other processes; so is what is noted, which for a folder that is kept is None, numbers, strings, and lists, tuples, dicts
+    and numpy arrays of them. What is saved by `branch` is not in a checkpoint, so `look` needs none.
     """
 
     begin: Callable[[User], Union[Session, Sequence[Session]]]
@@ -52,20 +57,13 @@ class Job:
 
 
 class Task(NamedTuple):
-    """A job with where its checkpoints are, how many seconds lie between two, and its program."""
+    """A job with where its checkpoints are, how many seconds lie between two, its program, and whether the folder is kept."""
 
     job: Job
     place: str
     seconds: float
     program: Optional[str]
-
-
-class Progress(NamedTuple):
-    """How many steps a job has made, what was noted, and the names of the files of its sessions."""
-
-    done: int
-    notes: List[Any]
-    files: List[str]
+    is_kept: bool
 
 
 def ensemble(
@@ -87,6 +85,9 @@ def ensemble(
     Checkpoints are written into `folder`, at most one in so many `seconds` for each job, and a later call with the same
     jobs goes on from there. Workers on other machines find them if the folder is shared. Without one a folder is made, and
     removed at the end. `program` is as for `run`, and `progress` is called with how many jobs are done, and of how many.
+
+    What is noted is kept in `folder` as JSON: TypeError, at the first look, if it is of a kind that has no words there. ValueError
+    if the folder has notes of an earlier version, which are pickles, and are not read.
     """
     named = None if program is None else os.fspath(program)
     results: Results = {}
@@ -94,7 +95,8 @@ def ensemble(
         raise ValueError(f"{tries} tries: a job is tried at least once")
     with _made(folder) as place:
         names = [f"job_{number}" + (f"_{_key_of(job)}" if folder is not None else "") for number, job in enumerate(jobs)]
-        tasks = {number: Task(job, str(place / names[number]), seconds, named) for number, job in enumerate(jobs)}
+        is_kept = folder is not None
+        tasks = {number: Task(job, str(place / names[number]), seconds, named, is_kept) for number, job in enumerate(jobs)}
         for turn in range(tries):
             lost = _round(executor, tasks, results, progress)
             if lost is None:
@@ -140,36 +142,44 @@ def _made(folder: Optional[Path]) -> Iterator[pathlib.Path]:
 
 def perform(task: Task) -> List[Any]:
     """Runs a job from its last checkpoint on, or from its beginning."""
-    job, kept = task.job, _kept_at(task.place)
+    job, kept = task.job, _kept_at(task)
     if kept is not None and kept.done == job.steps:
         return kept.notes
     with run(task.program) as user:
-        done, notes, sessions = _resumed(user, kept) or _begun(user, job)
+        done, noted, sessions = _resumed(user, task, kept) or _begun(user, task)
         saved_at = time.monotonic()
         while done < job.steps:
             piece = min(job.every, job.steps - done)
             user.advance(sessions, piece)
-            notes.append(job.look(*sessions))
+            noted.append(_look(task, sessions))
             done += piece
             if done == job.steps or time.monotonic() - saved_at >= task.seconds:
-                _keep(task.place, done, notes, sessions if done < job.steps else [])
+                _keep(task, done, noted, sessions if done < job.steps else [])
                 saved_at = time.monotonic()
-        return notes
+        return noted
 
 
-def _begun(user: User, job: Job) -> Tuple[int, List[Any], List[Session]]:
-    loaded = job.begin(user)
+def _look(task: Task, sessions: Sequence[Session]) -> Any:
+    """What is noted now. Raises TypeError if the folder is kept, and this cannot be kept there."""
+    note = task.job.look(*sessions)
+    if task.is_kept:
+        notes.to_json(note)
+    return note
+
+
+def _begun(user: User, task: Task) -> Tuple[int, List[Any], List[Session]]:
+    loaded = task.job.begin(user)
     sessions = [loaded] if isinstance(loaded, Session) else list(loaded)
-    return 0, [job.look(*sessions)], sessions
+    return 0, [_look(task, sessions)], sessions
 
 
-def _resumed(user: User, kept: Optional[Progress]) -> Optional[Tuple[int, List[Any], List[Session]]]:
+def _resumed(user: User, task: Task, kept: Optional[Noted]) -> Optional[Tuple[int, List[Any], List[Session]]]:
     """Goes on from a checkpoint. One whose files are damaged or gone is none: the same notes are computed once more."""
     if kept is None:
         return None
     sessions = []
     try:
-        for file in kept.files:
+        for file in _files_of(task, kept.done, kept.sessions):
             sessions.append(user.load_saved(file))
     except (OSError, Damaged):
         for session in sessions:
@@ -178,41 +188,57 @@ def _resumed(user: User, kept: Optional[Progress]) -> Optional[Tuple[int, List[A
     return kept.done, kept.notes, sessions
 
 
-def _keep(place: str, done: int, notes: List[Any], sessions: Sequence[Session]) -> None:
-    """Writes a checkpoint. The one before stays until this one is whole."""
-    before = _kept_at(place)
-    files = [f"{place}.{done}.{number}.saved" for number in range(len(sessions))]
+def _files_of(task: Task, done: int, sessions: int) -> List[str]:
+    """The names of the files of a job's sessions. No file tells them, so none can have others read or removed."""
+    return [f"{task.place}.{done}.{number}.saved" for number in range(sessions)]
+
+
+def _keep(task: Task, done: int, noted: List[Any], sessions: Sequence[Session]) -> None:
+    """Writes a checkpoint. The one before stays until this one is whole. In a folder that is not kept there is none of notes of
+    other kinds: their job begins again if its worker is lost."""
+    try:
+        text = notes.text_of(Noted(done, len(sessions), noted))
+    except TypeError:
+        if task.is_kept:
+            raise
+        return
+    before, files = _kept_at(task), _files_of(task, done, len(sessions))
     for session, file in zip(sessions, files):
         session.save(file)
-    write_whole(f"{place}.notes", _pickled(Progress(done, notes, files)))
-    for file in before.files if before is not None else []:
+    write_whole(f"{task.place}.notes", text)
+    for file in _files_of(task, before.done, before.sessions) if before is not None else []:
         if file not in files:
             pathlib.Path(file).unlink(missing_ok=True)
 
 
-def _kept_at(place: str) -> Optional[Progress]:
-    """The last checkpoint of a job, if there is one that can be read."""
-    import pickle
+def _kept_at(task: Task) -> Optional[Noted]:
+    """The last checkpoint of a job, if there is one that can be read, and that is of such a job.
 
+    Raises ValueError for a pickle, as earlier versions wrote it.
+    """
+    path = f"{task.place}.notes"
     try:
-        with open(f"{place}.notes", "rb") as stream:
-            kept = pickle.load(stream)
-    except (OSError, EOFError, pickle.UnpicklingError):
+        with open(path, "rb") as stream:
+            data = stream.read()
+    except OSError:
         return None
-    return kept if isinstance(kept, Progress) else None
+    if data.startswith(notes.PICKLE):
+        raise ValueError(f"{path} is a pickle of an earlier ljclient. It is not read, since it could run anything: {OLD_NOTES}")
+    try:
+        kept = notes.read(data)
+    except ValueError:
+        return None
+    looks = 1 + math.ceil(kept.done / task.job.every)
+    is_whole = kept.done <= task.job.steps and len(kept.notes) == looks and (kept.sessions > 0 or kept.done == task.job.steps)
+    return kept if is_whole else None
 
 
 def _key_of(job: Job) -> str:
     """What tells the files of a job in a folder that is kept from those of another one of the same number."""
     import hashlib
-
-    return hashlib.sha256(_pickled(job)).hexdigest()[:16]
-
-
-def _pickled(thing: object) -> bytes:
     import pickle
 
-    return pickle.dumps(thing)
+    return hashlib.sha256(pickle.dumps(job)).hexdigest()[:16]
 
 
 def _told_by(pool: Optional[Executor], tasks: Dict[int, Task]) -> Iterator[Tuple[int, Union[List[Any], BaseException]]]:
