@@ -12,7 +12,7 @@ import zlib
 from typing import Dict, Iterator, List, Pattern, Sequence, Tuple
 
 from .errors import Damaged
-from .files import Path, write_whole
+from .files import Path, checked_target, write_whole
 from .mixture import MAX_WEIGHT, Mixture
 from .names import NAME, SYMBOL
 from .order import IN_SPACE, Place
@@ -20,6 +20,8 @@ from .state import State
 from .units import MAX_STEP_FACTOR, RING, Scale
 
 HEAD = "ljserve checkpoint 1"
+# How the files of all versions begin.
+FAMILY = b"ljserve checkpoint "
 END = "end"
 WHOLE = re.compile(r"-?[0-9]{1,19}\Z")
 DIRECTION = re.compile(r"-?1\Z")
@@ -36,9 +38,21 @@ UNITS = ("epsilon", "mass")
 def write(state: State, path: Path) -> None:
     """Writes a state to a file. An older file of that name stays until the new one is whole.
 
-    Raises ValueError if something is there that is no regular file, such as a device.
+    Raises ValueError if something is there that is neither a saved session nor an empty file: it stays as it is.
     """
+    check_may_be_replaced(path)
     write_whole(path, text_of(state).encode("ascii"))
+
+
+def check_may_be_replaced(path: Path) -> None:
+    """Raises ValueError if something is there that is neither a saved session nor an empty file."""
+    try:
+        with open(checked_target(path), "rb") as file:
+            head = file.read(len(FAMILY))
+    except FileNotFoundError:
+        return
+    if head and head != FAMILY:
+        raise ValueError(f"{os.fspath(path)} is no saved session, and stays as it is: say another name, or delete that file first")
 
 
 def text_of(state: State) -> str:

@@ -1,9 +1,12 @@
 """Files that are written whole: what stands there stays until the new file is complete."""
 from __future__ import annotations
 
+import contextlib
+import errno
 import os
 import stat
-from typing import Union
+import tempfile
+from typing import Tuple, Union
 
 Path = Union[str, os.PathLike[str]]
 KINDS = {
@@ -16,22 +19,59 @@ KINDS = {
 
 
 def write_whole(path: Path, data: bytes) -> None:
-    """Writes a file, behind symbolic links. An older file of that name stays until the new one is whole.
+    """Writes a file, behind symbolic links. An older file of that name stays until the new one is whole, and gives it its mode.
 
     Raises ValueError, and changes nothing, if something other than a regular file is there.
     """
     target = checked_target(path)
-    partial = f"{target}.{os.getpid()}.part"
+    descriptor, partial = begin_beside(target)
     try:
-        with open(partial, "wb") as file:
+        with open(descriptor, "wb") as file:
             file.write(data)
             file.flush()
             os.fsync(file.fileno())
-        os.replace(partial, target)
+        put_in_place(partial, target)
     except BaseException:
-        if os.path.exists(partial):
+        with contextlib.suppress(FileNotFoundError):
             os.unlink(partial)
         raise
+
+
+def begin_beside(target: str) -> Tuple[int, str]:
+    """A new empty file in the folder of another one, by a name that nobody can know before: open, and its name.
+
+    Its mode is that of the other file or, if that is not there, of a new one.
+    """
+    folder, name = os.path.split(target)
+    descriptor, partial = tempfile.mkstemp(".part", f"{name}.", folder)
+    os.chmod(partial, _mode_for(target))
+    return descriptor, partial
+
+
+def _mode_for(target: str) -> int:
+    """The mode of a file, or that of a new one if it is not there."""
+    with contextlib.suppress(FileNotFoundError):
+        return os.stat(target).st_mode & 0o777
+    # It is told only by being set: for this moment what other threads make is for its owner alone.
+    mask = os.umask(0o077)
+    os.umask(mask)
+    return 0o666 & ~mask
+
+
+def put_in_place(partial: str, target: str) -> None:
+    """Gives a whole file the name of another one, which it replaces, on the disk too: the folder is written out."""
+    os.replace(partial, target)
+    try:
+        folder = os.open(os.path.dirname(target), os.O_RDONLY)
+    except OSError:
+        return  # one that may be written and not be read, or a system that opens no folder
+    try:
+        os.fsync(folder)
+    except OSError as error:
+        if error.errno not in (errno.EINVAL, errno.ENOTSUP):
+            raise
+    finally:
+        os.close(folder)
 
 
 def checked_target(path: Path) -> str:

@@ -18,8 +18,8 @@ if TYPE_CHECKING:
 def saver(session: "Session", path: Optional[Path], seconds: float, report: Optional[Report]) -> Iterator[Optional[Report]]:
     """What is told how far a session is, so that it is saved each so many seconds, and whoever else looks is told too.
 
-    It is saved at the start, so that what is wrong with the path is told before a step is made, and at the end, unless an error
-    or an interrupt comes.
+    It is saved at the start, so that what is wrong with the path is told before a step is made, and at the end, also at that by
+    an interrupt from the keyboard: then the step that was come to is saved, and the interrupt goes on. An error saves nothing.
     """
     if path is None:
         yield report
@@ -27,7 +27,11 @@ def saver(session: "Session", path: Optional[Path], seconds: float, report: Opti
     if not 0 <= real_of("seconds", seconds) < math.inf:
         raise ValueError(f"seconds is a number from 0 on, not {seconds!r}")
     session.save(path)
-    yield _reporter(session, path, seconds, report)
+    try:
+        yield _reporter(session, path, seconds, report)
+    except KeyboardInterrupt:
+        session.save(path)
+        raise
     session.save(path)
 
 

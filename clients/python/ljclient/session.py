@@ -130,8 +130,8 @@ class Session:
         and after each 20,000. There is an `EnergyWarning`, once, if that of an atom has changed by half an epsilon. What else
         changes it (`tug`, `heat`, `restore`) sets the start anew. `load(.., watch=False)` does without.
 
-        With `save` it is saved to that file at the start, each so many seconds on the way and at the end, as by `save(path)`:
-        `User.load_saved` goes on from there if the run is lost.
+        With `save` it is saved to that file at the start, each so many seconds on the way and at the end, as by `save(path)`; also
+        where an interrupt ends it. `User.load_saved` goes on from there if the run is lost.
 
         `User.advance` has several sessions go on at the same time.
         """
@@ -417,9 +417,9 @@ class Session:
     def save(self, path: files.Path) -> None:
         """Writes the whole simulation to a file, from which `User.load_saved` goes on exactly, in another program too.
 
-        What was started is waited for, and what is saved by `branch` is not written. The scale has to be known. An older file
-        stays until the new one is whole; where a path names a device, a folder or a FIFO, it is a ValueError. What it reads is no
-        part of a record.
+        What was started is waited for, and what is saved by `branch` is not written. The scale has to be known. An older saved
+        session stays until the new one is whole. Anything else that is there, but for an empty file, is a ValueError and stays.
+        What it reads is no part of a record.
         """
         with self._user.unrecorded(self.name):
             state = self._user.state_of(self.name)

@@ -96,6 +96,12 @@ def test_a_simulation_is_saved_and_goes_on(dimer: Any) -> None:
     assert "cannot read none: No such file" in says(dimer, "load_saved none")
 
 
+def test_a_simulation_is_not_saved_in_place_of_a_licence(dimer: Any, tmp_path: pathlib.Path) -> None:
+    (tmp_path / "LICENSE").write_text("MIT\n")
+    told = "LICENSE is no saved session, and stays as it is: say another name, or delete that file first"
+    assert says(dimer, "save a LICENSE") == f"  not sent: {told}\n" and (tmp_path / "LICENSE").read_text() == "MIT\n"
+
+
 def test_a_measurement_in_words(dimer: Any) -> None:
     says(dimer, "ADVANCE a 1")
     # The numbers of docs/PROTOCOL.md for these two atoms; sigma is 2^24 ring units, and h is 2^17.
