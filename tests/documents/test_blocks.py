@@ -339,6 +339,21 @@ def on_the_way(block: Any, folder: Any) -> None:
     assert (folder.path / "argon_way.xyz").read_text().count("step=") == 5
 
 
+def other_kinds_of_files(block: Any, folder: Any) -> None:
+    """Both files have the frames, as the libraries read them."""
+    mda = pytest.importorskip("MDAnalysis", reason="MDAnalysis is not installed")
+    reader = pytest.importorskip("ase.io", reason="ASE is not installed")
+    assert folder.python(block.text) == []
+    one, other = (mda.Universe.empty(256).load_new(str(folder.path / f"argon.{ending}")).trajectory for ending in ("dcd", "xtc"))
+    assert len(one) == len(other) == 5
+    for each, like in zip(one, other):
+        assert abs(each.positions - like.positions).max() < 0.02 and like.dimensions[0] == pytest.approx(21.04)
+    frames = reader.read(folder.path / "argon.lammpstrj", index=":", format="lammps-dump-text")
+    assert [len(frame) for frame in frames] == [256] * 5 and frames[0].cell[0][0] == pytest.approx(21.04)
+    # The first of these is the last one of before.
+    assert abs(frames[0].positions - one[4].positions).max() < 1e-5
+
+
 def driver_of_ase(block: Any, folder: Any) -> None:
     pytest.importorskip("ase", reason="ASE is not installed")
     *rows, back = folder.python(block.text)
@@ -439,7 +454,10 @@ BLOCKS = {
         "ljserve> LOAD": prompt_at_a_terminal,
         "printf": prompt_in_a_pipe,
     },
-    "docs/api/steps.md": {"fine.start(100)": prints("[200, 100]", "300", "300 300")},
+    "docs/api/steps.md": {
+        "fine.start(100)": prints("[200, 100]", "300", "300 300"),
+        "import MDAnalysis": other_kinds_of_files,
+    },
     "docs/api/view.md": {
         "python3 -m ljclient view  ": "needs a browser; clients/python/tests/test_view_program.py begins it without one",
         "python3 -m ljclient view 127": "needs a browser; clients/python/tests/test_view_server.py begins it without one",

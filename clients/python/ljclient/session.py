@@ -387,11 +387,13 @@ class Session:
     ) -> None:
         """Goes on, and writes frames to a file on the way, of the kind that the ending of its name says:
 
-        .xyz       extended XYZ, with Lattice, velocities (`velo`), step, time, potential (`energy`) and kinetic energy. So is a
-                   file of any other ending
+        .xyz       extended XYZ, with Lattice, velocities (`velo`), step, time, potential (`energy`) and kinetic energy; .extxyz
+                   is the same
         .traj      by ASE, with energy, forces and, if epsilon and mass are known, momenta
         .dcd, .nc  by MDAnalysis, with box and time; `.nc` has velocities and forces too, in MDAnalysis's units. ValueError if
                    frames behind those of a .dcd are not as far apart in time
+
+        Any other ending is a ValueError, which says how MDAnalysis makes such a file of a .dcd.
 
         every, frames, progress  are as in `sample`
         symbols                  what is written in place of each symbol of the session, such as `{"A": "Ar", "B": "Kr"}`; it

@@ -1,8 +1,8 @@
 """Frames of a session on its way in a file, of the kind that its ending says.
 
-.xyz        extended XYZ, as text; also of any ending that is not named here
-.traj       ASE's own format, by its writer
-.dcd, .nc   those of CHARMM and NAMD, and of AMBER, by the writers of MDAnalysis
+.xyz, .extxyz  extended XYZ, as text
+.traj          ASE's own format, by its writer
+.dcd, .nc      those of CHARMM and NAMD, and of AMBER, by the writers of MDAnalysis
 """
 from __future__ import annotations
 
@@ -12,7 +12,7 @@ from typing import TYPE_CHECKING, Any, Dict, List, Optional, Protocol
 
 from . import arrays, ase_bridge, optional
 from .elements import Replacements, replaced
-from .files import Path, checked_target
+from .files import Path, begin_beside, checked_target, put_in_place
 from .sampling import Progress, checked_stops
 from .snapshots import Snapshot
 from .units import RING, Scale, nano
@@ -20,6 +20,10 @@ from .units import RING, Scale, nano
 if TYPE_CHECKING:
     from .session import Session
 
+BY_TEXT, BY_ASE, BY_MDANALYSIS = (".xyz", ".extxyz"), (".traj",), (".dcd", ".nc")
+ENDINGS = (*BY_TEXT, *BY_ASE, *BY_MDANALYSIS)
+# Other kinds that MDAnalysis writes.
+MADE_OF_A_DCD = (".xtc", ".trr", ".trz")
 PICOSECOND = 1000.0
 KILOJOULE_PER_MOLE = 96.48533212331  # of an electronvolt
 
@@ -56,15 +60,27 @@ def write_trajectory(
 
 def opened(session: "Session", path: Path, every: int, symbols: Optional[Replacements], append: bool) -> Writer:
     """The file of a path, whose ending says its kind. What cannot be written is told before anything is changed."""
-    own = session.symbols()
     ending = os.path.splitext(os.fspath(path))[1].lower()
-    if ending == ".traj":
+    if ending not in ENDINGS:
+        raise ValueError(other_ending(os.fspath(path), ending, session.atoms))
+    own = session.symbols()
+    if ending in BY_ASE:
         species = session.mixture.species if session.mixture else ()
         return AseFile(path, ase_bridge.elements_of(own, species, symbols), append)
     named = own if symbols is None else replaced(own, symbols)
-    if ending in (".dcd", ".nc"):
+    if ending in BY_MDANALYSIS:
         return MdaFile(path, ending, len(own), every, append)
     return XyzFile(path, named, append)
+
+
+def other_ending(path: str, ending: str, atoms: int) -> str:
+    """What is said of a file with another ending."""
+    kind = ending if ending in MADE_OF_A_DCD else MADE_OF_A_DCD[0]
+    line = f"MDAnalysis.Universe.empty({atoms}, trajectory=True).load_new('x.dcd').atoms.write('x{kind}', frames='all')"
+    return (
+        f"{path} ends in none of {', '.join(ENDINGS)}. Write a .dcd, and MDAnalysis makes other kinds of it, such as {kind}: {line}. "
+        "docs/api/steps.md has the lines for a .lammpstrj"
+    )
 
 
 def _in_box(frame: Snapshot, scale: Scale) -> Any:
@@ -141,7 +157,7 @@ class MdaFile:
         self._old: Any = None
         if append and os.path.exists(self._path):
             self._old = self._read(atoms)
-        self._written = self._path if self._old is None else f"{self._path}.{os.getpid()}.part"
+        self._written = self._path
         self._file: Any = None
 
     def _read(self, atoms: int) -> Any:
@@ -164,12 +180,18 @@ class MdaFile:
     def _begun(self, frame: Snapshot) -> Any:
         """The new file, with what is there already."""
         words = {"velocities": True, "forces": True} if self._format == "NC" else self._times(frame)
-        file = self._library.Writer(self._written, self._frame.atoms.n_atoms, format=self._format, **words)
+        if self._old is None:
+            return self._library.Writer(self._path, self._frame.atoms.n_atoms, format=self._format, **words)
+        descriptor, self._written = begin_beside(self._path)
+        os.close(descriptor)
         try:
-            for _ in [] if self._old is None else self._old.trajectory:
-                file.write(self._old)
+            file = self._library.Writer(self._written, self._frame.atoms.n_atoms, format=self._format, **words)
+            with contextlib.ExitStack() as closed_on_error:
+                closed_on_error.callback(file.close)
+                for _ in self._old.trajectory:
+                    file.write(self._old)
+                closed_on_error.pop_all()
         except BaseException:
-            file.close()
             os.unlink(self._written)
             raise
         return file
@@ -196,7 +218,9 @@ class MdaFile:
         if self._file is not None:
             self._file.close()
             if self._written != self._path:
-                os.replace(self._written, self._path)
+                with open(self._written, "rb") as whole:
+                    os.fsync(whole.fileno())
+                put_in_place(self._written, self._path)
 
 
 def _picoseconds(scale: Scale, step: int) -> float:

@@ -234,7 +234,7 @@ class InTheOrderOfSpace(Alone):
 
     def test_trajectories(self) -> None:
         with tempfile.TemporaryDirectory() as folder:
-            paths = [pathlib.Path(folder) / session.name for session in self.pair]
+            paths = [pathlib.Path(folder) / f"{session.name}.xyz" for session in self.pair]
             for session, path in zip(self.pair, paths):
                 session.write_trajectory(path, every=130, frames=3)
             self.assertEqual(*(path.read_text() for path in paths))

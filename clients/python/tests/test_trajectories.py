@@ -4,6 +4,7 @@ The dimer's motion is worked out by hand in test_commands; a ring unit is 2^-24 
 """
 import os
 import pathlib
+import re
 import sys
 import warnings
 from typing import Any, List
@@ -11,7 +12,7 @@ from typing import Any, List
 import pytest
 
 from ljclient import Missing, units
-from support import EXAMPLES, dimer
+from support import EXAMPLES, dimer, present
 
 try:
     import ase.io
@@ -217,10 +218,49 @@ def test_a_library_that_is_missing_is_told_before_anything_is_written(
     assert (path.read_text(), a.step) == ("of before", 0)
 
 
-def test_any_other_ending_is_text(user: Any, tmp_path: pathlib.Path) -> None:
+@pytest.mark.parametrize("name", ["way.xtc", "way.lammpstrj", "way.trr", "way.pdb", "way.xyz.gz", "way.txt", "way"])
+def test_any_other_ending_is_told(user: Any, tmp_path: pathlib.Path, name: str) -> None:
     a = dimer(user)
-    a.write_trajectory(tmp_path / "way", every=1, frames=1)
-    assert (tmp_path / "way").read_text().startswith('2\nLattice="256.0')
+    with pytest.raises(ValueError, match=f"{name} ends in none of .xyz, .extxyz, .traj, .dcd, .nc. Write a .dcd, and MDAnalysis"):
+        a.write_trajectory(tmp_path / name, every=1, frames=3)
+    assert os.listdir(tmp_path) == [] and a.step == 0
+
+
+@with_mda
+@quiet
+@pytest.mark.parametrize("ending", [".xtc", ".trr"])
+def test_the_line_that_is_told_makes_the_other_file(
+    user: Any, tmp_path: pathlib.Path, monkeypatch: pytest.MonkeyPatch, ending: str
+) -> None:
+    a = dimer(user)
+    with pytest.raises(ValueError) as caught:
+        a.write_trajectory(f"way{ending}", every=1, frames=3)
+    a.write_trajectory(tmp_path / "x.dcd", every=1, frames=3)
+    monkeypatch.chdir(tmp_path)
+    eval(present(re.search(r"MDAnalysis\.Universe.*'all'\)", str(caught.value)))[0], {"MDAnalysis": MDAnalysis})
+    made = universe(f"x{ending}", 2).trajectory
+    # An .xtc has nanometres to three decimals.
+    assert len(made) == 3 and abs(made[0].positions - [[0, 0, 0], [1.5, 0, 0]]).max() < 0.01
+
+
+@pytest.mark.parametrize("name", ["way.extxyz", "WAY.XYZ"])
+def test_endings_of_text(user: Any, tmp_path: pathlib.Path, name: str) -> None:
+    dimer(user).write_trajectory(tmp_path / name, every=1, frames=1)
+    assert (tmp_path / name).read_text().startswith('2\nLattice="256.0')
+
+
+@quiet
+@pytest.mark.parametrize("ending", BINARY)
+def test_nobody_knows_the_name_of_a_partial_trajectory(user: Any, tmp_path: pathlib.Path, ending: Any) -> None:
+    a, path = dimer(user), tmp_path / f"way{ending}"
+    a.write_trajectory(path, every=1, frames=2)
+    path.chmod(0o600)
+    (tmp_path / "victim").write_text("mine\n")
+    (tmp_path / f"{path.name}.{os.getpid()}.part").symlink_to("victim")
+    a.advance(1)
+    a.write_trajectory(path, every=1, frames=2, append=True)
+    assert len(read(path, 2)) == 4 and path.stat().st_mode & 0o777 == 0o600
+    assert (tmp_path / "victim").read_text() == "mine\n" and not path.is_symlink()
 
 
 def test_a_trajectory_without_numpy(user: Any, tmp_path: pathlib.Path, monkeypatch: pytest.MonkeyPatch) -> None:
@@ -228,9 +268,9 @@ def test_a_trajectory_without_numpy(user: Any, tmp_path: pathlib.Path, monkeypat
     a = dimer(user)
     for name, unwrap in (("one", False), ("other", True)):
         a.branch(name)
-        a.write_trajectory(tmp_path / name, every=1, frames=3, unwrap=unwrap)
+        a.write_trajectory(tmp_path / f"{name}.extxyz", every=1, frames=3, unwrap=unwrap)
         monkeypatch.setattr("ljclient.arrays.numpy", None)
         a.restore(name)
         a.write_trajectory(tmp_path / f"{name}.xyz", every=1, frames=3, unwrap=unwrap)
         monkeypatch.undo()
-        assert (tmp_path / name).read_text() == (tmp_path / f"{name}.xyz").read_text()
+        assert (tmp_path / f"{name}.extxyz").read_text() == (tmp_path / f"{name}.xyz").read_text()

@@ -22,7 +22,7 @@ with run() as user:
     user.session("argon", edge=21.04, dt=10, **units.ARGON)
 """
 
-WITHOUT_TYPES = "[mypy]\n[mypy-ase.*]\nignore_missing_imports = True\n"
+WITHOUT_TYPES = "[mypy]\n[mypy-ase.*,MDAnalysis.*]\nignore_missing_imports = True\n"
 
 
 def told(folder: Any, *words: Any) -> Tuple[Any, Any]:
