@@ -9,13 +9,13 @@ from typing import Iterator, List, NamedTuple, Optional, Sequence, Tuple
 
 from .names import SYMBOL
 from .order import Place
-from .units import RING, nano
+from .units import RING
 
 MAX_ATOMS = 4096
 MAX_NANO = 10**15
 MIN_EDGE, MAX_EDGE = 10**6, 10**15
 COUNT = re.compile(rb"[0-9]{1,19}\Z")
-NUMBER = re.compile(rb"[+-]?(?:[0-9]+\.?[0-9]*|\.[0-9]+)(?:[eEdD][+-]?[0-9]{1,3})?\Z")
+NUMBER = re.compile(rb"([+-]?)(?=\.?[0-9])([0-9]*)\.?([0-9]*)(?:[eEdD]([+-]?[0-9]{1,3}))?\Z")
 MAX_WORD = 40
 BLANKS = re.compile(rb"[ \t]+")
 
@@ -95,9 +95,14 @@ def _atom(words: Sequence[bytes], edge: int) -> Tuple[str, Place]:
 
 
 def _place(word: bytes, edge: int) -> int:
-    if len(word) > MAX_WORD or not NUMBER.match(word):
+    found = NUMBER.match(word)
+    if found is None or len(word) > MAX_WORD:
         raise ValueError("no decimal word")
-    number = nano(word.decode("ascii"))
-    if abs(number) > MAX_NANO:
+    sign, whole, fraction, power = found.groups()
+    shift = 9 - len(fraction) + int(power or 0)
+    digits = int(whole + fraction)
+    # In 10^-9, halves away from zero.
+    number = digits * 10**shift if shift >= 0 else (2 * digits + 10**-shift) // (2 * 10**-shift)
+    if number > MAX_NANO:
         raise ValueError("beyond a million")
-    return number * RING // edge % RING
+    return (-number if sign == b"-" else number) * RING // edge % RING

@@ -300,7 +300,15 @@ class Loader:
         """The whole state of a session, which is as it was then. Its pending steps are done first."""
         return state_of(self, name)
 
-    def _put(self, state: State, order: Order, watch: EnergyWatch, replace: bool = False, record: Optional[files.Path] = None) -> None:
+    def _put(
+        self,
+        state: State,
+        order: Order,
+        watch: EnergyWatch,
+        replace: bool = False,
+        record: Optional[files.Path] = None,
+        continues: str = "",
+    ) -> None:
         """Has a state be a session in this order, in place of one of its name where that is to be replaced. An interrupt waits until
         this is done."""
 

@@ -48,7 +48,6 @@ class Record(Listener):
     def __init__(self, path: Path, versions: Sequence[str], continues: str = ""):
         self.path = os.fspath(path)
         self.is_loaded = False
-        self.may_be_reloaded = False
         self._is_renewed = False
         self._continues = continues
         self._file = RecordTarget(checked_target(path), self.path)
@@ -76,7 +75,7 @@ class Record(Listener):
         if words[0] in FOLLOWED or answer.refusal == record.NO_SESSION:
             self._follow(words, answer, is_granted)
         self._tell(*record.sent_lines(answer.line, answer.body), *record.reply_lines(answer))
-        if not self.is_loaded and not self.may_be_reloaded:
+        if not self.is_loaded:
             self.close()
 
     def unanswered(self, line: bytes) -> None:
@@ -234,22 +233,6 @@ class Listeners:
         """Whether the record of this session is written to this file."""
         listener = self.by_name.get(name)
         return path is not None and isinstance(listener, Record) and listener.is_of(path)
-
-    @contextlib.contextmanager
-    def reloading(self, name: str) -> Iterator[None]:
-        """While a session is dropped and loaded again as the same one, its record goes on. Without a session it ends."""
-        listener = self.by_name.get(name)
-        if not isinstance(listener, Record):
-            yield
-            return
-        listener.may_be_reloaded = True
-        try:
-            yield
-        finally:
-            listener.may_be_reloaded = False
-            if not listener.is_loaded:
-                listener.close()
-                self.flush()
 
     @contextlib.contextmanager
     def paused(self, name: str) -> Iterator[None]:

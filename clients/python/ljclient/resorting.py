@@ -18,11 +18,13 @@ RESORTED_EACH = 250
 
 def resort(loader: "Loader", name: str) -> None:
     """Sorts the atoms of a session in space at the server. Each number there is given the places of another atom, by tugs, between
-    which the motion is turned back. The session is there all the time, and `known` has its order.
+    which the motion is turned back. The session is there all the time, and `known` has its order. What is read for it is no part of
+    a record.
 
     Raises a refusal of `guards.NO_PLACE`, and nothing is changed, if there is no place for what the session was before.
     """
-    state = loader.state_of(name)
+    with loader.unrecorded(name):
+        state = loader.state_of(name)
     known, old = loader.known(name), loader.known(name).order
     new = replace(old, numbers=sorted_anew(state.places, state.symbols, old))
     doubt = _doubt(state.places, old, new)

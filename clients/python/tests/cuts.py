@@ -5,7 +5,7 @@ from typing import Any, Iterator, List, NamedTuple, Tuple
 from unittest import mock
 
 from keepers import TOKEN as KEPT_TOKEN, Keeper
-from ljclient import ClientError, connect, user as users
+from ljclient import ClientError, connect, transport
 from ljclient.transport import SocketTransport
 from support import SECONDS, TOKEN, Server
 
@@ -59,7 +59,7 @@ def joined(where: Where) -> Any:
 @contextlib.contextmanager
 def cuttable(where: Where) -> Iterator[Any]:
     """The user `ann` over a connection that can be cut."""
-    with mock.patch.object(users, "SocketTransport", Cut):
+    with mock.patch.object(transport, "SocketTransport", Cut):
         user = joined(where)
     try:
         yield user

@@ -13,7 +13,7 @@ import pytest
 
 import support
 from ljclient import ClientError, ConnectionLost, Damaged, NotRecorded, Refused, record_target, refusals, run, user as users
-from record_texts import COMMANDS, DIMER_TEXT, commands, is_the_same, replied, verified, with_checks, without_checks
+from record_texts import COMMANDS, DIMER_TEXT, commands, is_the_same, replied, twisted, verified, with_checks, without_checks
 from support import ARGON, DIMER, EXAMPLES, PROGRAM, SECONDS, TOKEN, TOP, Server
 from support import dimer, interrupted_when, joined, listed, present, process_of
 from terminals import environment

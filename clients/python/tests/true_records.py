@@ -9,7 +9,7 @@ from unittest import mock
 from typing import Any, Callable, Dict, List, Tuple
 
 import support
-from ljclient import ClientError, Refused, refusals, run, user as users, verify
+from ljclient import ClientError, Refused, recording, refusals, run, user as users, verify
 from record_texts import with_checks, without_checks
 from support import PROGRAM, Server, dimer, joined, process_of
 
@@ -51,12 +51,12 @@ def branched(path: Any) -> None:
 
 
 def sorted_in_space(path: Any) -> None:
-    """The session is dropped and loaded as it was, and its record goes on."""
+    """The session is dropped and loaded as it was, and its record goes on, as those of earlier clients did."""
     with run(PROGRAM) as user:
         a = dimer(user, record=path)
         a.advance(3)
         user.ask_all(["SHOW a 0", "SHOW a 1", "REVERSE a", "SHOW a 0", "SHOW a 1", "REVERSE a"])
-        with user._listeners.reloading("a"):
+        with mock.patch.object(recording.Record, "close", lambda record: None):
             user.ask_commands([("DROP a", b""), at_step_3("a")])
         a.advance(1)
         user.ask("DUMP a")
