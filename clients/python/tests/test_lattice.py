@@ -7,7 +7,7 @@ import pytest
 
 from ljclient import Scale, xyz
 from ljclient.view import scenes
-from support import listed
+from support import EXAMPLES, listed
 
 CUBE = 'Lattice="256 0 0 0 256.0 0 0 0 2.56e2"'
 ATOM = "1\n{} step=3\nAr 64 0 128\n"
@@ -29,6 +29,13 @@ def of_kind(kind: Any, text: Any, folder: Any) -> Any:
 def test_the_edge_is_that_of_the_lattice(user: Any, tmp_path: pathlib.Path, kind: Any) -> None:
     a = load(user, of_kind(kind, ATOM.format(CUBE), tmp_path))
     assert (a.edge, listed(a.places())) == (256, [(2**30, 0, 2**31)])
+
+
+@pytest.mark.parametrize("name, edge", [("argon_256", 4 * 5.26), ("argon_4000", 10 * 5.26), ("sodium_chloride", 4 * 5.64)])
+def test_the_crystals_of_the_examples_say_theirs(name: Any, edge: Any) -> None:
+    """So many cells, each as long as `examples/make_crystals` has it."""
+    text = (EXAMPLES / f"{name}.xyz").read_bytes()
+    assert xyz.lattice_edge(("rest", text)) == pytest.approx(edge, rel=1e-12)
 
 
 def test_a_mixture_has_it_too(user: Any) -> None:

@@ -180,9 +180,10 @@ def test_physical_units(user: Any, words: Any) -> None:
         ("edge=21.04 dt=900fs argon", "dt is from"),
     ],
 )
-def test_physical_units_that_are_wrong(user: Any, words: Any, why: Any) -> None:
+def test_physical_units_that_are_wrong(user: Any, tmp_path: pathlib.Path, words: Any, why: Any) -> None:
+    (tmp_path / "no_box.xyz").write_text("1\nargon\nAr 0 0 0\n")
     with pytest.raises(loading.Fault, match=re.escape(why)):
-        present(physical.load_of(f"LOAD a {ARGON} {words}")).perform(user)
+        present(physical.load_of(f"LOAD a {tmp_path}/no_box.xyz {words}")).perform(user)
     assert user.sessions() == []
 
 

@@ -296,6 +296,12 @@ class Told(unittest.TestCase):
         self.assertAlmostEqual(told["scene"]["dt"], 2.000109, places=6)
         self.assertAlmostEqual(told["temperature"], 90, places=3)
 
+    def test_a_file_says_its_edge(self) -> None:
+        """By its Lattice: the same as where the edge is said."""
+        page, said = self.page(EXAMPLES / "argon_256.xyz"), self.page(*ARGON)
+        self.assertEqual(page.first["atoms"], said.first["atoms"])
+        self.assertEqual(len(places_of(page.ask("frame", steps=0))), 256)
+
     def test_several_files(self) -> None:
         page = self.page(*ARGON, EXAMPLES / "argon_4000.xyz")
         self.assertEqual(page.first["scene"]["titles"], ["argon_256.xyz", "argon_4000.xyz"])

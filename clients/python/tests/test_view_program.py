@@ -103,8 +103,8 @@ class Options(unittest.TestCase):
         self.assertIn("none.xyz", self.refused("none.xyz", "--edge", 10))
 
     def test_no_edge(self) -> None:
-        told = self.refused(EXAMPLES / "argon_256.xyz")
-        self.assertRegex(told, r"^view: .*argon_256.xyz: the file says no cubic Lattice: say the edge of the box by --edge")
+        told = self.refused(file_of(self, "1\nof no box\nAr 0 0 0\n", "plain.xyz"))
+        self.assertRegex(told, r"^view: .*plain.xyz: the file says no cubic Lattice: say the edge of the box by --edge")
 
     def test_a_file_that_the_program_refuses(self) -> None:
         path = file_of(self, "2\n\nAr 0 0 0\nAr 1 2\n", "short.xyz")
