@@ -74,10 +74,11 @@ def test_a_release_needs_no_toolchain(tmp_path: Path, program: Program) -> None:
 
 
 def test_the_program_of_any_processor_is_tried(tmp_path: Path, monkeypatch: pytest.MonkeyPatch) -> None:
-    """Where none is named, whatever program another word has chosen."""
-    put('#!/bin/sh\necho "$LJSERVE_CPU $*" >"$0.said"\n', tmp_path / "bin" / "ljserve", mode=0o755)
+    """Where none is named, whatever program other words have chosen."""
+    put('#!/bin/sh\necho "$LJSERVE_CPU $LJSERVE$*" >"$0.said"\n', tmp_path / "bin" / "ljserve", mode=0o755)
     monkeypatch.setattr(programs, "TOP", str(tmp_path))
     monkeypatch.setenv("LJSERVE_CPU", "v3")
+    monkeypatch.setenv("LJSERVE", "/some/where")
     assert programs.program_at(None) == str(tmp_path / "crates" / "ljserve" / "out" / "ljserve")
     assert (tmp_path / "bin" / "ljserve.said").read_text() == "v2 --version\n"
 

@@ -26,8 +26,8 @@ def program_at(word: Optional[str]) -> str:
     """The path of the program of this name, or else of the built one, which is built where it is missing or outdated."""
     if word:
         return os.path.abspath(word)
-    any_processor = {**os.environ, "LJSERVE_CPU": "v2"}
-    subprocess.run([os.path.join(TOP, "bin", "ljserve"), "--version"], stdout=subprocess.DEVNULL, env=any_processor, check=True)
+    own = {**{name: word for name, word in os.environ.items() if name != "LJSERVE"}, "LJSERVE_CPU": "v2"}
+    subprocess.run([os.path.join(TOP, "bin", "ljserve"), "--version"], stdout=subprocess.DEVNULL, env=own, check=True)
     return os.path.join(TOP, "crates", "ljserve", "out", "ljserve")
 
 

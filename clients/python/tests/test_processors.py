@@ -139,7 +139,67 @@ def test_the_kit_builds_it_where_it_cannot_be_called(repository: Any, compiles: 
     assert begun(repository / "bin" / "ljserve", "run", path=path, LJSERVE_CPU=cpu)[:2] == ends
 
 
-@pytest.mark.parametrize("source", ["bin/ljserve", "packaging/ljserve/ljserve"])
+SOURCES = ["bin/ljserve", "packaging/ljserve/ljserve"]
+OTHER = """#!/bin/sh
+printf '%s\\n' "other" $$ "${{LJSERVE-none is named}}" "$@"
+{then}
+"""
+
+
+def launcher(folder: pathlib.Path, source: str) -> pathlib.Path:
+    """Such a launcher over programs that are there, with an empty toolchain beside it."""
+    put(folder / "bin" / "ljserve", (TOP / source).read_text())
+    for program in ("crates/ljserve/out/ljserve", "libexec/ljserve-v2", "libexec/ljserve-v3"):
+        put(folder / program, stand_in("own"))
+    for name in ("src", "specs"):
+        (folder / "crates" / "ljserve" / name).mkdir()
+    (folder / "crates.txt").touch()
+    os.utime(folder / "crates.txt", (0, 0))
+    return folder / "bin" / "ljserve"
+
+
+@pytest.mark.parametrize("source", SOURCES)
+@pytest.mark.parametrize("word", ["--version", "run"])
+def test_another_program_that_is_named(tmp_path: pathlib.Path, source: str, word: str) -> None:
+    """It takes the place of the script, with the same words. A program that is there is not begun, and none is built."""
+    put(tmp_path / "other", OTHER.format(then=""))
+    begins, path = launcher(tmp_path, source), f"{tmp_path}:{os.environ['PATH']}"
+    for named in (str(tmp_path / "other"), "other"):
+        code, out, err, process = begun(begins, word, "a b", path=path, LJSERVE=named, LJSERVE_CPU="v4")
+        assert (code, out, err) == (0, f"other\n{process}\nnone is named\n{word}\na b\n", "")
+
+
+@pytest.mark.parametrize("source", SOURCES)
+@pytest.mark.parametrize("named", ["", "bin/ljserve", "./link", "bin/../link", "ljserve"])
+def test_it_is_named_itself(tmp_path: pathlib.Path, monkeypatch: pytest.MonkeyPatch, source: str, named: str) -> None:
+    """By a path, by a link to it, or by its name on the PATH. Then it is as if none were named."""
+    path = launcher(tmp_path, source)
+    (tmp_path / "link").symlink_to(path)
+    monkeypatch.chdir(tmp_path)
+    for begins in (path, tmp_path / "link"):
+        code, out, err, process = begun(begins, "run", path=f"{path.parent}:{os.environ['PATH']}", LJSERVE=named)
+        assert (code, out, err) == (0, f"own\n{process}\nrun\n", "")
+
+
+@pytest.mark.parametrize("source", SOURCES)
+def test_a_named_program_that_begins_the_launcher(tmp_path: pathlib.Path, source: str) -> None:
+    """It comes to the launcher's own program, and not to itself again."""
+    path = launcher(tmp_path, source)
+    put(tmp_path / "other", OTHER.format(then=f'exec "{path}" "$@"'))
+    code, out, err, process = begun(path, "run", LJSERVE=str(tmp_path / "other"))
+    assert (code, out, err) == (0, f"other\n{process}\nnone is named\nrun\nown\n{process}\nrun\n", "")
+
+
+@pytest.mark.parametrize("source", SOURCES)
+def test_what_is_named_is_no_program(tmp_path: pathlib.Path, source: str) -> None:
+    path = launcher(tmp_path, source)
+    (tmp_path / "text").touch()
+    for named in ("none/here", str(tmp_path), str(tmp_path / "text"), "cd"):
+        code, out, err, _ = begun(path, "run", LJSERVE=named)
+        assert (code, out, err) == (2, "", f"ljserve: LJSERVE is '{named}', which is no program\n")
+
+
+@pytest.mark.parametrize("source", SOURCES)
 def test_a_word_that_says_neither(tmp_path: pathlib.Path, source: Any) -> None:
     put(tmp_path / "bin" / "ljserve", (TOP / source).read_text())
     for said in ("v4", "x86-64-v3", " v3"):
