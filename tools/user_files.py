@@ -216,11 +216,16 @@ def warn_of_output(out: TextIO) -> None:
 
 
 class Checked:
-    """The users of a file, line by line, and what is wrong with each line. Tokens are not told."""
+    """The users of a file, line by line, and what is wrong with each line. Tokens are not told.
 
-    def __init__(self) -> None:
+    With `apart` a token of two users is a fault too, which no server refuses.
+    """
+
+    def __init__(self, apart: bool = False) -> None:
         self.lines: Dict[bytes, int] = {}
         self.faults: List[str] = []
+        self._apart = apart
+        self._tokens: Dict[bytes, int] = {}
 
     def read(self, text: bytes) -> None:
         """Reads the lines of a file."""
@@ -239,7 +244,7 @@ class Checked:
         words = [word for word in re.split(rb"[ \t]+", line) if word]
         if line.startswith(b"#") or not words:
             return None
-        return cause_of_words(words) or self.cause_of_name(number, words[0])
+        return cause_of_words(words) or self.cause_of_name(number, words[0]) or self.cause_of_token(number, words[1])
 
     def cause_of_name(self, number: int, name: bytes) -> Optional[str]:
         """Why there is no place for a user of this name, if there is none."""
@@ -249,6 +254,11 @@ class Checked:
             return f"there are {MAX_USERS} users already, the most that a server has"
         self.lines[name] = number
         return None
+
+    def cause_of_token(self, number: int, token: bytes) -> Optional[str]:
+        """Why this token may not be that of one more user, if it may not."""
+        line = self._tokens.setdefault(token, number)
+        return f"the token is that of line {line}, and each user has its own" if self._apart and line != number else None
 
 
 def cause_of_words(words: List[bytes]) -> Optional[str]:
@@ -293,7 +303,7 @@ def check(path: str, out: TextIO) -> int:
             text, mode = file.read(), os.fstat(file.fileno()).st_mode
     except OSError as error:
         raise Fault(f"cannot read {path}: {error.strerror}") from error
-    checked = Checked()
+    checked = Checked(apart=True)
     checked.read(text)
     for fault in checked.faults:
         print(f"{path}: {fault}", file=out)

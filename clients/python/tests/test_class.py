@@ -177,6 +177,14 @@ def test_a_bad_file_of_users_begins_nothing(tmp_path: pathlib.Path) -> None:
     assert err == "class: mine is no file of users, so nothing has begun\n"
 
 
+def test_a_token_of_two_users_begins_nothing(tmp_path: pathlib.Path) -> None:
+    (tmp_path / "mine").touch(0o600)
+    (tmp_path / "mine").write_text(GOOD + GOOD.replace("ann", "ben"))
+    status, out, err = told(tmp_path, "--users", "mine", *HERE)
+    assert (status, out) == (1, "mine: line 2: the token is that of line 1, and each user has its own\n")
+    assert err == "class: mine is no file of users, so nothing has begun\n"
+
+
 def test_a_port_that_is_taken_leaves_nothing(tmp_path: pathlib.Path) -> None:
     with socket.create_server(("127.0.0.1", 0)) as taken:
         address = f"127.0.0.1:{taken.getsockname()[1]}"

@@ -20,6 +20,11 @@ exec(compile(USERS.read_text(), str(USERS), "exec"), TOOL)
 GOOD = f"ann {TOKEN} 8 16384 16\n"
 
 
+def many(count: int) -> str:
+    """Lines of so many users, each with a token of its own."""
+    return "".join(f"u{number} {number:032} 8 16384 16\n" for number in range(count))
+
+
 def told(*words: Any) -> Tuple[Any, Any, Any]:
     """The status of `users` with these words, and what it writes."""
     out, err = io.StringIO(), io.StringIO()
@@ -123,7 +128,7 @@ class Checks(unittest.TestCase):
         (f"ann {TOKEN} 8 16384 257\n", 1, "257 branches are more than 256"),
         (f"ann {TOKEN} -1 16384 16\n", 1, "the number of sessions is no whole number"),
         (f"ann {TOKEN} 8 {'0' * 20} 16\n", 1, "the number of atoms is no whole number"),
-        ("".join(GOOD.replace("ann", f"u{number}") for number in range(65)), 65, "there are 64 users already"),
+        (many(65), 65, "there are 64 users already"),
         ("", 1, "there is no user"),
         ("# class\n\n", 3, "there is no user"),
         ("# class", 2, "there is no user"),
@@ -144,12 +149,19 @@ class Checks(unittest.TestCase):
             status, out, _ = told("--check", path)
         self.assertEqual((status, re.findall(r"line (\d+)", out)), (1, ["1", "4"]))
 
+    def test_a_token_of_two_users(self) -> None:
+        """Each of both would come in as the other. The program takes such a file."""
+        with file_of(f"{GOOD}# a comment\nben {'b' * 32} 1 1 1\ncleo {TOKEN} 8 16384 16\ndan {TOKEN} 1 1 1\n") as path:
+            why = "the token is that of line 1, and each user has its own"
+            self.assertEqual(told("--check", path), (1, f"{path}: line 4: {why}\n{path}: line 5: {why}\n", ""))
+            self.assertEqual(self.begins(path), (1, "ljserve: cannot listen\n"))
+
     def test_good_files(self) -> None:
         for text, count in [
             (GOOD, "1 user"),
             (GOOD.rstrip() + "\n\n# end", "1 user"),
             (f"\tann  {TOKEN}\t0 0 0 ", "1 user"),
-            ("".join(GOOD.replace("ann", f"u{number}") for number in range(64)), "64 users"),
+            (many(64), "64 users"),
             (told("9")[1], "9 users"),
             ((EXAMPLES / "users").read_text(), "2 users"),
             (f"ann {TOKEN} 0000000000000000064 65536 256\n", "1 user"),
