@@ -54,13 +54,14 @@ def of_connections(totals: Totals) -> Iterator[Metric]:
     yield "ljserve_open_connections", "gauge", "Connections that are open here, by state; those that wait have said HELLO.", states
     yield "ljserve_connections_total", "counter", "Connections that were passed to the server.", [({}, totals.passed)]
     yield "ljserve_denied_total", "counter", "Connections that the server denied.", [({}, totals.denied)]
+    yield "ljserve_closed_total", "counter", "Connections that were closed here: too many of a user or an address.", [({}, totals.closed)]
 
 
 def of_server(server: Optional[Server], totals: Totals, left: Optional[int]) -> Iterator[Metric]:
-    """What the server has. Where /proc tells nothing of it, its places are those of the connections that are open here."""
+    """What the server has. Where /proc tells nothing of it, its places are those of the connections that are passed on to it."""
     if server:
         yield "ljserve_up", "gauge", "Whether the server listens.", [({}, int(server.listens))]
-    taken, gone = (server.taken, server.gone) if server else (sum(totals.states.values()), totals.gone)
+    taken, gone = (server.taken, server.gone) if server else (sum(totals.states.values()) - totals.states.get("new", 0), totals.gone)
     yield "ljserve_places", "gauge", "How many connections the server has room for.", [({}, PLACES)]
     yield "ljserve_places_taken", "gauge", "Connections that the server has open.", [({}, taken)]
     yield "ljserve_gone_connections", "gauge", "Connections that the server has open whose client has ended its side.", [({}, gone)]

@@ -296,6 +296,21 @@ def counted(count: int, what: str) -> str:
     return f"{count} {what}" + ("" if count == 1 else "s")
 
 
+def rows_of(path: str) -> List[List[bytes]]:
+    """The words of each user of a file. Raises Fault if it cannot be read or something is wrong with it."""
+    try:
+        with open(path, "rb") as file:
+            text = file.read()
+    except OSError as error:
+        raise Fault(f"cannot read {path}: {error.strerror}") from error
+    checked = Checked()
+    checked.read(text)
+    if checked.faults:
+        raise Fault(f"{path}: {checked.faults[0]}")
+    rows = [re.split(rb"[ \t]+", line.strip(b" \t")) for line in text.split(b"\n") if not line.startswith(b"#")]
+    return [row for row in rows if row[0]]
+
+
 def check(path: str, out: TextIO) -> int:
     """Prints what is wrong with a file of users, or how many it has, and returns the exit status."""
     try:

@@ -8,8 +8,9 @@ import threading
 import time
 from collections import Counter, defaultdict
 from dataclasses import dataclass
-from typing import Callable, Dict, List, Optional, Sequence, TextIO, Tuple
+from typing import Dict, List, Optional, Sequence, TextIO, Tuple
 
+from admission import Account, Closings, Limits, Whose, close_unanswered, first_bytes
 from event_log import EventLog
 from proxy_header import source_of
 
@@ -28,6 +29,8 @@ MORE_LINES = re.compile(rb"OK (?:DUMP|LIST)(?: [A-Za-z0-9_-]{1,16})?(?: -?[0-9]+
 CAME_TO = re.compile(rb"OK (ADVANCE|START|REVERSE|RESTORE) (\S{1,16})(?: \S{1,16})? (-?[0-9]{1,13})\Z")
 BEGAN_OR_ENDED = re.compile(rb"OK (LOAD|LOADMIX|DROP) (\S{1,16})(?: |\Z)")
 COUNTED = (b"ADVANCE", b"START")
+# The states of a connection that keeps a place of the server until its turn comes: also of one whose client is gone.
+WAITING = ("waits", "gone")
 # How the words of both begin, so that a thousand lines of SHOW are passed over at once.
 STEPPING = {b"ADVA", b"STAR", b"REVE", b"REST", b"LOAD", b"DROP"}
 Address = Tuple[str, int]
@@ -46,10 +49,16 @@ class Connection:
         self.steps = 0
         self.refusal = ""
         self.is_gone = False
+        self.account: Optional[Account] = None
         self._sessions = defaultdict(dict) if sessions is None else sessions
         self._first_line: Optional[bytes] = b""
         self._partial = b""
         self._more = 0
+
+    @property
+    def host(self) -> str:
+        """The address that it comes from, without the port."""
+        return self.origin.rpartition(":")[0]
 
     def hear_client(self, data: bytes) -> None:
         """Takes the name out of a client's first line."""
@@ -101,6 +110,13 @@ class Connection:
             if found[1] == b"DROP":
                 del self._sessions[self.user][found[2]]
 
+    def leave(self) -> bool:
+        """Notes that its client is gone. Returns whether it waits, so that the server has it until its turn comes."""
+        self.is_gone = True
+        if self.state == "waits":
+            self.state = "gone"
+        return self.state == "gone"
+
     def state_at_end(self) -> str:
         """What it is when it has ended, which tells whether its user was in."""
         return {"in": "ended", "denied": "denied"}.get(self.state, "not in")
@@ -136,17 +152,22 @@ class Totals:
     states: Dict[str, int]
     gone: int
     passed: int
+    closed: int
     denied: int
     commands: Dict[str, int]
     steps: Dict[str, int]
 
 
 class Board:
-    """All connections, and what is shown of them: a log, or on a terminal a screen that is drawn anew."""
+    """All connections, how many there may be, and what is shown of them: a log, or on a terminal a screen that is drawn anew."""
 
-    def __init__(self, out: Optional[TextIO], log: Optional[EventLog] = None):
+    def __init__(self, out: Optional[TextIO], log: Optional[EventLog] = None, address: str = "", limits: Limits = Limits()):
+        """`address` is where users connect to: it stands in the first line of the screen."""
         self._out = out
         self._log = log
+        self._address = address
+        self._limits = limits
+        self._closings = Closings()
         self._is_screen = out is not None and out.isatty()
         self._open: List[Connection] = []
         self._drawn = 0
@@ -182,18 +203,43 @@ class Board:
                     steps[each.user] += each.steps
             states = Counter(each.state for each in self._open)
             denied = self._denied + states["denied"]
-            return Totals(states, sum(each.is_gone for each in self._open), self._passed, denied, commands, steps)
+            gone = sum(each.is_gone for each in self._open)
+            return Totals(states, gone, self._passed, self._closings.total, denied, commands, steps)
 
     def close(self, text: str) -> None:
         """Writes the last lines: those of open connections, which end now, and a text."""
         with self._lock:
-            lines = [*(each.text(each.state_at_end()) for each in self._open), text]
+            closed = [each.text() for each in self._closings.counts()]
+            lines = [*closed, *(each.text(each.state_at_end()) for each in self._open), text]
             self._write(self._erased() + "".join(f"{clock(time.time())}  {line}\n" for line in lines))
             self._out = None
 
     def begins(self, connection: Connection) -> None:
         with self._lock:
             self._open.append(connection)
+
+    def admits(self, connection: Connection) -> bool:
+        """Has a connection begin, unless there are too many of its address that are not in: then it is to be closed."""
+        with self._lock:
+            same = [each for each in self._open if each.host == connection.host and each.state != "in"]
+            if len(same) >= self._limits.of_an_address:
+                self._closings.add(Whose(host=connection.host))
+                return False
+            self._open.append(connection)
+            return True
+
+    def lets_wait(self, connection: Connection, first: bytes) -> bool:
+        """Hears the first line of a connection, unless too many of its user wait: then it is to be closed, and is none any more."""
+        account = self._limits.account_of(first)
+        with self._lock:
+            same = [each for each in self._open if account and each.account == account and each.state in WAITING]
+            if account and len(same) >= self._limits.of_a_user:
+                self._closings.add(Whose(user=account[0].decode()))
+                self._open.remove(connection)
+                return False
+            connection.account = account
+            connection.hear_client(first)
+            return True
 
     def is_passed(self) -> None:
         """Notes that the server has a connection more."""
@@ -222,11 +268,21 @@ class Board:
             self._log.note(event, **known)
 
     def draw_on(self) -> None:
-        """Draws the screen anew for as long as the program runs."""
-        while self._is_screen:
-            with self._lock:
-                self._write(self._table())
+        """Tells how many connections were closed, and draws the screen anew, for as long as the program runs."""
+        while True:
+            self.tell_closed()
+            if self._is_screen:
+                with self._lock:
+                    self._write(self._table())
             time.sleep(SECONDS_OF_A_SCREEN)
+
+    def tell_closed(self) -> None:
+        """Tells of whom how many connections were closed within the ten seconds that are over."""
+        with self._lock:
+            ended = self._closings.take_ended()
+        for each in ended:
+            self.says(each.text())
+            self.notes("closed", **{"user": each.whose.user, "from": each.whose.host}, count=each.count, seconds=each.seconds)
 
     def _erased(self) -> str:
         """What takes the lines of open connections away."""
@@ -237,7 +293,8 @@ class Board:
         """The lines of open connections in place of those that were drawn before: as many as the terminal has room for."""
         width, height = shutil.get_terminal_size()
         erased = self._erased()
-        rows = [f"{len(self._open)} open", *(each.text() for each in self._open)]
+        closed = [each.text() for each in self._closings.counts()]
+        rows = [f"{self._address}  {len(self._open)} open".lstrip(), *closed, *(each.text() for each in self._open)]
         if len(rows) > height - 1:
             rows = [*rows[: height - 2], f".. and {len(rows) - height + 2} more"]
         self._drawn = len(rows)
@@ -252,17 +309,36 @@ class Board:
             self._out.flush()
 
 
-def carry(client: socket.socket, server: Address, connection: Connection, board: Board) -> None:
-    """Passes on what a connection carries until both directions have ended, or one of them is broken."""
-    board.begins(connection)
+def serve(client: socket.socket, connection: Connection, server: Address, board: Board) -> None:
+    """Passes on what a connection carries, from its first line on. One whose first line does not come in time, or of whose user too
+    many wait, is closed without a byte, and the server never sees it."""
+    first = b""
+    try:
+        first = first_bytes(client)
+    except OSError as error:
+        connection.refusal = "no first line within 10 seconds" if isinstance(error, socket.timeout) else ""
+    if first and not board.lets_wait(connection, first):
+        close_unanswered(client)
+    elif first:
+        carry(client, server, connection, board, first)
+    else:
+        close_unanswered(client)
+        board.ends(connection)
+
+
+def carry(client: socket.socket, server: Address, connection: Connection, board: Board, first: bytes) -> None:
+    """Passes on what a connection carries, the first bytes of its client and the rest, until both directions have ended, or one of
+    them is broken."""
     try:
         with client, socket.create_connection(server, SECONDS_TO_CONNECT) as there:
             board.is_passed()
             there.settimeout(None)
             there.setsockopt(socket.IPPROTO_TCP, socket.TCP_NODELAY, 1)
-            up = threading.Thread(target=carry_up, args=(client, there, connection), daemon=True)
+            up = threading.Thread(target=carry_up, args=(client, there, connection, first), daemon=True)
             up.start()
             carry_down(there, client, connection, board)
+            # The server is done with it, and would read on for a second.
+            shut(there, socket.SHUT_WR)
             up.join(SECONDS_AFTER_END)
             shut(client, socket.SHUT_RDWR)
             shut(there, socket.SHUT_RDWR)
@@ -273,17 +349,18 @@ def carry(client: socket.socket, server: Address, connection: Connection, board:
         board.ends(connection)
 
 
-def carry_up(client: socket.socket, there: socket.socket, connection: Connection) -> None:
-    """Passes on what a client sends. After a server that takes no more, the rest is dropped, so that the client still gets the
-    replies; a client that is gone is told to the server."""
+def carry_up(client: socket.socket, there: socket.socket, connection: Connection, data: bytes) -> None:
+    """Passes on what a client has sent and sends. After a server that takes no more, the rest is dropped, so that the client still
+    gets the replies; a client that is gone is told to the server. If it waited, it is waited for until the server lets go of it."""
     try:
-        while data := client.recv(PIECE):
-            connection.hear_client(data)
+        while data:
             if not sent(there, data):
                 while client.recv(PIECE):
                     pass
+            data = client.recv(PIECE)
+            connection.hear_client(data)
     except OSError:
-        shut(there, socket.SHUT_RDWR)
+        shut(there, socket.SHUT_WR if connection.leave() else socket.SHUT_RDWR)
     connection.is_gone = True
     shut(there, socket.SHUT_WR)
 
@@ -318,14 +395,44 @@ def shut(stream: socket.socket, how: int) -> None:
 def pass_on(listener: socket.socket, server: Address, board: Board, has_header: bool = False) -> None:
     """Passes all connections on to a server, for as long as the program runs. With a header each begins with one of PROXY."""
     threading.Thread(target=board.draw_on, daemon=True).start()
+    accept = accept_behind_header if has_header else accept_at_once
+    while True:
+        try:
+            client, address = listener.accept()
+        except OSError:
+            time.sleep(0.1)
+            continue
+        try:
+            prepare(client)
+            accept(client, Connection(written(address), board.sessions), server, board)
+        except (OSError, RuntimeError):
+            client.close()
 
-    def serve(client: socket.socket, origin: str) -> None:
-        connection = Connection(origin, board.sessions)
-        if has_header and not takes_header(client, connection, board):
+
+def accept_at_once(client: socket.socket, connection: Connection, server: Address, board: Board) -> None:
+    """Has a thread serve a connection, if it is admitted: one that is closed costs none. Raises RuntimeError if there is no thread."""
+    if not board.admits(connection):
+        close_unanswered(client)
+        return
+    try:
+        threading.Thread(target=serve, args=(client, connection, server, board), daemon=True).start()
+    except RuntimeError:
+        board.ends(connection)
+        raise
+
+
+def accept_behind_header(client: socket.socket, connection: Connection, server: Address, board: Board) -> None:
+    """The same of a connection whose address stands in its header, for which the thread waits."""
+
+    def serve_if_admitted() -> None:
+        if not takes_header(client, connection, board):
             return
-        carry(client, server, connection, board)
+        if board.admits(connection):
+            serve(client, connection, server, board)
+        else:
+            close_unanswered(client)
 
-    accept_all(listener, serve)
+    threading.Thread(target=serve_if_admitted, daemon=True).start()
 
 
 def takes_header(client: socket.socket, connection: Connection, board: Board) -> bool:
@@ -339,21 +446,6 @@ def takes_header(client: socket.socket, connection: Connection, board: Board) ->
         board.ends(connection)
         return False
     return True
-
-
-def accept_all(listener: socket.socket, serve: Callable[[socket.socket, str], None]) -> None:
-    """Accepts connections, each of which has a thread."""
-    while True:
-        try:
-            client, address = listener.accept()
-        except OSError:
-            time.sleep(0.1)
-            continue
-        try:
-            prepare(client)
-            threading.Thread(target=serve, args=(client, written(address)), daemon=True).start()
-        except (OSError, RuntimeError):
-            client.close()
 
 
 def prepare(client: socket.socket) -> None:

@@ -501,7 +501,7 @@ BLOCKS = {
         "apt-get install python3": first_server,
         "apt-get install haproxy": servers_behind_haproxy,
         "tools/keep 127.0.0.1": "clients/python/tests/test_keep.py runs it, at ports that are free",
-        "3 open": "clients/python/tests/test_watch.py compares such lines, whose times and addresses differ",
+        "0.0.0.0:4000  3 open": "clients/python/tests/test_watch.py compares such lines, whose times and addresses differ",
         "tools/watch --metrics": "clients/python/tests/test_watch_metrics.py runs it, at ports that are free",
         "apt install ./": "clients/python/tests/test_debian_packages.py installs both, in a root of its own",
         "cat /etc/ljserve/users": "clients/python/tests/test_debian_packages.py reads the token there, and lets the prompt read it",

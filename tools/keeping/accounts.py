@@ -1,12 +1,11 @@
 """Who may come in: the users of a file, the first line of a connection, and what a server is handed of the users."""
 import hmac
 import pathlib
-import re
 import secrets
 from typing import Dict, NamedTuple, Optional
 
 from keeping.items import MAX_LINE, words_of
-from user_files import Checked, Fault
+from user_files import rows_of
 
 DENIED = b"ERR 01 DENIED\n"
 
@@ -21,16 +20,7 @@ Accounts = Dict[str, Account]
 
 def accounts_at(path: pathlib.Path) -> Accounts:
     """The users of a file. Raises Fault if it cannot be read or something is wrong with it."""
-    try:
-        text = path.read_bytes()
-    except OSError as error:
-        raise Fault(f"cannot read {path}: {error.strerror}") from error
-    checked = Checked()
-    checked.read(text)
-    if checked.faults:
-        raise Fault(f"{path}: {checked.faults[0]}")
-    rows = [re.split(rb"[ \t]+", line.strip(b" \t")) for line in text.split(b"\n") if not line.startswith(b"#")]
-    return {row[0].decode(): Account(row[1], b" ".join(row[2:]).decode()) for row in rows if row[0]}
+    return {row[0].decode(): Account(row[1], b" ".join(row[2:]).decode()) for row in rows_of(str(path))}
 
 
 def user_of(line: bytes, accounts: Accounts) -> Optional[str]:

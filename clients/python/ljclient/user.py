@@ -447,7 +447,7 @@ def _greet(wire: Wire, name: str, token: str) -> None:
         causes = f"is another connection of {name} open? or are all --connections of the server used up?"
         raise TimedOut(f"{error} ({causes})") from error
     except ConnectionLost as error:
-        causes = "has the server no place for more connections? or are all its --connections used up?"
+        causes = f"do many connections of {name} wait? has the server no place for more connections? or are all its --connections used up?"
         raise ConnectionLost(f"{error} ({causes} or does it want tls=True or --tls?)") from error
     except BadReply as error:
         raise BadReply(f"{error} (is it another kind of server? or does it want tls=True or --tls?)") from error

@@ -1,4 +1,5 @@
 """`tools/class` begins the server of a class, makes its users, and shows who is in until it is ended."""
+import contextlib
 import os
 import pathlib
 import re
@@ -22,6 +23,7 @@ CLASS = [sys.executable, str(TOP / "tools" / "class")]
 HERE = ["--listen", "127.0.0.1:0", "--workers", "1"]
 ENVIRONMENT: Dict[str, Any] = {**os.environ, "LJSERVE": PROGRAM, "PYTHONDONTWRITEBYTECODE": "1"}
 GOOD = f"ann {TOKEN} 8 16384 16\n"
+OTHER_TOKEN = "b" * 32
 ENDED = "the server has ended, and all sessions with it\n"
 
 
@@ -131,8 +133,8 @@ def test_a_server_that_ends_by_itself_is_told(begin: Any) -> None:
 
 
 def test_ctrl_c_ends_it_where_nobody_is_in(terminal: Any) -> None:
-    terminal.until("students reach you at [^\n]*\n")
-    terminal.until("0 open\n")
+    port = int(present(re.search(r"(\d+);", terminal.until("students reach you at [^\n]*\n")))[1])
+    terminal.until(rf"127\.0\.0\.1:{port}  0 open\n")
     terminal.interrupt()
     status, shown = terminal.ended()
     assert status == 0 and shown.endswith(ENDED)
@@ -149,6 +151,28 @@ def test_ctrl_c_is_pressed_twice_where_users_are_in(terminal: Any) -> None:
         status, shown = terminal.ended()
     assert status == 0 and shown.endswith(ENDED)
     assert len(re.findall(r"  ended  ann  .*?  3 commands\n", shown)) == 1
+
+
+def test_a_flood_of_one_student_shuts_nobody_out(tmp_path: pathlib.Path) -> None:
+    """More than the server has places for. Of those who wait each has its own, and the others are closed."""
+    (tmp_path / "users").touch(0o600)
+    (tmp_path / "users").write_text(GOOD + f"ben {OTHER_TOKEN} 8 16384 16\n")
+    words = [*CLASS, "--users", "users", *HERE, "--of-an-address", "100"]
+    with contextlib.closing(Terminal(words, ENVIRONMENT, cwd=tmp_path)) as begun, contextlib.ExitStack() as flood:
+        port = int(present(re.search(r"(\d+);", begun.until(r"students reach you at 127\.0\.0\.1:\d+;")))[1])
+        ann = flood.enter_context(connect("127.0.0.1", port, "ann", TOKEN))
+        for _ in range(70):
+            flood.enter_context(socket.create_connection(("127.0.0.1", port), SECONDS)).sendall(f"HELLO ann {TOKEN}\n".encode())
+        begun.until(rf"\n127\.0\.0\.1:{port}  9 open\nann: 62 closed in \d+ s\nin +ann ")
+        with connect("127.0.0.1", port, "ben", OTHER_TOKEN) as ben:
+            assert (dimer(ben).advance(2), dimer(ann).advance(2)) == (2, 2)
+            begun.until(rf"\n127\.0\.0\.1:{port}  10 open\n")
+        begun.until(r"  ended +ben ")
+        begun.interrupt()
+        begun.until("1 user is in")
+        begun.interrupt()
+        status, shown = begun.ended()
+    assert status == 0 and shown.endswith(ENDED)
 
 
 def test_users_that_there_are_stay(tmp_path: pathlib.Path, begin: Any) -> None:
@@ -221,6 +245,7 @@ def test_a_program_that_ends_at_once_is_told(tmp_path: pathlib.Path) -> None:
         (["2", "--listen", "4000"], "4000 is no HOST:PORT"),
         (["2", "--address", "a b"], "--address is a host without a port"),
         (["2", "--quota", "65", "1", "1"], "0 to 64 sessions"),
+        (["2", "--of-an-address", "0"], "--of-an-address is a whole number from 1 on, not 0"),
     ],
 )
 def test_words_that_say_no_class(tmp_path: pathlib.Path, words: Any, why: Any) -> None:

@@ -24,7 +24,7 @@ class Watcher:
     """`watch` on a free port, in front of a server, with options."""
 
     def __init__(self, port: Any, *options: Any) -> None:
-        words = [*WATCH, *options, "127.0.0.1:0", f"127.0.0.1:{port}"]
+        words = [*WATCH, *map(str, options), "127.0.0.1:0", f"127.0.0.1:{port}"]
         self.child = subprocess.Popen(words, stdin=subprocess.DEVNULL, stdout=subprocess.PIPE, text=True)
         self.port = int(present(re.search(r"listens on 127\.0\.0\.1:(\d+), for", present(self.child.stdout).readline()))[1])
 
@@ -94,10 +94,12 @@ class Bytes(unittest.TestCase):
         told, size = [], 40_000_000
 
         def talk(connection: Any, stop: Any) -> None:
+            read_line(connection)
             connection.sendall(bytes(size))
             told.append("all is sent")
 
         with peer(talk) as port, Watcher(port) as watcher, watcher.connected() as stream:
+            stream.sendall(b"LIST\n")
             time.sleep(0.5)
             self.assertEqual(told, [])
             self.assertEqual(len(read_all(stream)), size)
@@ -108,7 +110,7 @@ class Bytes(unittest.TestCase):
             with connection:
                 connection.sendall(read_all(connection)[::-1])
 
-        with many_peers(talk) as port, Watcher(port) as watcher, contextlib.ExitStack() as streams:
+        with many_peers(talk) as port, Watcher(port, "--of-an-address", 200) as watcher, contextlib.ExitStack() as streams:
             opened = [streams.enter_context(watcher.connected()) for _ in range(200)]
             for number, stream in enumerate(opened):
                 stream.sendall(b"%d" % number * 1000)
@@ -147,8 +149,10 @@ class Bytes(unittest.TestCase):
 
     def test_a_server_that_is_gone(self) -> None:
         with peer(lambda connection, stop: reset(connection)) as port, Watcher(port) as watcher, watcher.connected() as stream:
+            stream.sendall(b"LIST\n")
             self.assertEqual(stream.recv(1), b"")
         with Watcher(port) as watcher, watcher.connected() as stream:
+            stream.sendall(b"LIST\n")
             self.assertEqual(stream.recv(1), b"")
             self.assertIn("the server cannot be reached", watcher.lines(1)[0])
 
@@ -205,7 +209,7 @@ class Lines(unittest.TestCase):
         terminal = Terminal(words)
         self.addCleanup(terminal.close)
         port = int(present(re.search(r":(\d+), for", terminal.until(r"listens on 127\.0\.0\.1:\d+, for")))[1])
-        terminal.until("0 open")
+        terminal.until(rf"\n127\.0\.0\.1:{port}  0 open\n")
         with connect("127.0.0.1", port, "ann", TOKEN):
             terminal.until(r"1 open\nin +ann +127\.0\.0\.1:\d+ +since [0-9:]+ +0 commands\n")
             with socket.create_connection(("127.0.0.1", port), SECONDS) as second:

@@ -2,12 +2,16 @@
 import contextlib
 import re
 import socket
+import sys
 from typing import Any, Iterator
 
 import pytest
 
 from support import SECONDS, TOKEN, TOP, Server, peer, present, read_line
 from terminals import Terminal
+
+sys.path.append(str(TOP / "tools"))
+import watching  # noqa: E402
 
 WATCH = str(TOP / "tools" / "watch")
 
@@ -41,22 +45,16 @@ def test_denied_while_and_after(line: Any, name: Any) -> None:
         stream.sendall(line.encode())
         terminal.until(rf"1 open\ndenied {name} +127\.0\.0\.1:\d+ [^\n]*  ERR 01 DENIED\n")
         stream.close()
-        terminal.until(rf"denied {name} [^\n]*  ERR 01 DENIED\n0 open\n")
+        terminal.until(rf"denied {name} [^\n]*  ERR 01 DENIED\n127\.0\.0\.1:\d+  0 open\n")
 
 
 def test_denied_before_its_first_line_is_whole() -> None:
     """What a client sends after that is no second HELLO."""
-
-    def talk(connection: Any, stop: Any) -> None:
-        connection.sendall(b"ERR 01 DENIED\n")
-        while connection.recv(1 << 16):
-            pass
-
-    with peer(talk) as port, screen(port) as (terminal, stream):
-        terminal.until(r"1 open\ndenied - ")
-        stream.sendall(f"HELLO ann {TOKEN}".encode())
-        terminal.until("1 open\n")
-        terminal.until(r"1 open\ndenied - ")
+    connection = watching.Connection("192.0.2.7:4242")
+    connection.hear_client(b"HEL")
+    connection.hear_server(b"ERR 01 DENIED\n")
+    connection.hear_client(f"HELLO ann {TOKEN}".encode())
+    assert (connection.state, connection.user) == ("denied", "")
 
 
 def test_who_is_let_in_or_waits_is_not_denied() -> None:

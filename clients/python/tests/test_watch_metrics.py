@@ -162,10 +162,13 @@ def test_a_new_server_accepts_connections_anew(monkeypatch: pytest.MonkeyPatch) 
 
 
 def test_a_server_on_another_machine() -> None:
-    """192.0.2.1 is no machine's address. What passes through is all that is known."""
+    """192.0.2.1 is no machine's address. What passes through is all that is known: who says nothing does not."""
     assert server_process.server_at(("192.0.2.1", 4000)) is None
     board = watching.Board(None)
-    board.begins(watching.Connection("192.0.2.7:4242"))
+    passed, new = (watching.Connection(f"192.0.2.{number}:4242") for number in (7, 8))
+    passed.hear_client(f"HELLO ann {TOKEN}\n".encode())
+    board.begins(passed)
+    board.begins(new)
     text = metrics.Metrics(("192.0.2.1", 4000), board).text()
     assert "\nljserve_places_taken 1\n" in text
     assert not re.search("ljserve_(up|connections_left)", text)
@@ -217,7 +220,7 @@ def test_each_metric_has_its_help_and_type(seen: Any) -> None:
         text = seen.text()
     lines = text.splitlines()
     names = [line.split()[2] for line in lines if line.startswith("# HELP ")]
-    assert len(names) == len(set(names)) == 10 and all(name.startswith("ljserve_") for name in names)
+    assert len(names) == len(set(names)) == 11 and all(name.startswith("ljserve_") for name in names)
     for name in names:
         (at,) = [number for number, line in enumerate(lines) if line.startswith(f"# HELP {name} ")]
         kind = "counter" if name.endswith("_total") else "gauge"
