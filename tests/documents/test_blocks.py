@@ -17,7 +17,7 @@ from typing import Any, Iterator, List, Tuple
 import pytest
 from blocks import TOP, all_blocks
 from ljclient import connect, units
-from support import EXAMPLES, SECONDS, TOKEN, Server, free_port, present
+from support import EXAMPLES, RING, SECONDS, TOKEN, Server, free_port, present
 from terminals import PROMPT, Terminal, environment
 
 LOADED = "LOAD a 256 1 131072 rest 28\n2\ndimer\nAr 0 0 0\nAr 1.5 0 0\n"
@@ -294,14 +294,32 @@ def before_the_lesson(block: Any, folder: Any) -> None:
 
 
 def lesson_at_the_prompt(block: Any, folder: Any) -> None:
-    """The lines are a file that is read at the prompt. REVERSE exchanges the two frames, so the step is one less."""
+    """The lines are a file that is read at the prompt. All atoms that are shown move, and are back at their places at the end."""
     (folder.path / "lesson.txt").write_text(block.text.replace("examples/", f"{EXAMPLES}/"))
     words = {**environment(), "PYTHONPATH": str(TOP / "clients" / "python")}
     with contextlib.closing(Terminal(PROMPT, words, cwd=folder.path)) as terminal:
         terminal.until("ljserve> ")
         terminal.type(".read lesson.txt\r")
-        told = terminal.until("OK REVERSE argon 999\nljserve> ")
-    assert told.count("\nOK SHOW argon 1000 ") == 10
+        told = terminal.until("OK ADVANCE argon 0\n.*OK SHOW argon 0 4 [^\n]*\nljserve> ")
+    shown = re.findall(r"^OK SHOW argon (\d+) (\d) (\d+) (\d+) (\d+)$", told, re.M)
+    assert [(step, atom) for step, atom, *_ in shown] == [(step, str(atom)) for step in ("0", "1000", "0") for atom in range(5)]
+    start, away, back = ([place for _, _, *place in shown[at : at + 5]] for at in (0, 5, 10))
+    assert back == start
+    assert all(moved > 0.1 for moved in map(farthest, away, start))
+
+
+def farthest(place: Any, other: Any) -> float:
+    """How far two places are from each other along an axis at most, round the box the nearer way, in angstrom."""
+    apart = [abs(int(one) - int(two)) for one, two in zip(place, other)]
+    return max(min(each, RING - each) for each in apart) * 21.04 / RING
+
+
+def lesson_in_python(block: Any, folder: Any) -> None:
+    with Server(users=("student01",)) as server:
+        text = block.text.replace('"192.0.2.10", 4000', f'"127.0.0.1", {server.port}').replace("TOKEN", f'"{TOKEN}"')
+        away, back = folder.python(text)
+    assert float(away) > 1
+    assert back == "0.0"
 
 
 def after_the_lesson(block: Any, folder: Any) -> None:
@@ -472,7 +490,8 @@ BLOCKS = {
         "LOAD argon": lesson_at_the_prompt,
         "python3 -m ljclient view 192.0.2.10": ELSEWHERE,
         "python3 -m ljclient view --listen": "clients/python/tests/test_view_listening.py begins it, at a port that is free",
-        "from ljclient import": after_the_lesson,
+        "from ljclient import connect, distance": lesson_in_python,
+        "from ljclient import connect, units": after_the_lesson,
     },
     "docs/PROOFS.md": {
         "pub fn image": stands_in("crates/lj_ring/src/coordinates.rt"),

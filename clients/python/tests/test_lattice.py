@@ -1,13 +1,15 @@
 """The edge of the box that extended XYZ says itself, by a cubic Lattice in its comment line."""
 import io
 import pathlib
+import subprocess
+import sys
 from typing import Any
 
 import pytest
 
-from ljclient import Scale, xyz
+from ljclient import Scale, units, xyz
 from ljclient.view import scenes
-from support import EXAMPLES, listed
+from support import EXAMPLES, SECONDS, listed
 
 CUBE = 'Lattice="256 0 0 0 256.0 0 0 0 2.56e2"'
 ATOM = "1\n{} step=3\nAr 64 0 128\n"
@@ -31,11 +33,32 @@ def test_the_edge_is_that_of_the_lattice(user: Any, tmp_path: pathlib.Path, kind
     assert (a.edge, listed(a.places())) == (256, [(2**30, 0, 2**31)])
 
 
-@pytest.mark.parametrize("name, edge", [("argon_256", 4 * 5.26), ("argon_4000", 10 * 5.26), ("sodium_chloride", 4 * 5.64)])
+@pytest.mark.parametrize(
+    "name, edge", [("argon_256", 4 * 5.26), ("argon_hot", 4 * 5.26), ("argon_4000", 10 * 5.26), ("sodium_chloride", 4 * 5.64)]
+)
 def test_the_crystals_of_the_examples_say_theirs(name: Any, edge: Any) -> None:
     """So many cells, each as long as `examples/make_crystals` has it."""
     text = (EXAMPLES / f"{name}.xyz").read_bytes()
     assert xyz.lattice_edge(("rest", text)) == pytest.approx(edge, rel=1e-12)
+
+
+def test_the_crystals_are_those_that_are_made(tmp_path: pathlib.Path) -> None:
+    subprocess.run([sys.executable, EXAMPLES / "make_crystals"], cwd=tmp_path, check=True, timeout=SECONDS)
+    assert sorted(path.name for path in tmp_path.iterdir()) == sorted(path.name for path in EXAMPLES.glob("*.xyz"))
+    for path in tmp_path.iterdir():
+        assert path.read_bytes() == (EXAMPLES / path.name).read_bytes()
+
+
+def test_the_hot_crystal_has_a_temperature_and_no_momentum(user: Any) -> None:
+    """1000 K, by `examples/make_crystals`, and a place is rounded to 10^-8 angstrom. Its atoms are those of the crystal at rest."""
+    words: Any = {"dt": 2, "edge": 21.04, **units.ARGON}
+    hot = user.load("hot", EXAMPLES / "argon_hot.xyz", pair=True, **words)
+    rest = user.load("rest", EXAMPLES / "argon_256.xyz", **words)
+    told = hot.measure()
+    assert told.temperature == pytest.approx(1000, rel=1e-3)
+    # A ring unit is 21.04 angstrom / 2^32, so the rounding of 256 atoms is less than 1000 of these
+    assert all(abs(part) < 1000 for part in told.momentum)
+    assert listed(hot.places()) == listed(rest.places())
 
 
 def test_a_mixture_has_it_too(user: Any) -> None:
