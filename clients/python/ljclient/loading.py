@@ -22,6 +22,7 @@ from .replacing import CommandOf, replacing
 from .replies import number_after
 from .resorting import resort
 from .session import Row, Session
+from .species import Symbols, check_alike
 from .state import Command, Known, State, state_of
 from .threads import whole
 from .wire import Reply
@@ -58,7 +59,7 @@ class Loader:
         dt: Optional[float] = None,
         before: Any = None,
         pair: bool = False,
-        symbols: xyz.Symbols = None,
+        symbols: Symbols = None,
         replace: bool = False,
         order: Optional[str] = None,
         watch: bool = True,
@@ -68,7 +69,9 @@ class Loader:
 
         name     the name of the session: 1 to 16 letters, digits, `_` or `-`
         source   the atoms: the path of an XYZ file, an open one, XYZ text, `Atoms` of ASE, a list of
-                 `(symbol, x, y, z)`, or positions with `symbols`
+                 `(symbol, x, y, z)`, or positions with `symbols`. ValueError if they have more than one symbol, or that of
+                 another element than the substance of `units` whose sigma, epsilon and mass are said
+        symbols  the symbol of all atoms, or a list of one for each, in place of those of the source, whatever these are
         edge     the edge of the cubic box, in the unit of the file. Where it is not said, it is that of `Atoms` in a cubic cell,
                  or of the cubic `Lattice` of extended XYZ. Where it is said, no cell and no Lattice is looked at
         sigma    the distance sigma, in the same unit, below a fifth of the edge
@@ -105,6 +108,8 @@ class Loader:
         frames = xyz.frames_of(source, before, symbols, pair)
         edge = _edge_of(edge, source, frames)
         scale = units.Scale.of(edge, sigma, h, epsilon=epsilon, mass=mass, dt=dt)
+        if symbols is None:
+            check_alike((row[0] for row in xyz.present_atoms(frames)), scale)
         motion = motion_of(source, scale) if before is None and not pair else None
         words = f"{units.word(edge)} {units.word(sigma)} {units.word(scale.h)}"
         known = Known(scale, is_sorted=is_in_space(order), watch=EnergyWatch(watch))
@@ -130,7 +135,7 @@ class Loader:
         epsilon: Optional[float] = None,
         before: Any = None,
         pair: bool = False,
-        symbols: xyz.Symbols = None,
+        symbols: Symbols = None,
         replace: bool = False,
         order: Optional[str] = None,
         watch: bool = True,

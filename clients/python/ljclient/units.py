@@ -17,7 +17,7 @@ import math
 import operator
 from dataclasses import dataclass
 from decimal import ROUND_HALF_UP, Decimal, InvalidOperation, localcontext
-from typing import Any, List, Optional, Tuple, TypedDict, Union
+from typing import Any, Dict, List, Optional, Tuple, TypedDict, Union
 
 from .names import whole_of
 
@@ -63,6 +63,8 @@ NEON: Substance = {"sigma": 2.749, "epsilon": 35.60 * kelvin, "mass": 20.1797}
 KRYPTON: Substance = {"sigma": 3.60, "epsilon": 171.0 * kelvin, "mass": 83.798}
 XENON: Substance = {"sigma": 4.10, "epsilon": 221.0 * kelvin, "mass": 131.293}
 """Neon, krypton and xenon, by the second virial coefficients of their gases (Hirschfelder, Curtiss and Bird, 1954, table I-A)."""
+SUBSTANCES: Dict[str, Substance] = {"Ne": NEON, "Ar": ARGON, "Kr": KRYPTON, "Xe": XENON}
+"""These substances, by the symbols of their elements."""
 
 
 class TwoSpecies(TypedDict):

@@ -7,14 +7,14 @@ import itertools
 import math
 import os
 import re
-from typing import Any, Iterable, Iterator, List, Optional, Sequence, Tuple, Union
+from typing import Any, Iterable, Iterator, List, Optional, Sequence, Tuple
 
-from . import ase_bridge
+from . import ase_bridge, other_files
+from .species import Symbols, names_of, with_symbols
 
 MAX_BYTES = 1_048_576
 LATTICE = re.compile(rb'\bLattice\s*=\s*"([^"]*)"')
 Row = Tuple[str, float, float, float]
-Symbols = Union[str, Sequence[str], None]
 Frames = Tuple[str, bytes]
 
 
@@ -22,49 +22,57 @@ def body_of(source: Any, symbols: Symbols = None) -> bytes:
     """The XYZ text of a source.
 
     A path (`str` or `os.PathLike`) is read, and so is an open file; `bytes`, and a `str` with a line end in it, are the
-    text itself; `Atoms` of ASE, a list of `(symbol, x, y, z)`, and a list or an array of positions with the symbol of all
-    (or a list of symbols) become a text in which each coordinate is written with all its digits.
+    text itself; `Atoms` of ASE, a list of `(symbol, x, y, z)`, and a list or an array of positions become a text in which
+    each coordinate is written with all its digits. The symbol of all atoms, or a list of one for each, stands in place of
+    those that the source has; positions have none.
     """
-    body = _bytes_of(source, symbols)
+    text = _text_in(source)
+    if text is None:
+        body = text_of(_rows(source, symbols))
+    else:
+        body = text if symbols is None else with_symbols(text, symbols)
     if len(body) > MAX_BYTES:
         raise ValueError(f"the XYZ text has {len(body)} bytes; the server takes {MAX_BYTES} at most")
     return body
 
 
-def _bytes_of(source: Any, symbols: Symbols) -> bytes:
+def _text_in(source: Any) -> Optional[bytes]:
+    """The text of a source that is one, or that is read. None of any other source."""
     if isinstance(source, (bytes, bytearray, memoryview)):
         return bytes(source)
     if isinstance(source, str) and "\n" in source:
         return source.encode()
     if isinstance(source, (str, os.PathLike)):
         with open(source, "rb") as file:
-            return file.read(MAX_BYTES + 1)
+            text = file.read(MAX_BYTES + 1)
+        other_files.check_text(source, text)
+        return text
     if hasattr(source, "read"):
         read = source.read()
         return read.encode() if isinstance(read, str) else bytes(read)
+    return None
+
+
+def _rows(source: Any, symbols: Symbols) -> List[Tuple[str, Sequence[float]]]:
+    """The symbol and the position of each atom of a source that is no text."""
     if ase_bridge.is_atoms(source):
-        return text_of(zip(source.get_chemical_symbols(), source.get_positions()))
-    return text_of(_rows(_listed(source, "the atoms are a path, a file, a text, `Atoms` of ASE or a list"), symbols))
+        own, positions = list(source.get_chemical_symbols()), list(source.get_positions())
+    else:
+        own, positions = _listed(source)
+    if symbols is None and len(own) < len(positions):
+        raise ValueError("positions need symbols='Ar', or rows of (symbol, x, y, z), whose symbols are strings")
+    return list(zip(own if symbols is None else names_of(symbols, len(positions)), positions))
 
 
-def _listed(things: Any, wanted: str) -> List[Any]:
-    """A list of things. Raises TypeError, which says what is wanted, for what is none."""
+def _listed(source: Any) -> Tuple[List[str], List[Any]]:
+    """The symbols and the positions of a list, where all of its rows have symbols; else no symbols."""
     try:
-        return list(things)
+        rows = list(source)
     except TypeError:
-        raise TypeError(f"{wanted}, not {things!r}") from None
-
-
-def _rows(rows: List[Any], symbols: Symbols) -> List[Tuple[str, Sequence[float]]]:
-    if symbols is None:
-        if not all(hasattr(row, "__len__") and len(row) == 4 and isinstance(row[0], str) for row in rows):
-            raise ValueError("positions need symbols='Ar', or rows of (symbol, x, y, z), whose symbols are strings")
-        return [(row[0], row[1:]) for row in rows]
-    wanted = "symbols= is a string, or a list of one for each atom"
-    names = [symbols] * len(rows) if isinstance(symbols, str) else _listed(symbols, wanted)
-    if len(names) != len(rows):
-        raise ValueError(f"there are {len(names)} symbols for {len(rows)} atoms")
-    return list(zip(names, rows))
+        raise TypeError(f"the atoms are a path, a file, a text, `Atoms` of ASE or a list, not {source!r}") from None
+    if not all(hasattr(row, "__len__") and len(row) == 4 and isinstance(row[0], str) for row in rows):
+        return [], rows
+    return [row[0] for row in rows], [row[1:] for row in rows]
 
 
 def text_of(atoms: Iterable[Tuple[str, Sequence[float]]], comment: str = "ljclient") -> bytes:

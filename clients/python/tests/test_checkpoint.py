@@ -224,7 +224,7 @@ class Runs(Saves):
         back = self.user.load_saved(self.path, "back")
         self.assertEqual(listed(back.places()), listed(many.places()))
         self.assertEqual(back.measure(), many.measure())
-        odd = self.user.load("odd", [("Ar.1", 0, 0, 0), ("!~", 1.5, 0, 0)], edge=256, sigma=1, h=131072)
+        odd = self.user.load("odd", [(0, 0, 0), (1.5, 0, 0)], symbols=["Ar.1", "!~"], edge=256, sigma=1, h=131072)
         odd.save(self.path)
         self.assertEqual(self.user.load_saved(self.path, "evenodd").symbols(), ["Ar.1", "!~"])
 

@@ -211,7 +211,7 @@ class Dialogues(Alone):
 
     def test_three_equal_classes_are_one(self) -> None:
         m = self.mix([LIKE] * 3)
-        a = self.user.load("a", MIX, **DIMER_SCALE)
+        a = self.user.load("a", MIX, symbols=SALT, **DIMER_SCALE)
         for session in (m, a):
             session.advance(5)
         self.assertEqual((m.measure(), m.dump()), (a.measure(), a.dump()))

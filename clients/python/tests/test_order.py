@@ -30,6 +30,10 @@ def liquid(count: int = 500, seed: int = 1) -> Any:
     return rows
 
 
+# Two symbols of atoms that are all alike.
+ALIKE: Dict[str, Any] = {**SCALE, "symbols": [row[0] for row in liquid()]}
+
+
 class Halves(unittest.TestCase):
     def test_a_line_of_atoms(self) -> None:
         # 256 atoms along x, numbered from the other end: four blocks, split along x and then along y, where all are alike.
@@ -104,8 +108,8 @@ class Sessions(Alone):
 
     def both(self) -> Tuple[Any, Any]:
         """The same atoms in the order of their list, and in that of space."""
-        plain = self.user.load("plain", self.rows, **SCALE)
-        return plain, self.user.load("sorted", self.rows, order="space", **SCALE)
+        plain = self.user.load("plain", self.rows, **ALIKE)
+        return plain, self.user.load("sorted", self.rows, order="space", **ALIKE)
 
     def same(self, one: Any, other: Any) -> None:
         self.assertEqual(listed(one.places()), listed(other.places()))
@@ -163,8 +167,8 @@ class Motion(Sessions):
 
     def test_atoms_in_motion_from_the_start(self) -> None:
         before = [(symbol, x - 0.001, y + 0.002, z) for symbol, x, y, z in self.rows]
-        plain = self.user.load("plain", self.rows, before=before, **SCALE)
-        ordered = self.user.load("sorted", self.rows, before=before, order="space", **SCALE)
+        plain = self.user.load("plain", self.rows, before=before, **ALIKE)
+        ordered = self.user.load("sorted", self.rows, before=before, order="space", **ALIKE)
         self.same(plain, ordered)
         self.assertEqual(plain.advance(300), ordered.advance(300))
         self.same(plain, ordered)
@@ -196,7 +200,7 @@ class Numbers(Sessions):
     def test_another_connection_takes_an_order(self) -> None:
         with Server() as server:
             with connect("127.0.0.1", server.port, "ann", TOKEN) as user:
-                ordered = user.load("s", self.rows, order="space", **SCALE)
+                ordered = user.load("s", self.rows, order="space", **ALIKE)
                 ordered.advance(300)
                 order, places, dumped = ordered.order, listed(ordered.places()), ordered.dump()
                 symbols = ordered.symbols()
@@ -276,14 +280,14 @@ class Renewals(Sessions):
 
     def test_a_session_that_is_replaced(self) -> None:
         self.both()
-        again = self.user.load("sorted", self.rows, replace=True, **SCALE)
+        again = self.user.load("sorted", self.rows, replace=True, **ALIKE)
         self.assertEqual((again.order, listed(again.places())), (Order(), listed(self.user.session("plain").places())))
 
     def test_a_load_that_is_refused(self) -> None:
         _, ordered = self.both()
         places = listed(ordered.places())
         with self.assertRaisesRegex(Exception, "EXISTS"):
-            self.user.load("sorted", self.rows, order="space", **SCALE)
+            self.user.load("sorted", self.rows, order="space", **ALIKE)
         with self.assertRaisesRegex(Exception, "XYZ_NUMBER line 4"):
             self.user.load("new", "2\n\nAr 0 0 0\nAr 0 0 x\n", order="space", **SCALE)
         self.assertEqual((listed(ordered.places()), len(self.user.sessions())), (places, 2))
@@ -326,7 +330,7 @@ class Script(Sessions):
 
     def test_a_file_in_the_order_of_space(self) -> None:
         text = xyz.text_of((row[0], row[1:]) for row in self.rows).decode()
-        plain = self.user.load("plain", text, **SCALE)
+        plain = self.user.load("plain", text, **ALIKE)
         line, _, body = self.printed("\n" + text, f"--sorted={self.folder / 'order'}").partition(b"\n")
         self.user.ask(line.decode(), body)
         numbers = [int(word) for word in (self.folder / "order").read_text().splitlines()]
@@ -340,7 +344,7 @@ class Script(Sessions):
 
     def test_two_frames(self) -> None:
         frames = [xyz.text_of(((row[0], [part + moved for part in row[1:]]) for row in self.rows)) for moved in (0.1, 0)]
-        plain = self.user.load("plain", frames[1], before=frames[0], **SCALE)
+        plain = self.user.load("plain", frames[1], before=frames[0], **ALIKE)
         (self.folder / "pair").write_bytes(b"".join(frames))
         words: List[Any] = [sys.executable, TOP / "examples" / "load", "--sorted"]
         words += [self.folder / "pair", "sorted", "8.4", "1", "131072", "pair"]

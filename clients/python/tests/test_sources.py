@@ -74,8 +74,11 @@ class Sources(unittest.TestCase):
         self.assertEqual(self.loaded(DIMER, edge="256.0", sigma="1e0"), WANTED)
 
     def test_lines_that_end_with_a_return(self) -> None:
-        salt = self.user.load("salt", EXAMPLES / "sodium_chloride.xyz", edge=22.56, sigma=3.3, h=1000)
+        classes = [(3.3, 1000, 256)] * 3
+        salt = self.user.load_mix("salt", EXAMPLES / "sodium_chloride.xyz", edge=22.56, species=("Na", "Cl"), classes=classes)
         self.assertEqual((salt.atoms, set(salt.symbols())), (512, {"Na", "Cl"}))
+        alike = self.user.load("alike", EXAMPLES / "sodium_chloride.xyz", symbols="X", edge=22.56, sigma=3.3, h=1000)
+        self.assertTrue((alike.symbols(), listed(alike.places())) == (["X"] * 512, listed(salt.places())))
 
     def test_a_time_step_in_femtoseconds(self) -> None:
         argon = self.user.load("argon", EXAMPLES / "argon_256.xyz", edge=21.04, dt=10, **units.ARGON)
@@ -146,7 +149,7 @@ class WithAse(unittest.TestCase):
 
     def test_symbols_that_ase_does_not_know(self) -> None:
         with run(PROGRAM) as user:
-            odd = user.load("a", [("Ar", 0, 0, 0), ("Ar1", 1, 1, 1)], **DIMER_SCALE)
+            odd = user.load("a", [(0, 0, 0), (1, 1, 1)], symbols=["Ar", "Ar1"], **DIMER_SCALE)
             with self.assertRaisesRegex(ValueError, "ASE knows no element 'Ar1'"):
                 odd.to_ase()
             self.assertEqual(odd.to_ase({"Ar": "Ar", "Ar1": "X"}).get_chemical_symbols(), ["Ar", "X"])

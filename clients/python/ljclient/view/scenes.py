@@ -88,12 +88,12 @@ class Scene:
         They are loaded twice: with the scale of the file, which rounds them to places, and then these places as they are.
         An atom alone begins at rest. ValueError for a temperature at which an atom would move by half the box in a step.
         """
-        moved = self.displacements()
-        loaded = user.load(name, self.body, edge=self.scale.edge, sigma=self.scale.sigma, h=self.scale.h, replace=True)
+        moved, own = self.displacements(), [row[0] for row in xyz.present_atoms(("rest", self.body))] or None
+        loaded = user.load(name, self.body, symbols=own, edge=self.scale.edge, sigma=self.scale.sigma, h=self.scale.h, replace=True)
         places, symbols = loaded.places(), loaded.symbols()
         rows = [(symbol, *(int(part) / MILLION for part in place)) for symbol, place in zip(symbols, places)]
         sigma = Decimal(self.scale.sigma_on_ring) / MILLION
-        session = user.load(name, rows, edge=EXACT_EDGE, sigma=sigma, h=self.scale.h, replace=True, watch=False)
+        session = user.load(name, rows, symbols=symbols, edge=EXACT_EDGE, sigma=sigma, h=self.scale.h, replace=True, watch=False)
         user.ask_all(f"TUG {name} {atom} {x} {y} {z}" for atom, (x, y, z) in enumerate(moved))
         return session
 

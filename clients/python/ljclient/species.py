@@ -1,0 +1,66 @@
+"""Symbols of atoms that are loaded: those that are said for a text, and whether atoms of one species have one."""
+from __future__ import annotations
+
+import re
+from typing import Any, Iterable, List, Optional, Sequence, Union
+
+from .elements import ELEMENTS
+from .names import checked_symbol
+from .units import SUBSTANCES, Scale
+
+# The symbol of all atoms, or a list of one for each.
+Symbols = Union[str, Sequence[str], None]
+FIRST_WORD = re.compile(rb"\S+")
+
+
+def names_of(symbols: Any, count: int) -> List[str]:
+    """The symbol of each of so many atoms. Raises TypeError or ValueError for what says none."""
+    if isinstance(symbols, str):
+        return [symbols] * count
+    try:
+        names = list(symbols)
+    except TypeError:
+        raise TypeError(f"symbols= is a string, or a list of one for each atom, not {symbols!r}") from None
+    if len(names) != count:
+        raise ValueError(f"there are {len(names)} symbols for {count} atoms")
+    return names
+
+
+def with_symbols(body: bytes, symbols: Any) -> bytes:
+    """XYZ text whose atoms have these symbols in place of its own, in each frame. What is no frame stays as it is."""
+    lines, at = body.split(b"\n"), 0
+    while (atoms := _next_atoms(lines, at)) is not None:
+        names = [checked_symbol(name).encode() for name in names_of(symbols, len(atoms))]
+        part = slice(atoms.start, atoms.start + len(atoms))
+        lines[part] = [FIRST_WORD.sub(name, line, 1) for name, line in zip(names, lines[part])]
+        at = max(atoms.start, atoms.stop)
+    return b"\n".join(lines)
+
+
+def _next_atoms(lines: Sequence[bytes], at: int) -> Optional[range]:
+    """Which of these lines are the atoms of the next frame from one of them on. None if there is no frame."""
+    begin = next((number for number in range(at, len(lines)) if lines[number].split()), len(lines))
+    count = lines[begin].split()[0] if begin < len(lines) else b""
+    return range(begin + 2, min(begin + 2 + int(count), len(lines))) if count.isdigit() else None
+
+
+def check_alike(symbols: Iterable[str], scale: Scale) -> None:
+    """Raises ValueError unless these are symbols of atoms that are all alike, and of the substance whose scale this is."""
+    names = sorted(set(symbols))
+    if len(names) > 1:
+        told = f"{', '.join(names[:-1])} and {names[-1]}"
+        raise ValueError(
+            f"the atoms have the symbols {told[:100]}, and here they are all alike: symbols={names[0]!r} says that they are, "
+            "and load_mix takes two species"
+        )
+    substance = next((name for name, words in SUBSTANCES.items() if words == _words_of(scale)), None)
+    if names and substance is not None and names[0] in ELEMENTS - {substance}:
+        raise ValueError(
+            f"sigma, epsilon and mass are those of {substance}, and the symbol of the atoms is {names[0]}: say those of "
+            f"{names[0]}, or symbols={substance!r}"
+        )
+
+
+def _words_of(scale: Scale) -> Any:
+    """The words of `units.Substance` of a scale."""
+    return {"sigma": scale.sigma, "epsilon": scale.epsilon, "mass": scale.mass}
