@@ -88,8 +88,10 @@ class Loader:
 
         The atoms are at rest, or, where `before` has the atoms one step before (a source too), move as these two say. With
         `pair=True` the source has two frames itself, that of one step before first, such as a file of two frames.
-        `Atoms` of ASE without `before` move with their velocities, which need epsilon and mass. They are rounded, and
-        `print(session.motion)` tells to what; they are those of half a step ago, as kinetic energies are.
+        Without these, `Atoms` of ASE move with their velocities, and extended XYZ text with those of its column `momenta`, in
+        the units of ASE, else `velo`, `vel`, `velocities` or `velocity`, in angstrom / femtosecond. Velocities need epsilon and
+        mass. They are rounded, and `print(session.motion)` tells to what; they are those of half a step ago, as kinetic
+        energies are.
 
         With `replace=True` it takes the place of a session of that name, which is there until the server has taken the new one.
         If two atoms are closer than 0.8 sigma there is a warning.
@@ -110,7 +112,7 @@ class Loader:
         scale = units.Scale.of(edge, sigma, h, epsilon=epsilon, mass=mass, dt=dt)
         if symbols is None:
             check_alike((row[0] for row in xyz.present_atoms(frames)), scale)
-        motion = motion_of(source, scale) if before is None and not pair else None
+        motion = motion_of(source, frames[1], scale) if before is None and not pair else None
         words = f"{units.word(edge)} {units.word(sigma)} {units.word(scale.h)}"
         known = Known(scale, is_sorted=is_in_space(order), watch=EnergyWatch(watch))
         warn_of_close_atoms(frames, scale)
@@ -165,7 +167,7 @@ class Loader:
         frames = xyz.frames_of(source, before, symbols, pair)
         edge = _edge_of(edge, source, frames)
         mixture = Mixture.of(edge, species, first=first, second=second, mixed=mixed, mass=mass, dt=dt, classes=classes, epsilon=epsilon)
-        motion = motion_of(source, mixture.scale) if before is None and not pair else None
+        motion = motion_of(source, frames[1], mixture.scale) if before is None and not pair else None
         words = f"{units.word(edge)} {mixture.words}"
         known = Known(mixture.scale, mixture, is_sorted=is_in_space(order), watch=EnergyWatch(watch))
         warn_of_close_atoms(frames, mixture.scale, mixture)

@@ -4,16 +4,17 @@ from __future__ import annotations
 from dataclasses import dataclass, field
 from typing import Any, List, Optional, Sequence, Tuple
 
-from . import ase_bridge
+from . import ase_bridge, columns
 from .units import RING, Scale, checked_positive
 
 HALF = RING // 2
 Displacement = Tuple[int, int, int]
+TAKEN_AWAY = "atoms.set_momenta(None) takes velocities away"
 
 
 @dataclass(frozen=True)
 class Motion:
-    """The velocities that `Atoms` of ASE were loaded with, and what they were rounded to.
+    """The velocities that atoms were loaded with, and what they were rounded to.
 
     unit           a displacement of one ring unit (edge / 2^32) for each step, in angstrom per femtosecond: velocities are
                    whole multiples of it
@@ -28,10 +29,13 @@ class Motion:
     displacements: Tuple[Displacement, ...] = field(repr=False)
 
     @staticmethod
-    def of(velocities: Sequence[Sequence[float]], scale: Scale) -> "Motion":
-        """The motion of these velocities, in angstrom per femtosecond. ValueError where the time step is not known."""
+    def of(velocities: Sequence[Sequence[float]], scale: Scale, rest: str = TAKEN_AWAY) -> "Motion":
+        """The motion of these velocities, in angstrom per femtosecond. ValueError where the time step is not known.
+
+        rest  what the error says of how these atoms are loaded at rest
+        """
         if scale.dt is None:
-            raise ValueError("the atoms have velocities, which need epsilon= and mass=; atoms.set_momenta(None) takes velocities away")
+            raise ValueError(f"the atoms have velocities, which need epsilon= and mass=; {rest}")
         unit = checked_positive("edge", scale.edge) / (RING * checked_positive("dt", scale.dt))
         wanted = [[part / unit for part in velocity] for velocity in velocities]
         rounded = tuple(_rounded(atom, parts) for atom, parts in enumerate(wanted))
@@ -50,10 +54,18 @@ class Motion:
         )
 
 
-def motion_of(source: Any, scale: Scale) -> Optional[Motion]:
-    """The motion that a source says itself: `Atoms` of ASE with velocities. None for atoms at rest."""
-    velocities = ase_bridge.velocities_of(source) if ase_bridge.is_atoms(source) else None
-    return None if velocities is None else Motion.of(velocities, scale)
+def motion_of(source: Any, body: bytes, scale: Scale) -> Optional[Motion]:
+    """The motion that a source says itself: `Atoms` of ASE with velocities, or extended XYZ text with a column of them.
+
+    None for atoms at rest.
+    """
+    if ase_bridge.is_atoms(source):
+        velocities = ase_bridge.velocities_of(source)
+        return None if velocities is None else Motion.of(velocities, scale)
+    told = columns.velocities_of(body, scale.mass or 1.0)
+    if told is None:
+        return None
+    return Motion.of(told.values, scale, f"before= the same text loads them at rest, without its column {told.column}")
 
 
 def _rounded(atom: int, parts: Sequence[float]) -> Displacement:

@@ -38,7 +38,7 @@ class Session:
     name     its name
     scale    what its whole numbers mean (`units.Scale`), where that was said
     mixture  how its two species interact (`Mixture`), where `User.load_mix` has loaded it, else None
-    motion   what its first velocities were rounded to (`Motion`), where this is what has loaded `Atoms` with velocities
+    motion   what its first velocities were rounded to (`Motion`), where this is what has loaded atoms with velocities
     sampled  the frames that `sample` had when its last call was broken off, else None
     """
 
@@ -387,8 +387,8 @@ class Session:
     ) -> None:
         """Goes on, and writes frames to a file on the way, of the kind that the ending of its name says:
 
-        .xyz       extended XYZ, with Lattice, velocities (`velo`), step, time, potential (`energy`) and kinetic energy; .extxyz
-                   is the same
+        .xyz       extended XYZ, with Lattice, velocities (`velo`), step, time, potential (`energy`) and kinetic energy; and if
+                   epsilon and mass are known, `masses` and `momenta` as ASE reads them. .extxyz is the same
         .traj      by ASE, with energy, forces and, if epsilon and mass are known, momenta
         .dcd, .nc  by MDAnalysis, with box and time; `.nc` has velocities and forces too, in MDAnalysis's units. ValueError if
                    frames behind those of a .dcd are not as far apart in time

@@ -7,10 +7,12 @@
 from __future__ import annotations
 
 import contextlib
+import itertools
 import os
-from typing import TYPE_CHECKING, Any, Dict, List, Optional, Protocol
+from typing import TYPE_CHECKING, Any, Dict, Iterator, List, Optional, Protocol
 
 from . import arrays, ase_bridge, optional
+from .ase_bridge import TIME_UNIT
 from .elements import Replacements, replaced
 from .files import Path, begin_beside, checked_target, put_in_place
 from .sampling import Progress, checked_stops
@@ -94,7 +96,8 @@ def _followed(start: Any, frame: Snapshot, scale: Scale) -> Any:
 
 
 class XyzFile:
-    """Extended XYZ: positions, velocities and energies as text, in the units of the session."""
+    """Extended XYZ: positions, velocities and energies as text, in the units of the session; and if epsilon and mass are known,
+    masses and momenta in the units of ASE."""
 
     def __init__(self, path: Path, symbols: List[str], append: bool):
         self._symbols = symbols
@@ -102,7 +105,8 @@ class XyzFile:
 
     def write(self, frame: Snapshot, positions: Any) -> None:
         rows = zip(self._symbols, arrays.listed(positions), arrays.listed(frame.velocities))
-        lines = ["%s %.6f %.6f %.6f %.9g %.9g %.9g\n" % (symbol, *position, *velocity) for symbol, position, velocity in rows]
+        words = ["%s %.6f %.6f %.6f %.9g %.9g %.9g" % (symbol, *position, *velocity) for symbol, position, velocity in rows]
+        lines = [f"{row}{momentum}\n" for row, momentum in zip(words, _momenta_of(frame))]
         self._file.write(f"{len(lines)}\n{comment_of(frame)}\n{''.join(lines)}")
         self._file.flush()
 
@@ -110,11 +114,20 @@ class XyzFile:
         self._file.close()
 
 
+def _momenta_of(frame: Snapshot) -> Iterator[str]:
+    """The words of each atom's mass and momentum in the units of ASE; none if epsilon or mass is not known."""
+    if frame.scale.dt is None or frame.scale.mass is None:
+        yield from itertools.repeat("")
+    else:
+        mass, unit = frame.scale.mass, frame.scale.mass * TIME_UNIT
+        yield from (f" {mass!r} {x:.9g} {y:.9g} {z:.9g}" for x, y, z in arrays.listed(arrays.scaled(frame.velocities, unit)))
+
+
 def comment_of(frame: Snapshot) -> str:
     """The second line of a frame in extended XYZ: the box, what the columns are, the step, the time and the energies."""
     edge, unit = repr(frame.scale.edge), _energy_unit(frame.scale)
     lattice = f"{edge} 0 0 0 {edge} 0 0 0 {edge}"
-    columns = "species:S:1:pos:R:3:velo:R:3"
+    columns = "species:S:1:pos:R:3:velo:R:3" + (":masses:R:1:momenta:R:3" if frame.scale.dt is not None else "")
     energies = f"energy={frame.energies.potential * unit!r} kinetic_energy={frame.energies.kinetic * unit!r}"
     return f'Lattice="{lattice}" Properties={columns} pbc="T T T" step={frame.step} time={frame.time!r} {energies}'
 

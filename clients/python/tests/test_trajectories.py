@@ -139,6 +139,39 @@ def test_xyz_has_velocities_and_energies(argon: Any, tmp_path: pathlib.Path) -> 
 
 
 @with_ase
+@pytest.mark.parametrize("mass", [39.948, 48.0])
+def test_xyz_has_momenta_that_ase_reads(user: Any, tmp_path: pathlib.Path, mass: Any) -> None:
+    path = tmp_path / "way.xyz"
+    argon = user.load("argon", EXAMPLES / "argon_256.xyz", edge=21.04, dt=2, **{**units.ARGON, "mass": mass})
+    argon.heat(200)
+    argon.advance(50)
+    argon.write_trajectory(path, every=10, frames=2)
+    frame = ase.io.read(path)
+    # ASE's unit of time is 10.180505671 fs.
+    assert frame.get_momenta() == pytest.approx(argon.velocities() * mass * 10.180505671, rel=1e-7, abs=1e-7)
+    assert set(frame.get_masses()) == {mass}
+    (row,) = argon.thermo(every=1, rows=1)
+    assert frame.get_temperature() == pytest.approx(row.temperature, rel=1e-3)
+    assert row.temperature > 80
+
+
+@with_ase
+def test_momenta_are_those_of_the_unwrapped_and_appended_frames_too(argon: Any, tmp_path: pathlib.Path) -> None:
+    path = tmp_path / "way.xyz"
+    for append in (False, True):
+        argon.write_trajectory(path, every=5, frames=2, append=append, unwrap=append)
+    frames = ase.io.read(path, index=":")
+    assert len(frames) == 4 and abs(frames[2].get_momenta() - frames[1].get_momenta()).max() == 0
+    assert frames[3].get_momenta() == pytest.approx(argon.velocities() * 39.948 * 10.180505671, rel=1e-7, abs=1e-7)
+
+
+def test_in_reduced_units_there_are_no_momenta(user: Any, tmp_path: pathlib.Path) -> None:
+    dimer(user).write_trajectory(tmp_path / "way.xyz", every=1, frames=1)
+    _, comment, row, _ = (tmp_path / "way.xyz").read_text().splitlines()
+    assert " Properties=species:S:1:pos:R:3:velo:R:3 " in comment and len(row.split()) == 7
+
+
+@with_ase
 def test_traj_has_momenta_energy_and_forces(argon: Any, tmp_path: pathlib.Path) -> None:
     path = tmp_path / "way.traj"
     argon.write_trajectory(path, every=10, frames=2)

@@ -10,6 +10,7 @@ from decimal import Decimal
 from typing import Callable, List, Optional
 
 from .. import Scale, Session, User, heating, xyz
+from ..columns import without_columns
 from ..units import MAX_STEP_FACTOR, RING
 from .wishes import Answer, Wish, real_in
 
@@ -122,7 +123,7 @@ def crystal(h: int, temperature: float, seed: int, cells: int = CELLS) -> Scene:
 
 def of_file(path: str, edge: Optional[float], scale_of: Callable[[float], Scale], temperature: float, seed: int) -> Scene:
     """The atoms of an XYZ file. The edge is for a file that says no cubic Lattice. ValueError if nobody says one."""
-    body = xyz.body_of(path)
+    body = without_columns(xyz.body_of(path))
     try:
         found = xyz.lattice_edge(("rest", body)) or edge
     except ValueError:

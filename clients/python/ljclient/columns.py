@@ -1,0 +1,102 @@
+"""The columns of extended XYZ, which its comment line names, and the velocities of atoms that stand in them."""
+from __future__ import annotations
+
+import itertools
+import re
+from typing import Dict, List, NamedTuple, Optional, Sequence, Tuple
+
+from .ase_bridge import TIME_UNIT
+from .units import checked_positive
+
+PROPERTIES = re.compile(rb'\bProperties\s*=\s*(?:"([^"]*)"|(\S+))')
+# What the server reads of a line: a symbol and three coordinates.
+READ = "species:S:1:pos:R:3"
+# Columns that are velocities in angstrom / femtosecond. They count if there are no momenta, which are in the units of ASE.
+VELOCITIES = ("velo", "vel", "velocities", "velocity")
+MOMENTA, MASSES = "momenta", "masses"
+
+
+class Column(NamedTuple):
+    """Words of each atom's line: from this one on, so many, of the kind R (real), I (whole), S (a word) or L (true or false)."""
+
+    start: int
+    kind: str
+    width: int
+
+
+class Velocities(NamedTuple):
+    """The velocities that a text tells, in angstrom / femtosecond, and the column that has them."""
+
+    column: str
+    values: List[List[float]]
+
+
+def velocities_of(body: bytes, mass: float) -> Optional[Velocities]:
+    """The velocities of the first frame of extended XYZ text. None where it has none, and where all are 0.
+
+    mass  that of an atom in dalton, by which momenta are divided if the text has no column `masses`
+
+    Raises ValueError if the first columns are not what the server reads, or if an atom has no numbers in these columns.
+    """
+    comment, rows = _frame_of(body)
+    columns = columns_of(comment)
+    names = [name for name in (MOMENTA, *VELOCITIES) if name in columns]
+    if not names:
+        return None
+    values = _numbers(rows, names[0], columns[names[0]], 3)
+    if names[0] == MOMENTA:
+        masses = _numbers(rows, MASSES, columns[MASSES], 1) if MASSES in columns else [[mass]] * len(rows)
+        units = [checked_positive("a mass in the text", each[0]) * TIME_UNIT for each in masses]
+        values = [[part / unit for part in momentum] for momentum, unit in zip(values, units)]
+    return Velocities(names[0], values) if any(map(any, values)) else None
+
+
+def columns_of(comment: bytes) -> Dict[str, Column]:
+    """The columns that the comment line of extended XYZ names. None of them if it names none.
+
+    Raises ValueError if the first ones are not a symbol and three coordinates, which is what the server reads.
+    """
+    told = PROPERTIES.search(comment)
+    if told is None:
+        return {}
+    text = (told[1] or told[2] or b"").decode("latin-1")
+    if text != READ and not text.startswith(READ + ":"):
+        raise ValueError(f"the first columns of the text are not {READ}, which is what is read, but Properties={text[:60]}")
+    words = text.split(":")
+    columns, start = {}, 0
+    for name, kind, count in zip(words[::3], words[1::3], words[2::3]):
+        columns[name] = Column(start, kind, int(count) if count.isdecimal() else 0)
+        start += columns[name].width
+    return columns
+
+
+def without_columns(body: bytes) -> bytes:
+    """A text whose first comment line names no columns, so that its atoms are at rest."""
+    comment, _ = _frame_of(body)
+    return body.replace(comment, PROPERTIES.sub(b"", comment), 1) if comment else body
+
+
+def _frame_of(body: bytes) -> Tuple[bytes, List[bytes]]:
+    """The comment line of the first frame of a text, and the lines of its atoms. Both are empty if there is no such frame."""
+    lines = iter(body.split(b"\n"))
+    try:
+        count = int(next(filter(None, map(bytes.split, lines)))[0])
+        return next(lines), list(itertools.islice(lines, count))
+    except (StopIteration, ValueError):
+        return b"", []
+
+
+def _numbers(rows: Sequence[bytes], name: str, column: Column, count: int) -> List[List[float]]:
+    """The numbers that each atom has in a column of so many. Raises ValueError if it has others, or another count."""
+    if column.kind not in ("R", "I") or column.width != count:
+        raise ValueError(f"a column {name} is {name}:R:{count}, not {name}:{column.kind}:{column.width}")
+    numbers = []
+    for atom, row in enumerate(rows):
+        words = row.split()[column.start : column.start + count]
+        try:
+            numbers.append([float(word) for word in words])
+        except ValueError:
+            words = []
+        if len(words) != count:
+            raise ValueError(f"atom {atom} of the text has no {name} of {count} number{'s' * (count > 1)}")
+    return numbers
