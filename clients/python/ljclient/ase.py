@@ -32,6 +32,7 @@ from .unwrapping import Path
 from .user import User, run
 
 WHY = "ljclient.ase needs"
+TWO_SPECIES = "of two species species=, first= and second= (sigma, epsilon), and mixed="
 _Driver: Any = optional.ase("ase.md.md", WHY).MolecularDynamics
 _Calculator: Any = optional.ase("ase.calculators.singlepoint", WHY).SinglePointCalculator
 
@@ -49,8 +50,8 @@ class ReversibleVerlet(_Driver):  # type: ignore[misc]
     trajectory      a `Trajectory` of ASE, or the name of its file, which is written each `loginterval` steps: anew, or behind
                     what it has with `append_trajectory=True`
     logfile         a file, its name or "-", which ASE's `MDLogger` writes each `loginterval` steps
-    sigma, epsilon  of atoms that are all alike: the distance in angstrom and the depth of the potential in electronvolt. Their
-                    symbols say nothing
+    sigma, epsilon  of atoms that are all alike: the distance in angstrom and the depth of the potential in electronvolt. They
+                    have one symbol, whichever it is
     species         of a mixture the two symbols; then `first`, `second` and `mixed` are (sigma, epsilon), as in `User.load_mix`
     mass            the mass in dalton that each atom is given; if it is not said, they keep theirs
     user            whose session it is, as `connect(..)` gives one; else a program of its own is started
@@ -61,7 +62,7 @@ class ReversibleVerlet(_Driver):  # type: ignore[misc]
     forces by a `SinglePointCalculator`. Positions go on where an atom leaves the cell.
 
     Who changes the atoms on the way, as by `MaxwellBoltzmannDistribution`, has them loaded anew before the next step. The way
-    back leads there, and no further.
+    back leads there, and no further. A constraint on the way is a ValueError of the next step.
 
     session         the session, at the step of the atoms; it counts steps back after `reverse`, where `nsteps` counts on
     dt              the time step that the simulation has, since it is rounded, in ASE's unit
@@ -170,10 +171,13 @@ class ReversibleVerlet(_Driver):  # type: ignore[misc]
         The displacement before a step is `v dt` without half of the push that the step has, which three frames at rest tell.
         """
         atoms, name = self.atoms, self._name
-        at_rest = _checked(atoms).copy()
+        at_rest, symbols = _checked(atoms).copy(), atoms.get_chemical_symbols()
         at_rest.set_momenta(None)
-        load: Any = self._user.load_mix if "species" in self._words else self._user.load
-        self.session: Session = load(name, at_rest, order="space", replace=True, **self._words)
+        is_mixture = "species" in self._words
+        if not is_mixture and len(set(symbols)) > 1:
+            raise ValueError(f"the atoms have the symbols {', '.join(sorted(set(symbols)))}, and one sigma and epsilon: say {TWO_SPECIES}")
+        load: Any = self._user.load_mix if is_mixture else self._user.load
+        self.session: Session = load(name, at_rest, symbols=symbols, order="space", replace=True, **self._words)
         three, ring = three_frames(self._user, name), RING / self.session.edge
         velocities = numpy.array(ase_bridge.velocities_of(atoms) or numpy.zeros((len(atoms), 3)))
         moved = numpy.rint(velocities * self.session.scale.time(1) * ring - least_images(three.after, three.now) / 2).astype(int)
@@ -194,8 +198,11 @@ class ReversibleVerlet(_Driver):  # type: ignore[misc]
         self._shown = atoms.copy()
 
     def _take_up(self) -> None:
-        """Loads the atoms anew if they are no longer as they were shown. Whole cells, as of `atoms.wrap()`, are no change."""
-        atoms, shown, edge = self.atoms, self._shown, self.session.edge
+        """Loads the atoms anew if they are no longer as they were shown. Whole cells, as of `atoms.wrap()`, are no change.
+
+        ValueError if they have constraints by now, or a cell that is not periodic.
+        """
+        atoms, shown, edge = _checked(self.atoms), self._shown, self.session.edge
         if all(numpy.array_equal(*map(read, (atoms, shown))) for read in KEPT):
             moved = atoms.positions - shown.positions
             cells = numpy.rint(moved / edge)
@@ -211,7 +218,7 @@ def _potential_of(said: Dict[str, Any]) -> Dict[str, Any]:
     words = {name: value for name, value in said.items() if value is not None}
     two = {"species", "first", "second"}
     if words.keys() != {"sigma", "epsilon"} and not two <= words.keys() <= {*two, "mixed"}:
-        raise ValueError("say sigma= and epsilon=, or of two species species=, first= and second= (sigma, epsilon), and mixed=")
+        raise ValueError(f"say sigma= and epsilon=, or {TWO_SPECIES}")
     return words
 
 

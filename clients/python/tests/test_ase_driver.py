@@ -121,7 +121,7 @@ def test_what_is_attached_is_called_at_its_intervals(dimer: Any) -> None:
 
 def test_the_steps_between_go_in_one_command(dimer: Any) -> None:
     dimer.attach(lambda: None, 40)
-    with mock.patch.object(dimer.session, "advance", wraps=dimer.session.advance) as advance:
+    with mock.patch.object(type(dimer.session), "advance", wraps=dimer.session.advance) as advance:
         dimer.run(100)
     assert [call.args for call in advance.call_args_list] == [(40,), (40,), (20,)]
 
@@ -134,11 +134,11 @@ def test_irun_stops_after_each_step(dimer: Any) -> None:
 def test_an_interrupt_leaves_atoms_and_steps_as_they_are(dimer: Any, pair: Any) -> None:
     advance = dimer.session.advance
 
-    def broken_off(count: Any) -> None:
+    def broken_off(_: Any, count: Any) -> None:
         advance(1)
         raise KeyboardInterrupt
 
-    with mock.patch.object(dimer.session, "advance", broken_off), pytest.raises(KeyboardInterrupt):
+    with mock.patch.object(type(dimer.session), "advance", broken_off), pytest.raises(KeyboardInterrupt):
         dimer.run(5)
     assert (dimer.nsteps, dimer.session.step, pair.positions[0][0]) == (1, 1, 589 * UNIT)
     dimer.run(1)
@@ -221,6 +221,31 @@ def test_two_species(user: Any) -> None:
     assert set(atoms.get_masses()) == {1}
 
 
+def stepped(dynamics: Any) -> None:
+    for _ in dynamics.irun(1):
+        pass
+
+
+@pytest.mark.parametrize("go", [lambda each: each.run(1), lambda each: each.step(), lambda each: each.reverse(), stepped])
+def test_a_constraint_on_the_way_is_an_error(dimer: Any, pair: Any, go: Any) -> None:
+    dimer.run(2)
+    before = of(pair)
+    pair.set_constraint(FixAtoms([0]))
+    with pytest.raises(ValueError, match="constraints, which are not kept here: take them away"):
+        go(dimer)
+    assert (of(pair), dimer.nsteps, dimer.session.step) == (before, 2, 2)
+    pair.set_constraint()
+    dimer.run(1)
+    assert pair.positions[0][0] == WAY[3] * UNIT
+
+
+def test_a_constraint_that_is_set_by_what_is_attached_is_an_error(dimer: Any, pair: Any) -> None:
+    dimer.attach(lambda: pair.set_constraint(FixAtoms([0])), -2)
+    with pytest.raises(ValueError, match="constraints, which are not kept here"):
+        dimer.run(5)
+    assert (dimer.nsteps, dimer.session.step, pair.positions[0][0]) == (2, 2, WAY[2] * UNIT)
+
+
 def test_atoms_of_another_kind(user: Any, pair: Any) -> None:
     def told(match: Any, change: Any = None, **words: Any) -> None:
         atoms = pair.copy()
@@ -232,6 +257,7 @@ def test_atoms_of_another_kind(user: Any, pair: Any) -> None:
     told("constraints, which are not kept", lambda atoms: atoms.set_constraint(FixAtoms([0])))
     told("not periodic along each axis", lambda atoms: atoms.set_pbc([True, True, False]))
     told("cell of the atoms is not cubic", lambda atoms: atoms.set_cell([256, 256, 250]))
+    told("symbols Ar, Kr, and one sigma and epsilon: say of two species", lambda atoms: atoms.set_chemical_symbols("ArKr"), mass=1, **ONE)
     told("2 masses, and here all have one: say mass=", lambda atoms: atoms.set_masses([1, 2]))
     wrong: List[Dict[str, Any]] = [{"sigma": 1}, {"species": ("A", "B"), "first": (1, 1)}, {**ONE, "species": ("A", "B")}]
     for words in wrong:
