@@ -133,7 +133,7 @@ def whole(places: Iterable[Any]) -> Frame:
     return [tuple(map(int, place)) for place in places]
 
 
-def distance(places: Sequence[Any], others: Sequence[Any]) -> float:
+def distance(places: Any, others: Any) -> float:
     """The root mean square distance of atoms from others, each round the box the nearer way, in sigma."""
     return ljclient.distance(places, others) * EDGE / RING
 

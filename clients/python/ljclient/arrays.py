@@ -1,12 +1,27 @@
-"""Lists of coordinates: arrays of numpy where it is installed, else lists of tuples."""
+"""Lists of coordinates: arrays of numpy where it is installed, else lists of tuples.
+
+Type checkers are told of arrays alone: `FloatArray` is an `NDArray[float64]`, and `IntArray` an `NDArray[int64]`.
+"""
 from __future__ import annotations
 
 import importlib
 import math
 import sys
-from typing import Any, List, Sequence, Tuple
+from typing import TYPE_CHECKING, Any, List, Sequence, Tuple, Union, cast
 
 from .units import RING
+
+if TYPE_CHECKING:
+    from numpy import float64, int64
+    from numpy.typing import NDArray
+
+    FloatArray = NDArray[float64]
+    IntArray = NDArray[int64]
+    # What is read as coordinates of all atoms.
+    Rows = Union[Sequence[Any], NDArray[Any]]
+else:
+    # numpy need not be installed.
+    FloatArray = IntArray = Rows = Any
 
 HALF = RING // 2
 LONG_TEXT = 10_000
@@ -29,18 +44,18 @@ def _numpy() -> Any:
     return sys.modules[__name__].numpy
 
 
-def of_places(places: List[Tuple[int, int, int]]) -> Any:
+def of_places(places: List[Tuple[int, int, int]]) -> IntArray:
     """Places in ring units: an array of shape (atoms, 3) and whole numbers of 64 bits, or the list itself."""
     numpy = _numpy()
-    return places if numpy is None else numpy.array(places, dtype=numpy.int64).reshape(-1, 3)
+    return cast(IntArray, places if numpy is None else numpy.array(places, dtype=numpy.int64).reshape(-1, 3))
 
 
-def of_positions(places: Any, edge: float) -> Any:
+def of_positions(places: Any, edge: float) -> FloatArray:
     """Positions in the unit of the edge, of what `of_places` gives: an array of shape (atoms, 3), or a list of tuples."""
     numpy = _numpy()
     if numpy is None:
-        return [tuple(coordinate * edge / RING for coordinate in place) for place in places]
-    return places * edge / RING
+        return cast(FloatArray, [tuple(coordinate * edge / RING for coordinate in place) for place in places])
+    return cast(FloatArray, places * edge / RING)
 
 
 def millionths(positions: Any) -> Any:
@@ -97,10 +112,10 @@ def stacked(things: List[Any]) -> Any:
     return things if numpy is None else numpy.array(things)
 
 
-def scaled(images: Any, unit: float) -> Any:
+def scaled(images: Any, unit: float) -> FloatArray:
     """Differences in this unit: an array of floats, or a list of tuples."""
     numpy = _numpy()
-    return [tuple(part * unit for part in image) for image in images] if numpy is None else images * unit
+    return cast(FloatArray, [tuple(part * unit for part in image) for image in images] if numpy is None else images * unit)
 
 
 def count_of_lines(text: bytes) -> int:
@@ -124,15 +139,17 @@ def farthest(images: Any) -> Any:
     return abs(images).max() if hasattr(images, "max") else max(abs(part) for image in images for part in image)
 
 
-def least_images(places: Sequence[Any], others: Sequence[Any]) -> Any:
+def least_images(places: Rows, others: Rows) -> IntArray:
     """The differences `places - others` round the box the nearer way, in ring units: -2^31 to 2^31 - 1 along each axis."""
     numpy = _numpy()
     if numpy is None:
-        return [tuple((a - b + HALF) % RING - HALF for a, b in zip(*pair)) for pair in zip(places, others)]
-    return (numpy.asarray(places, dtype=numpy.int64) - numpy.asarray(others, dtype=numpy.int64) + HALF) % RING - HALF
+        images = [tuple((a - b + HALF) % RING - HALF for a, b in zip(*pair)) for pair in zip(places, others)]
+    else:
+        images = (numpy.asarray(places, dtype=numpy.int64) - numpy.asarray(others, dtype=numpy.int64) + HALF) % RING - HALF
+    return cast(IntArray, images)
 
 
-def distance(places: Sequence[Any], others: Sequence[Any]) -> float:
+def distance(places: Rows, others: Rows) -> float:
     """The root mean square distance of atoms between two lists of places, in ring units, each round the box the nearer way."""
     squares = [sum(float(part) ** 2 for part in image) for image in least_images(places, others)]
     return math.sqrt(sum(squares) / len(squares)) if squares else 0.0

@@ -5,7 +5,7 @@ back both frames, the step number and the direction, to the bit. What is saved i
 """
 from __future__ import annotations
 
-from typing import TYPE_CHECKING, Any, NamedTuple
+from typing import TYPE_CHECKING, NamedTuple
 
 from . import arrays, frames
 from .replies import number_after
@@ -26,9 +26,9 @@ class ThreeFrames(NamedTuple):
     """
 
     step: int
-    before: Any
-    now: Any
-    after: Any
+    before: arrays.IntArray
+    now: arrays.IntArray
+    after: arrays.IntArray
     direction: int = 1
 
     def kinetic_after(self) -> int:
@@ -36,12 +36,12 @@ class ThreeFrames(NamedTuple):
         moved = arrays.listed(arrays.least_images(self.after, self.now))
         return sum(part * part for image in moved for part in image)
 
-    def velocities(self, scale: Scale) -> Any:
+    def velocities(self, scale: Scale) -> arrays.FloatArray:
         """`(x(n+1) - x(n-1)) / (2 dt)`: in the unit of the file for each femtosecond, or for each unit of time if dt is in none."""
         moved = arrays.added(arrays.least_images(self.now, self.before), arrays.least_images(self.after, self.now))
         return arrays.scaled(moved, scale.edge / (RING * 2 * scale.time(1)))
 
-    def forces(self, scale: Scale) -> Any:
+    def forces(self, scale: Scale) -> arrays.FloatArray:
         """`x(n+1) - 2 x(n) + x(n-1)`, which is what all others push an atom by: in electronvolt / angstrom, or epsilon / unit."""
         pushes = arrays.least_images(arrays.least_images(self.after, self.now), arrays.least_images(self.now, self.before))
         return arrays.scaled(pushes, scale.force(1))

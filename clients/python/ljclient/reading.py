@@ -25,7 +25,7 @@ class Places(NamedTuple):
     """The places of all atoms at a step: an array, or a list of tuples."""
 
     step: int
-    places: Any
+    places: arrays.IntArray
 
 
 class Frame(NamedTuple):

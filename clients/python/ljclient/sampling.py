@@ -22,7 +22,7 @@ class Samples(NamedTuple):
     """
 
     steps: List[int]
-    frames: Any
+    frames: Union[arrays.FloatArray, arrays.IntArray]
 
 
 def checked_stops(every: Any, count: Any, what: str) -> None:

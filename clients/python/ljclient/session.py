@@ -42,6 +42,9 @@ class Session:
     sampled  the frames that `sample` had when its last call was broken off, else None
     """
 
+    # So that a name that is none, as in `session.temprature = 3`, is an AttributeError.
+    __slots__ = ("name", "mixture", "motion", "sampled", "lock", "_user", "_given", "_pace", "_path", "__weakref__")
+
     def __init__(
         self,
         user: "User",
@@ -180,7 +183,7 @@ class Session:
         self._user.known(self.name).branches.pop(name, None)
 
     @whole
-    def tug(self, atom: int, displacement: Sequence[int]) -> int:
+    def tug(self, atom: int, displacement: Union[Sequence[int], arrays.IntArray]) -> int:
         """Gives an atom a displacement of so many ring units (edge / 2^32) more for each step, along x, y and z.
 
         Two runs of a liquid that are nearer than 1/256 sigma, the width of a bin of the table, part two to three times as fast
@@ -244,14 +247,14 @@ class Session:
         number = self._number_of(atom)
         return frames.place(self._user, self.name, number)
 
-    def places(self) -> Any:
+    def places(self) -> arrays.IntArray:
         """The places of all atoms, in ring units: whole numbers from 0 to 2^32 - 1, which are the simulation itself.
 
         An array of numpy of shape (atoms, 3), or a list of tuples where numpy is not installed.
         """
         return self._frames_of_places()[0].places
 
-    def positions(self) -> Any:
+    def positions(self) -> arrays.FloatArray:
         """The positions of all atoms in the unit of the file, from 0 up to the edge: `place * edge / 2^32`.
 
         An array of numpy of shape (atoms, 3), or a list of tuples where numpy is not installed.
@@ -260,7 +263,7 @@ class Session:
         return arrays.of_positions(self.places(), edge)
 
     @whole
-    def velocities(self) -> Any:
+    def velocities(self) -> arrays.FloatArray:
         """The velocities of all atoms at this step, `(x(n+1) - x(n-1)) / (2 dt)`: in angstrom / femtosecond if epsilon and mass are
         known, else in the unit of the file for each `sigma sqrt(m / epsilon)`. After `reverse` they have the other sign.
 
@@ -270,7 +273,7 @@ class Session:
         return centred.three_frames(self._user, self.name).velocities(self.scale)
 
     @whole
-    def forces(self) -> Any:
+    def forces(self) -> arrays.FloatArray:
         """The force on each atom at this step, which is `x(n+1) - 2 x(n) + x(n-1)` by the definition of a step: in electronvolt /
         angstrom if epsilon is known, else in epsilon / unit of the file. Shape and way are those of `velocities`."""
         return centred.three_frames(self._user, self.name).forces(self.scale)
@@ -285,7 +288,7 @@ class Session:
         return pressure.pressure(self, self._user)
 
     @whole
-    def displacements(self) -> Any:
+    def displacements(self) -> arrays.FloatArray:
         """How far each atom has moved since the first call of this object, in the unit of the file, also round the periodic box: an
         array of shape (atoms, 3), or a list of tuples. The first call tells zeros.
 
@@ -459,7 +462,7 @@ class Session:
         """The number by which the server knows an atom. Each number of an atom that goes out is of here."""
         return self.order.number_of(count_of(atom, "an atom number"))
 
-    def _tug(self, atom: Any, displacement: Sequence[int]) -> str:
+    def _tug(self, atom: Any, displacement: Union[Sequence[int], arrays.IntArray]) -> str:
         """The command for a tug."""
         x, y, z = displacement_of(displacement)
         return f"TUG {self.name} {self._number_of(atom)} {x} {y} {z}"

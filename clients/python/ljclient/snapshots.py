@@ -46,22 +46,27 @@ class Snapshot:
     atoms: Composition = dataclasses.field(repr=False, compare=False)
 
     @property
-    def places(self) -> Any:
+    def temperature(self) -> float:
+        """The temperature of `energies`: in kelvin if epsilon is known, else in epsilon / k_B."""
+        return self.energies.temperature
+
+    @property
+    def places(self) -> arrays.IntArray:
         """The places, in ring units: whole numbers from 0 to 2^32 - 1."""
         return self.three.now
 
     @functools.cached_property
-    def positions(self) -> Any:
+    def positions(self) -> arrays.FloatArray:
         """The positions in the unit of the file, from 0 up to the edge."""
         return arrays.of_positions(self.three.now, self.scale.edge)
 
     @functools.cached_property
-    def velocities(self) -> Any:
+    def velocities(self) -> arrays.FloatArray:
         """The velocities, as those of `Session.velocities`."""
         return self.three.velocities(self.scale)
 
     @functools.cached_property
-    def forces(self) -> Any:
+    def forces(self) -> arrays.FloatArray:
         """The forces, as those of `Session.forces`."""
         return self.three.forces(self.scale)
 
@@ -71,7 +76,7 @@ class Snapshot:
         return of_frames(self.three, self.atoms)
 
     @functools.cached_property
-    def displacements(self) -> Any:
+    def displacements(self) -> arrays.FloatArray:
         """The displacements from the first frame in the unit of the file, also of atoms that have left the box meanwhile."""
         return arrays.scaled(self.moved, self.scale.edge / RING)
 

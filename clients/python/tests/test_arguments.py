@@ -80,6 +80,12 @@ def test_what_is_no_number_of_a_session_is_named(user: Any, act: Any, told: Any)
     assert (a.step, listed(a.places())) == (0, [(0, 0, 0), (25165824, 0, 0)])
 
 
+@pytest.mark.parametrize("name", ["temprature", "positions", "step", "dt"])
+def test_what_is_no_attribute_of_a_session_cannot_be_set(user: Any, name: Any) -> None:
+    with pytest.raises(AttributeError):
+        setattr(dimer(user), name, 3)
+
+
 def test_h_is_a_whole_number() -> None:
     with names("the step factor h is a whole number (int), not '131072'"):
         Scale.of(256, 1, "131072")  # type: ignore[arg-type]

@@ -54,7 +54,7 @@ def test_an_error_in_a_loop(a: Any) -> None:
 def test_an_error_on_the_way_to_the_next_row(a: Any) -> None:
     rows = a.thermo(every=2, rows=5)
     next(rows)
-    with mock.patch.object(a, "advance", side_effect=ZeroDivisionError), pytest.raises(ZeroDivisionError):
+    with mock.patch.object(type(a), "advance", side_effect=ZeroDivisionError), pytest.raises(ZeroDivisionError):
         next(rows)
     assert stands_at(a, 0)
 
@@ -132,13 +132,13 @@ def test_frames_are_appended_to_a_file(a: Any, tmp_path: pathlib.Path) -> None:
 def test_frames_of_a_sample_that_is_interrupted_are_kept(user: Any, a: Any, exact: Any) -> None:
     advance, left = a.advance, [1, 1]
 
-    def interrupted(n: Any, progress: bool = False) -> Any:
+    def interrupted(_: Any, n: Any, progress: bool = False) -> Any:
         if not left:
             raise KeyboardInterrupt
         left.pop()
         return advance(n, progress)
 
-    with mock.patch.object(a, "advance", interrupted), pytest.raises(KeyboardInterrupt):
+    with mock.patch.object(type(a), "advance", interrupted), pytest.raises(KeyboardInterrupt):
         a.sample(every=1, frames=9, exact=exact)
     whole = dimer(user, "b").sample(every=1, frames=3, exact=exact)
     assert a.sampled.steps == [0, 1, 2] == whole.steps

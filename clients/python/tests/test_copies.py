@@ -90,7 +90,7 @@ def test_saved_on_the_way(user: Any, tmp_path: pathlib.Path) -> None:
     at = iter([0.0, 5.0, 10.0, 10.0, 12.0, 25.0, 25.0, 26.0])
     saves = []
     clock = mock.patch.object(time, "monotonic", lambda: next(at))
-    with clock, mock.patch.object(a, "save", lambda to: saves.append(len(told))):
+    with clock, mock.patch.object(type(a), "save", lambda self, to: saves.append(len(told))):
         with saving.saver(a, path, 10, lambda *numbers: told.append(numbers)) as tell:
             assert tell is not None
             for done in range(0, 60, 10):

@@ -211,7 +211,7 @@ def test_samples_and_trajectories_are_watched(tmp_path: pathlib.Path) -> None:
     ways: List[Callable[[Any], object]] = [lambda a: a.sample(5000, 6), lambda a: a.write_trajectory(tmp_path / "way.xyz", 5000, 6)]
     for go_on in ways:
         a, _ = opened(rising)
-        with told() as texts, mock.patch.object(a, "_positions_of_frame", lambda: (0, [])):
+        with told() as texts, mock.patch.object(type(a), "_positions_of_frame", lambda _: (0, [])):
             with mock.patch.object(snapshots, "_taken"), mock.patch.multiple(trajectories, opened=mock.DEFAULT, _in_box=mock.DEFAULT):
                 go_on(a)
         assert len(texts) == 1

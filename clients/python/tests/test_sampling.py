@@ -55,7 +55,7 @@ class Samples(Alone):
     def test_one_command_for_each_frame(self) -> None:
         a = dimer(self.user)
         asked = self.user._wire.asked
-        with mock.patch.object(a, "advance"):
+        with mock.patch.object(type(a), "advance"):
             a.sample(every=100, frames=5)
         self.assertEqual(self.user._wire.asked, asked + 5)
 
@@ -125,7 +125,7 @@ class Thermo(Alone):
 
     def test_rows_come_one_by_one(self) -> None:
         a = dimer(self.user)
-        with mock.patch.object(a, "advance", side_effect=ZeroDivisionError):
+        with mock.patch.object(type(a), "advance", side_effect=ZeroDivisionError):
             rows = a.thermo(every=5, rows=3)
             self.assertEqual(next(rows).step, 0)
             with self.assertRaises(ZeroDivisionError):
@@ -175,7 +175,7 @@ class Trajectories(Alone):
 
     def test_what_is_there_when_it_is_interrupted(self) -> None:
         a = dimer(self.user)
-        with mock.patch.object(a, "advance", side_effect=[1, KeyboardInterrupt]), self.assertRaises(KeyboardInterrupt):
+        with mock.patch.object(type(a), "advance", side_effect=[1, KeyboardInterrupt]), self.assertRaises(KeyboardInterrupt):
             a.write_trajectory(self.path, every=1, frames=5)
         self.assertEqual(len(self.path.read_text().splitlines()), 2 * 4)
 

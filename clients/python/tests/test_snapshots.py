@@ -46,6 +46,7 @@ def test_a_frame_has_what_the_session_tells(user: Any, kind: Any) -> None:
         for number, frame in enumerate(told):
             twin.advance(3 if number else 0)
             assert isinstance(frame, Snapshot) and frame.energies == energies[number]
+            assert frame.temperature == energies[number].temperature
             assert (frame.step, frame.time) == (3 * number, 3 * number * a.dt) and frame.step == twin.step
             assert listed(frame.places) == listed(twin.places())
             for tell in ("positions", "velocities", "forces", "displacements"):
@@ -157,12 +158,12 @@ def test_frames_of_a_sample_that_is_broken_off_are_followed_too(user: Any) -> No
     start = listed(a.places())[0][0]
     advance, calls = a.advance, []
 
-    def breaks(*words: Any) -> Any:
+    def breaks(_: Any, *words: Any) -> Any:
         calls.append(words)
         if len(calls) == 3:
             raise KeyboardInterrupt
         return advance(*words)
 
-    with mock.patch.object(a, "advance", breaks), pytest.raises(KeyboardInterrupt):
+    with mock.patch.object(type(a), "advance", breaks), pytest.raises(KeyboardInterrupt):
         a.sample(every=1, frames=9, exact=True, unwrap=True)
     assert [listed(frame)[0][0] for frame in a.sampled.frames] == [start, start + FAST, start + 2 * FAST]

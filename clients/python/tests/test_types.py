@@ -1,4 +1,5 @@
 """The types of the package and of the Python in both READMEs and in the reference, held strictly by mypy."""
+import importlib.util
 import os
 import pathlib
 import subprocess
@@ -10,6 +11,8 @@ import pytest
 from support import TOP, python_blocks
 
 pytest.importorskip("mypy", reason="mypy is not installed")
+
+with_types = pytest.mark.skipif(importlib.util.find_spec("numpy") is None, reason="numpy is not installed")
 
 CLIENT = TOP / "clients" / "python"
 SUBSTANCE = """\
@@ -55,6 +58,43 @@ def test_each_block_of_a_document(tmp_path: pathlib.Path, path: Any) -> None:
     (tmp_path / "libraries.ini").write_text(WITHOUT_TYPES)
     status, text = told(tmp_path, "--config-file=libraries.ini", *files)
     assert status == 0, text
+
+
+ARRAYS = """\
+from numpy import float64, int64
+from numpy.typing import NDArray
+
+from ljclient import Session, distance, least_images
+
+
+def told(session: Session) -> float:
+    reals: "list[NDArray[float64]]" = [session.positions(), session.velocities(), session.forces(), session.displacements()]
+    wholes: "list[NDArray[int64]]" = [session.places(), least_images(session.places(), session.places())]
+    for frame in session.frames(every=1, n=2):
+        reals += [frame.positions, frame.velocities, frame.forces, frame.displacements]
+        wholes += [frame.places]
+        print(frame.temperature + 1.0)
+    session.tug(0, wholes[0][0])
+    print(session.sample(every=1, frames=2).frames.shape, reals[0].mean(axis=0))
+    return distance(wholes[0], wholes[1])
+"""
+
+
+@with_types
+def test_arrays_have_types(tmp_path: pathlib.Path) -> None:
+    (tmp_path / "good.py").write_text(ARRAYS)
+    status, text = told(tmp_path, "good.py")
+    assert status == 0, text
+
+
+@with_types
+@pytest.mark.parametrize(
+    "wrong", ["session.positions().men()", "session.positions() + 'x'", "session.sample(1, 2).frames.no", "len(session.forces().T.no)"]
+)
+def test_what_arrays_have_not_is_an_error(tmp_path: pathlib.Path, wrong: Any) -> None:
+    (tmp_path / "bad.py").write_text(f"from ljclient import Session\n\n\ndef told(session: Session) -> None:\n    print({wrong})\n")
+    status, text = told(tmp_path, "bad.py")
+    assert status == 1 and text.startswith("bad.py:5: error:"), text
 
 
 def test_substances_are_words_of_load(tmp_path: pathlib.Path) -> None:
