@@ -15,7 +15,7 @@ import time
 from dataclasses import dataclass
 from typing import TYPE_CHECKING, Any, Callable, ContextManager, Dict, Iterator, List, NamedTuple, Optional, Sequence, Tuple, Union
 
-from . import notes
+from . import notes, progress as bars
 from .errors import ConnectionLost, Damaged
 from .files import Path, write_whole
 from .notes import Noted
@@ -74,7 +74,7 @@ def ensemble(
     seconds: float = 10.0,
     tries: int = 3,
     program: Optional[Program] = None,
-    progress: Optional[Callable[[int, int], None]] = None,
+    progress: Union[bool, bars.Report, None] = None,
 ) -> List[List[Any]]:
     """Runs jobs, and returns what was noted of each, in the order of the jobs.
 
@@ -84,7 +84,8 @@ def ensemble(
 
     Checkpoints are written into `folder`, at most one in so many `seconds` for each job, and a later call with the same
     jobs goes on from there. Workers on other machines find them if the folder is shared. Without one a folder is made, and
-    removed at the end. `program` is as for `run`, and `progress` is called with how many jobs are done, and of how many.
+    removed at the end. `program` is as for `run`. With `progress=True` a bar of tqdm is shown at a terminal or in a notebook;
+    a function in its place is called with how many jobs are done, and of how many.
 
     What is noted is kept in `folder` as JSON: TypeError, at the first look, if it is of a kind that has no words there. ValueError
     if the folder has notes of an earlier version, which are pickles, and are not read.
@@ -93,12 +94,12 @@ def ensemble(
     results: Results = {}
     if tries < 1:
         raise ValueError(f"{tries} tries: a job is tried at least once")
-    with _made(folder) as place:
+    with _made(folder) as place, bars.reporter(progress or False, "jobs", unit="job") as report:
         names = [f"job_{number}" + (f"_{_key_of(job)}" if folder is not None else "") for number, job in enumerate(jobs)]
         is_kept = folder is not None
         tasks = {number: Task(job, str(place / names[number]), seconds, named, is_kept) for number, job in enumerate(jobs)}
         for turn in range(tries):
-            lost = _round(executor, tasks, results, progress)
+            lost = _round(executor, tasks, results, report)
             if lost is None:
                 break
             if turn == tries - 1 or _has_broken(executor, lost):
@@ -113,9 +114,7 @@ def _has_broken(executor: Pool, lost: BaseException) -> bool:
     return isinstance(executor, Executor) and isinstance(lost, BrokenExecutor)
 
 
-def _round(
-    executor: Pool, tasks: Dict[int, Task], results: Results, progress: Optional[Callable[[int, int], None]]
-) -> Optional[BaseException]:
+def _round(executor: Pool, tasks: Dict[int, Task], results: Results, report: Optional[bars.Report]) -> Optional[BaseException]:
     """Runs the jobs that have no results yet. Returns the loss of a worker, if there was one."""
     lost: Optional[BaseException] = None
     with _opened(executor) as pool:
@@ -124,8 +123,8 @@ def _round(
                 lost = told
                 continue
             results[number] = told
-            if progress is not None:
-                progress(len(results), len(tasks))
+            if report is not None:
+                report(len(results), len(tasks))
     return lost
 
 

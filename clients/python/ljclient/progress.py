@@ -15,25 +15,27 @@ NamedReport = Callable[[str, int, int], None]
 
 
 @contextlib.contextmanager
-def reporter(wanted: Union[bool, Report], name: str, delay: float = 0.0) -> Iterator[Optional[Report]]:
-    """What is told how many steps of a session are done, and of how many. None where nobody looks.
+def reporter(wanted: Union[bool, Report], name: str, delay: float = 0.0, unit: str = "step") -> Iterator[Optional[Report]]:
+    """What is told how many steps of a session, or things of another unit, are done, and of how many. None where nobody looks.
 
     A bar is drawn if the run takes longer than the delay, in seconds. It stays as it is at the end of the block.
     """
     if callable(wanted):
         yield wanted
         return
-    with reporters(wanted, [name], delay) as reports:
+    with reporters(wanted, [name], delay, unit) as reports:
         yield reports[0]
 
 
 @contextlib.contextmanager
-def reporters(wanted: Union[bool, NamedReport], names: Sequence[str], delay: float = 0.0) -> Iterator[List[Optional[Report]]]:
+def reporters(
+    wanted: Union[bool, NamedReport], names: Sequence[str], delay: float = 0.0, unit: str = "step"
+) -> Iterator[List[Optional[Report]]]:
     """The same for each of several sessions. A function is told the name of the session first."""
     if callable(wanted):
         yield [functools.partial(wanted, name) for name in names]
         return
-    bars = Bars(names, delay) if wanted and _is_seen() and _can_be_drawn(tells=not delay) else None
+    bars = Bars(names, delay, unit) if wanted and _is_seen() and _can_be_drawn(tells=not delay) else None
     try:
         yield [functools.partial(bars.show, place) if bars else None for place in range(len(names))]
     finally:
@@ -73,9 +75,10 @@ def _tqdm() -> Any:
 class Bars:
     """A bar for each of some sessions, one below the other. They are closed together: one that ends first stays in its line."""
 
-    def __init__(self, names: Sequence[str], delay: float):
+    def __init__(self, names: Sequence[str], delay: float, unit: str):
         self._names = [name.ljust(max(map(len, names))) for name in names]
         self._delay = delay
+        self._unit = unit
         self._bars: Dict[int, Any] = {}
 
     def show(self, place: int, done: int, total: int) -> None:
@@ -89,7 +92,7 @@ class Bars:
             bar.update(done - bar.n)
 
     def _begun(self, name: str, total: int) -> Any:
-        words = {"unit": "step", "miniters": 1, "dynamic_ncols": True, "delay": self._delay}
+        words = {"unit": self._unit, "miniters": 1, "dynamic_ncols": True, "delay": self._delay}
         return _tqdm()(desc=name, total=total, **words)
 
     def close(self) -> None:

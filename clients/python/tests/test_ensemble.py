@@ -1,6 +1,8 @@
 """Independent runs over executors: their order, their results, lost workers and kept checkpoints."""
 import ast
+import contextlib
 import importlib.util
+import io
 import math
 import os
 import pathlib
@@ -11,10 +13,11 @@ import unittest
 from concurrent.futures import BrokenExecutor, ProcessPoolExecutor, ThreadPoolExecutor
 from functools import partial
 from typing import Any, Dict
+from unittest import mock
 
 import ensemble_jobs
 from ensemble_jobs import begin, begin_two, jobs, jobs_that_lose, look, look_and_die, look_and_fail, look_at_two
-from ljclient import ConnectionLost, Job, ensemble
+from ljclient import ConnectionLost, Job, ensemble, progress
 from support import EXAMPLES, PROGRAM, SECONDS, TOP, folder_of
 
 
@@ -61,6 +64,22 @@ class Results(Ensembles):
         seen = []
         self.ensemble(jobs(3), progress=lambda *counts: seen.append(counts))
         self.assertEqual(seen, [(1, 3), (2, 3), (3, 3)])
+
+    def test_a_bar(self) -> None:
+        text = io.StringIO()
+        with mock.patch.object(progress, "_is_seen", return_value=True), contextlib.redirect_stderr(text):
+            self.assertEqual(len(self.ensemble(jobs(3), progress=True)), 3)
+        if importlib.util.find_spec("tqdm") is None:
+            self.assertIn("tqdm is not installed", text.getvalue())
+        else:
+            self.assertRegex(text.getvalue(), r"jobs: 100%\|.*\| 3/3 \[.*job")
+
+    def test_without_a_bar(self) -> None:
+        text = io.StringIO()
+        with contextlib.redirect_stderr(text):
+            for wanted in (None, False, True):
+                self.assertEqual(len(self.ensemble(jobs(1), progress=wanted)), 1)
+        self.assertEqual(text.getvalue(), "")
 
     def test_functions_that_cannot_be_sent(self) -> None:
         made = [Job(lambda user: begin(0, user), lambda session: session.step, 2, 1)]  # type: ignore[no-any-return]
