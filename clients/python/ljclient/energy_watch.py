@@ -1,13 +1,15 @@
 """Whether the energy of a session stays what it was. With a time step that is too long it grows, and the atoms heat up."""
 from __future__ import annotations
 
+import contextlib
 import math
 from dataclasses import dataclass, replace
-from typing import TYPE_CHECKING, Optional, Tuple
+from typing import TYPE_CHECKING, Iterable, Optional, Tuple
 
+from .errors import Refused
 from .measurement import Measurement
 from .mixture import Mixture
-from .replies import of_session
+from .replies import number_after, of_session
 from .resorting import Resorting
 from .stepping import UNBOUNDED
 from .thermo import Thermo
@@ -18,17 +20,26 @@ if TYPE_CHECKING:
     from .loading import Loader
 
 LARGE_STEP_FACTOR = 200_000
-# In epsilon an atom.
-LARGE_CHANGE = 0.5
+# Of the kinetic energy.
+LARGE_PART = 0.05
+# What bins and cutoff of the table bring by themselves, in epsilon an atom times the square root of how many atoms there are.
+RISE_BY_TABLE = 0.4
+# What they bring in the first steps, in epsilon an atom. The cutoff is not shifted, so a pair that leaves it takes 0.016 epsilon,
+# and in a crystal that grows warm many do.
+FIRST_RISE = 0.1
+# What is told of as a fall, which no heating brings, in epsilon an atom.
+LARGE_FALL = 0.5
 # The start of a run is measured if the run has more steps than this.
 SHORT_RUN = 500
 # After so many steps from the start the energy is measured again, then when their number has doubled, and after each 20,000.
 FIRST_CHECK = 1_000
 CHECKED_EACH = 20_000
+# The commands that wait until the steps of a session are made which were started.
+WAITING = {"ADVANCE", "REVERSE", "BRANCH", "RESTORE", "TUG", "MEASURE", "SHOW", "DUMP"}
 
 
 class EnergyWarning(UserWarning):
-    """The energy of a session has changed by half an epsilon an atom, or h is so large that it soon will."""
+    """The energy of a session has risen by a twentieth of its kinetic energy, or h is so large that it soon will."""
 
 
 @dataclass
@@ -37,18 +48,20 @@ class EnergyWatch:
 
     is_on       whether it is measured: with `watch=False` it is not, nor after a warning, which comes once
     start       the step where it was measured first, and what it was: the total energy of an atom in epsilon
+    settled     the same of the first measurement after 1,000 steps, when the atoms have left the places where they began
     gone        how many steps were made since then; without a start, since something else than steps has changed the energy
     next_check  after how many of these steps it is measured next
     """
 
     is_on: bool = True
     start: Optional[Tuple[int, float]] = None
+    settled: Optional[Tuple[int, float]] = None
     gone: int = 0
     next_check: int = FIRST_CHECK
 
     def begin_anew(self) -> None:
         """Forgets the start, since something else than steps has changed the energy."""
-        self.start, self.gone, self.next_check = None, 0, FIRST_CHECK
+        self.start, self.settled, self.gone, self.next_check = None, None, 0, FIRST_CHECK
 
     def room(self, left: int) -> int:
         """By how many steps a session may go on until it is measured, if so many are left of a run. 0: it is measured now."""
@@ -57,21 +70,34 @@ class EnergyWatch:
         return max(self.next_check - 1 - self.gone, 0)
 
     def look(self, name: str, scale: Scale, row: Thermo, atoms: int) -> None:
-        """Takes in the energy of a step, and warns if it is far from that of the start."""
-        energy = row.total / atoms
+        """Takes in the energy of a step, and warns if it is far from what it was before."""
+        energy, kinetic = row.total / atoms, row.kinetic / atoms
         if self.start is None:
             self.start, self.gone = (row.step, energy), 1
             return
         self.next_check = max(FIRST_CHECK, min(2 * self.gone, (self.gone // CHECKED_EACH + 1) * CHECKED_EACH))
-        step, before = self.start
-        if self.is_on and abs(energy - before) >= LARGE_CHANGE:
+        step, before = self.settled or self.start
+        allowed = largest_rise(kinetic, atoms) + (0.0 if self.settled else FIRST_RISE)
+        if self.settled is None and self.gone >= FIRST_CHECK - 1:
+            self.settled = (row.step, energy)
+        if self.is_on and not -LARGE_FALL < energy - before < allowed:
             self.is_on = False
+            part = f" ({100 * abs(energy - before) / kinetic:.2g} % of its kinetic energy)" if kinetic else ""
             warn_caller(
                 f"the energy of {name} has {'risen' if energy > before else 'fallen'} by {abs(energy - before):.3g} epsilon an "
-                f"atom from step {step} to step {row.step}. Take a smaller time step (h is {scale.h}, and grows with its "
+                f"atom{part} from step {step} to step {row.step}. Take a smaller time step (h is {scale.h}, and grows with its "
                 f"square), and check the units of sigma and epsilon. See 'What is computed' in the README.",
                 EnergyWarning,
             )
+
+
+def largest_rise(kinetic: float, atoms: int) -> float:
+    """By how much the energy of an atom may rise, in epsilon, if that is its kinetic energy.
+
+    By the bins of the table the energy of one pair is off by little more and of another one by less: the fewer atoms there are,
+    the more of it is left in the mean of them, however short the time step is.
+    """
+    return max(LARGE_PART * kinetic, RISE_BY_TABLE / math.sqrt(atoms))
 
 
 class WatchedHooks:
@@ -98,6 +124,7 @@ class WatchedHooks:
             return room
         if steps := known.watch.room(self._left):
             return room if self._pieces_are_given else min(room, steps)
+        self._loader.started.discard(self._name)
         self._here = self._measured()
         if not self._pieces_are_given:
             return 1
@@ -113,6 +140,27 @@ class WatchedHooks:
             self._look(self._measured())
         return number
 
+    def measure_start(self) -> int:
+        """Measures the energy before steps are started, if it is to be known, for which a step is made. Returns how many were made.
+
+        After steps that were started before nothing is measured, since they would be waited for.
+        """
+        known = self._loader.known(self._name)
+        watch = known.watch
+        if known.is_started or watch.start is not None or watch.room(self._left) or not (watch.is_on and can_be_measured(known.scale)):
+            return 0
+        self._here, line = self._measured(), f"ADVANCE {self._name} 1"
+        self.made(1, number_after(line, self._loader.ask(line).words, 2))
+        return 1
+
+    def begun(self, steps: int, step: int) -> int:
+        """As `made`, of steps that are not waited for. The energy is measured later, by the first command that waits for them."""
+        number, known = self.made(steps, step), self._loader.known(self._name)
+        known.is_started = True
+        if known.watch.is_on and can_be_measured(known.scale) and not known.watch.room(0):
+            self._loader.started.add(self._name)
+        return number
+
     def _look(self, after: Measurement) -> None:
         """Takes in the energy of the step that was measured, by what was measured after it."""
         here, self._here = self._here, None
@@ -121,9 +169,30 @@ class WatchedHooks:
             known.watch.look(self._name, known.scale, Thermo.of(here, after), here.atoms)
 
     def _measured(self) -> Measurement:
-        line, known = f"MEASURE {self._name}", self._loader.known(self._name)
-        told = Measurement.of(of_session(line, self._loader.ask(line).words)[2:], known.scale)
-        return replace(told, step=known.order.step_of(told.step))
+        return measured(self._loader, self._name)
+
+
+def measured(loader: "Loader", name: str) -> Measurement:
+    """What is measured of a session."""
+    line, known = f"MEASURE {name}", loader.known(name)
+    told = Measurement.of(of_session(line, loader.ask(line).words)[2:], known.scale)
+    return replace(told, step=known.order.step_of(told.step))
+
+
+def look_at_started(loader: "Loader", lines: Iterable[str]) -> None:
+    """Measures the energy of each session whose steps were started, and are waited for by one of these commands, before it is asked.
+
+    It takes one measurement, so the kinetic energy is that of half a step ago. A session that is gone is passed over.
+    """
+    commands = [line.split()[:2] for line in lines]
+    names = {words[1] for words in commands if len(words) == 2 and words[0] in WAITING}
+    for name in sorted(names & loader.started):
+        loader.started.discard(name)
+        known = loader.known(name)
+        with contextlib.suppress(Refused):
+            here = measured(loader, name)
+            if known.scale is not None:
+                known.watch.look(name, known.scale, Thermo.of(here, here), here.atoms)
 
 
 def can_be_measured(scale: Optional[Scale]) -> bool:

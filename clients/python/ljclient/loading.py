@@ -43,6 +43,8 @@ class Loader:
         # Where the server listens, as it was said: HOST:PORT. Nothing of a program of its own.
         self.address = ""
         self._known: Dict[str, Known] = {}
+        # Sessions whose energy is measured as soon as the steps are made that were started.
+        self.started: Set[str] = set()
         self._listeners = Listeners()
         self._versions: Versions = versions or (lambda: [])
 
@@ -334,6 +336,7 @@ class Loader:
     def has_dropped(self, name: str) -> None:
         """Forgets what was said of a session that is gone."""
         self._known.pop(name, None)
+        self.started.discard(name)
 
     @property
     def outlasts_connections(self) -> bool:

@@ -130,8 +130,9 @@ class Session:
         notebook; a function in its place is called with how many steps are done, and of how many.
 
         The energy is measured at the start of a run of more than 500 steps, after 1,000, 2,000, 4,000, .. steps from there,
-        and after each 20,000. There is an `EnergyWarning`, once, if that of an atom has changed by half an epsilon. What else
-        changes it (`tug`, `heat`, `restore`) sets the start anew. `load(.., watch=False)` does without.
+        and after each 20,000. There is an `EnergyWarning`, once, if it has risen by 5 % of the kinetic energy and that of an
+        atom by `0.4 / sqrt(atoms)` epsilon, in the first 1,000 steps by 0.1 more; or if it has fallen by 0.5. What else changes
+        it (`tug`, `heat`, `restore`) sets the start anew. `load(.., watch=False)` does without.
 
         With `save` it is saved to that file at the start, each so many seconds on the way and at the end, as by `save(path)`; also
         where an interrupt ends it. `User.load_saved` goes on from there if the run is lost.
@@ -150,13 +151,17 @@ class Session:
         The steps are made while this user asks for something else, such as steps of other sessions. What needs the session
         as it is then (`step`, `place`, `measure`, `branch`, ..) waits until it is there. That is one reply, which has the
         time limit of the connection, so a run that takes longer is for `advance`, which goes in pieces.
+
+        The energy is measured as by `advance`, before the first thing that waits, which warns if it has risen. Where that of
+        the start is not known yet, one of more than 500 steps is made at once.
         """
         total, most = count_of(n, "a number of steps"), stepping.MAX_STEPS
-        lines = [f"START {self.name} {min(most, total - made)}" for made in range(0, max(total, 1), most)]
-        target = number_after(lines[-1], self._user.ask_all(lines)[-1].words, 2)
-        step = WatchedHooks(self._user, self.name, total).made(total, target)
-        self._user.known(self.name).is_started = True
-        return step
+        hooks = WatchedHooks(self._user, self.name, total)
+        with held():
+            first = hooks.measure_start()
+            lines = [f"START {self.name} {min(most, total - made)}" for made in range(first, max(total, first + 1), most)]
+            target = number_after(lines[-1], self._user.ask_all(lines)[-1].words, 2)
+        return hooks.begun(total - first, target)
 
     def reverse(self) -> int:
         """Turns the motion back, and answers the new step number: the two frames are exchanged.

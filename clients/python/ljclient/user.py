@@ -11,7 +11,7 @@ from typing import Callable, Dict, Iterable, Iterator, List, Optional, Sequence,
 
 from . import leftovers, migrate, progress as bars, stepping, units
 from .box import take_up
-from .energy_watch import EnergyWatch, WatchedHooks
+from .energy_watch import EnergyWatch, WatchedHooks, look_at_started
 from .errors import BadReply, CannotStart, ClientError, ConnectionLost, TimedOut
 from .files import Path
 from .guards import RESERVED
@@ -185,6 +185,8 @@ class User(Loader):
     @whole
     def ask_commands(self, commands: Sequence[Command]) -> List[Reply]:
         """As `ask_all`, of commands with the bodies that they announce."""
+        if self.started:
+            look_at_started(self, (line for line, _ in commands))
         self.make_room(len(commands))
         with self._told():
             try:
@@ -277,6 +279,8 @@ class User(Loader):
     @whole
     def ask_text(self, line: str) -> Tuple[List[str], bytes]:
         """The words of the reply to a command line after `OK`, and the lines after them as they came. A refusal is raised."""
+        if self.started:
+            look_at_started(self, [line])
         self.make_room(1)
         with self._told():
             return self._wire.ask_text(line)
@@ -284,6 +288,8 @@ class User(Loader):
     @whole
     def ask_rows(self, lines: Sequence[str]) -> bytes:
         """The lines that many command lines are answered by, one for each, as they came. The first refusal is raised."""
+        if self.started:
+            look_at_started(self, lines)
         self.make_room(len(lines))
         with self._told():
             return self._wire.ask_rows(lines)

@@ -12,7 +12,7 @@ from typing import Any, Callable, Dict, Iterator, List, Tuple
 
 import pytest
 
-from ljclient import EnergyWarning, User, run, snapshots, trajectories, units, user as users
+from ljclient import EnergyWarning, User, refusals, run, snapshots, trajectories, units, user as users
 from ljclient.wire import Reply
 from support import ARGON, DIMER, DIMER_SCALE, EXAMPLES, PROGRAM, dimer, present
 
@@ -80,8 +80,8 @@ def told() -> Iterator[Any]:
 
 
 def rising(step: Any) -> Any:
-    """In epsilon: 0.48 at step 15,999 and 0.6 at step 19,999, so it is told of at step 20,000."""
-    return 0.6 * step / 19_999
+    """In epsilon: 0.025 at step 999, 0.4 at step 15,999 and 0.5 at step 19,999, so it is told of at step 20,000, of one atom at rest."""
+    return 0.5 * step / 19_999
 
 
 # When it is measured.
@@ -127,6 +127,79 @@ def test_start_is_sent_alone_and_its_steps_count() -> None:
     assert wire.measured == [0, 1, 30_501, 30_502, 39_999, 40_000]
 
 
+WAITS: List[Callable[[Any], object]] = [
+    lambda a: a.step,
+    lambda a: a.measure(),
+    lambda a: a.reverse(),
+    lambda a: a.branch("k"),
+    lambda a: a.restore("k"),
+    lambda a: a.tug(0, (1, 0, 0)),
+    lambda a: a._user.ask("ADVANCE a 0"),
+    lambda a: a._user.ask_all(["LIST a", "MEASURE a"]),
+]
+
+
+@pytest.mark.parametrize("wait", WAITS)
+def test_after_a_start_it_is_told_by_the_next_call_that_waits(wait: Any) -> None:
+    a, wire = opened(rising)
+    with told() as texts:
+        assert a.start(30_000) == 30_000
+        assert a.saved() == []
+        assert wire.lines[1:] == ["MEASURE a", "ADVANCE a 1", "MEASURE a", "START a 29999", "LIST a"]
+    assert texts == []
+    before = len(wire.lines)
+    with told() as texts:
+        wait(a)
+    assert len(texts) == 1 and "risen by 0.75 epsilon an atom from step 0 to step 30000" in texts[0]
+    assert wire.lines[before] == "MEASURE a"
+    with told() as texts:
+        wait(a)
+    assert (texts, wire.measured[:3]) == ([], [0, 1, 30_000])
+
+
+def test_after_a_start_one_measurement_is_made_if_it_is_due() -> None:
+    a, wire = opened()
+    for steps, measured in [(400, 0), (200, 0), (500, 0), (5000, 1), (100, 0), (9000, 1)]:
+        a.start(steps)
+        before = len(wire.lines)
+        assert (a.step, a.step) == (wire.steps["a"],) * 2
+        assert wire.lines[before:] == ["MEASURE a"] * measured + ["ADVANCE a 0"] * 2
+    assert wire.lines[1:8] == ["START a 400", "ADVANCE a 0", "ADVANCE a 0", "MEASURE a", "ADVANCE a 1", "MEASURE a", "START a 199"]
+
+
+def test_what_was_started_before_is_not_waited_for_by_a_start() -> None:
+    a, wire = opened(rising)
+    a.start(300)
+    before = len(wire.lines)
+    a.start(300)
+    a.start(20_000)
+    assert wire.lines[before:] == ["START a 300", "START a 20000"]
+    assert (a.step, wire.measured) == (20_600, [20_600])
+    a.start(30_000)
+    with told() as texts:
+        a.advance(1)
+    assert len(texts) == 1 and "risen by 0.75 epsilon an atom from step 20600 to step 50600" in texts[0]
+
+
+def test_a_session_that_was_started_and_is_gone_is_passed_over(user: Any) -> None:
+    a = dimer(user)
+    a.start(2000)
+    user.ask("DROP a")
+    b = dimer(user)
+    b.start(2000)
+    user._wire.ask("DROP a")
+    with pytest.raises(refusals.NoSession) as caught:
+        b.place(0)
+    assert caught.value.command == "SHOW a 0"
+
+
+def test_no_start_of_a_session_that_is_not_watched_is_measured() -> None:
+    wire = StandIn(rising, nothing)
+    a = user_over(wire).load("a", ATOM, edge=256, sigma=1, h=131072, watch=False)
+    a.start(30_000)
+    assert (a.step, wire.measured) == (30_000, [])
+
+
 def test_pieces_that_are_given_stay_whole() -> None:
     a, wire = opened(lambda step: step / 1000)
     seen, loaded = [], len(wire.lines)
@@ -164,28 +237,76 @@ def test_it_is_told_once_what_has_changed_and_what_helps() -> None:
         a.advance(100_000)
         a.advance(100_000)
     (text,) = texts
-    assert "the energy of a has risen by 0.6 epsilon an atom from step 0 to step 19999" in text
+    assert "the energy of a has risen by 0.475 epsilon an atom from step 999 to step 19999" in text
     for advice in ("smaller time step", "h is 131072", "units of sigma and epsilon", "'What is computed' in the README"):
         assert advice in text
     assert wire.measured == UP_TO_20000
 
 
-@pytest.mark.parametrize("change, count", [(0.499, 0), (-0.499, 0), (0.5, 1), (-0.5, 1), (1e9, 1)])
-def test_half_an_epsilon_counts(change: Any, count: Any) -> None:
-    a, _ = opened(lambda step: -5 + (change if step > 20 else 0))
+# 5 % of the kinetic energy of an atom, where that is more than 0.4 / sqrt(atoms) epsilon; and half an epsilon down.
+CHANGES = [
+    (1, 10, 0.499, 0),
+    (1, 10, 0.501, 1),
+    (1, 10, -0.499, 0),
+    (1, 10, -0.501, 1),
+    (256, 1.1, 0.0549, 0),
+    (256, 1.1, 0.0551, 1),
+    (256, 1.1, -0.499, 0),
+    (256, 1.1, -0.501, 1),
+    (4096, 0.2, 0.0099, 0),
+    (4096, 0.2, 0.0101, 1),
+    # At rest, or nearly.
+    (1, 0, 0.399, 0),
+    (1, 0, 0.401, 1),
+    (1, 7.9, 0.399, 0),
+    (4, 0, 0.199, 0),
+    (4, 0, 0.201, 1),
+    (256, 0.3, 0.0249, 0),
+    (256, 0.3, 0.0251, 1),
+    (1, 0, 1e9, 1),
+]
+
+
+def texts_of(atoms: Any, kinetic: Any, energy: Any) -> Any:
+    """What is told in 2,000 steps of so many atoms, of which each has this kinetic energy and, at a step, this energy."""
+    a, wire = opened(lambda step: atoms * (energy(step) - kinetic), lambda step: atoms * kinetic)
+    wire.atoms = atoms
     with told() as texts:
         a.advance(2000)
+    return texts
+
+
+@pytest.mark.parametrize("atoms, kinetic, change, count", CHANGES)
+def test_a_twentieth_of_the_kinetic_energy_counts(atoms: Any, kinetic: Any, change: Any, count: Any) -> None:
+    texts = texts_of(atoms, kinetic, lambda step: change if step > 1500 else 0)
     assert len(texts) == count
-    assert all(("fallen" if change < 0 else "risen") in text for text in texts)
+    assert all(("fallen" if change < 0 else "risen") in text and "from step 999 to step 1999" in text for text in texts)
 
 
-def test_the_energy_of_an_atom_is_that_of_all_by_their_number() -> None:
-    for atoms, count in [(1, 1), (2, 0)]:
-        a, wire = opened(lambda step: 0.9 if step > 20 else 0)
-        wire.atoms = atoms
-        with told() as texts:
-            a.advance(1000)
+@pytest.mark.parametrize("atoms, kinetic, change, count", CHANGES)
+def test_in_the_first_steps_it_may_rise_by_a_tenth_of_epsilon_more(atoms: Any, kinetic: Any, change: Any, count: Any) -> None:
+    first = change + (0.1 if change > 0 else 0)
+    texts = texts_of(atoms, kinetic, lambda step: first if step > 20 else 0)
+    assert len(texts) == count
+    assert all("from step 0 to step 999" in text for text in texts)
+
+
+def test_what_a_crystal_has_gained_in_the_first_steps_is_not_counted_later() -> None:
+    for change, count in [(0.054, 0), (0.056, 1)]:
+        texts = texts_of(256, 1.1, lambda step: 0.09 * (step > 20) + change * (step > 1500))
         assert len(texts) == count
+        assert all("risen by 0.056 epsilon an atom (5.1 % of its kinetic energy) from step 999" in text for text in texts)
+
+
+def test_the_kinetic_energy_is_that_of_the_step_where_it_is_told() -> None:
+    # What begins at rest, and has 2 epsilon of kinetic energy later, may rise by 0.1.
+    for change, count in [(0.099, 0), (0.101, 1)]:
+        a, wire = opened(lambda step: 256 * (change - 2 if step > 1500 else 0), lambda step: 256 * (2 if step > 1500 else 0))
+        wire.atoms = 256
+        with told() as texts:
+            a.advance(2000)
+        assert len(texts) == count
+        assert all("risen by 0.101 epsilon an atom (5.1 % of its kinetic energy)" in text for text in texts)
 
 
 def test_a_start_at_rest_with_close_atoms_has_the_energy_that_it_keeps() -> None:
@@ -414,6 +535,19 @@ def test_nothing_is_loaded_where_such_a_warning_is_an_error() -> None:
         with pytest.raises(EnergyWarning):
             user_over(wire).load("a", ATOM, edge=256, sigma=1, h=300_000)
     assert wire.lines == []
+
+
+def test_a_start_that_heats_is_told_of() -> None:
+    wrong: Dict[str, Any] = {**ARGON, "epsilon": units.ARGON["epsilon"] / units.kilojoule_per_mole, "dt": 5}
+    with run(PROGRAM) as user:
+        with told():
+            a = user.load("argon", EXAMPLES / "argon_256.xyz", **wrong)
+        a.heat(94)
+        a.start(5000)
+        with told() as texts:
+            a.place(0)
+            a.places()
+    assert len(texts) == 1 and "the energy of argon has risen by" in texts[0] and "from step 0 to step 5000" in texts[0]
 
 
 def test_there_and_back_from_a_hot_crystal_is_not_told_of() -> None:

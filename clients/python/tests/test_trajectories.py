@@ -152,7 +152,7 @@ def test_xyz_has_momenta_that_ase_reads(user: Any, tmp_path: pathlib.Path, mass:
     assert set(frame.get_masses()) == {mass}
     (row,) = argon.thermo(every=1, rows=1)
     assert frame.get_temperature() == pytest.approx(row.temperature, rel=1e-3)
-    assert row.temperature > 80
+    assert row.temperature > 60
 
 
 @with_ase
