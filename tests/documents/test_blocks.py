@@ -372,6 +372,11 @@ def other_kinds_of_files(block: Any, folder: Any) -> None:
     assert abs(frames[0].positions - one[4].positions).max() < 1e-5
 
 
+def to_a_temperature(block: Any, folder: Any) -> None:
+    (told,) = folder.python(block.text)
+    assert abs(float(told) - 94.4) < 1.5
+
+
 def driver_of_ase(block: Any, folder: Any) -> None:
     pytest.importorskip("ase", reason="ASE is not installed")
     *rows, back = folder.python(block.text)
@@ -474,6 +479,7 @@ BLOCKS = {
     },
     "docs/api/steps.md": {
         "fine.start(100)": prints("[200, 100]", "300", "300 300"),
+        "argon.equilibrate(": to_a_temperature,
         "import MDAnalysis": other_kinds_of_files,
     },
     "docs/api/view.md": {

@@ -1,7 +1,7 @@
-"""Runs in which atoms are brought to a temperature, again and again, by their velocities."""
+"""Runs in which atoms are brought to a temperature, by their velocities, after stretches whose mean temperature is measured."""
 from __future__ import annotations
 
-from typing import TYPE_CHECKING
+from typing import TYPE_CHECKING, List, Optional, Sequence
 
 from . import progress as bars
 from .names import count_of, whole_of
@@ -10,16 +10,41 @@ from .sampling import Progress, onward
 if TYPE_CHECKING:
     from .session import Session
 
+# The temperature of a stretch is the mean of so many, which are measured after equal parts of it.
+POINTS = 10
+# How many stretches there are if nothing says their length.
+STRETCHES = 20
 
-def equilibrate(session: "Session", temperature: float, steps: int, every: int, progress: Progress, seed: int) -> float:
+
+def equilibrate(session: "Session", temperature: float, steps: int, every: Optional[int], progress: Progress, seed: int) -> float:
     """As `Session.equilibrate`."""
     total = count_of(steps, "a number of steps")
-    if whole_of(every, "every") < 1:
+    length = max(1, total // STRETCHES) if every is None else whole_of(every, "every")
+    if length < 1:
         raise ValueError(f"every is 1 at least, not {every}")
-    reached = session.rescale(temperature) if session.measure().kinetic else session.heat(temperature, seed)
+    told = [session.rescale(temperature) if session.measure().kinetic else session.heat(temperature, seed)]
     with bars.reporter(progress, session.name) as report:
-        for made in range(0, total, every):
-            session.advance(min(every, total - made), onward(report, made, total) if report else False)
-            # Also after the last steps, so that the temperature that is told is the one that was asked for.
-            reached = session.rescale(temperature)
-    return reached
+        for made in range(0, total, length):
+            if made:
+                session.rescale(_wanted(temperature, told))
+            told = _temperatures(session, min(length, total - made), made, total, report)
+    return _mean(told)
+
+
+def _wanted(temperature: float, told: Sequence[float]) -> float:
+    """The temperature of now which has the mean of a stretch be this one, by the temperatures of the stretch up to now."""
+    return temperature * told[-1] / _mean(told) if _mean(told) else temperature
+
+
+def _mean(told: Sequence[float]) -> float:
+    return sum(told) / len(told)
+
+
+def _temperatures(session: "Session", steps: int, made: int, total: int, report: Optional[bars.Report]) -> List[float]:
+    """Goes on by so many steps, behind those of a total that are made, and returns the temperatures on the way."""
+    points, told = min(POINTS, steps), []
+    stops = [steps * number // points for number in range(points + 1)]
+    for start, stop in zip(stops, stops[1:]):
+        session.advance(stop - start, onward(report, made + start, total) if report else False)
+        told.append(session.measure().temperature)
+    return told

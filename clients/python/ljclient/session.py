@@ -224,13 +224,18 @@ class Session:
         self._set_in_motion(now, before, heating.rescaled(moved, temperature, scale))
         return self.measure().temperature
 
-    def equilibrate(self, temperature: float, steps: int, every: int = 50, progress: sampling.Progress = False, seed: int = 0) -> float:
-        """Goes on by so many steps, and rescales the velocities to a temperature at the start, after each `every` steps and at the
-        end. Returns the temperature at the end, as `rescale` does.
+    def equilibrate(
+        self, temperature: float, steps: int, every: Optional[int] = None, progress: sampling.Progress = False, seed: int = 0
+    ) -> float:
+        """Goes on by so many steps, and after each stretch of `every` but the last one rescales the velocities, so that the mean
+        temperature of the stretch would have been this one. Returns the mean of the last stretch, which the run goes on with.
 
-        temperature     as in `heat`
-        steps, every    whole numbers
-        progress, seed  as in `advance` and in `heat`, by which atoms at rest are set in motion first
+        temperature     as in `heat`. Velocities begin with it: by `rescale`, or by `heat` if the atoms are at rest
+        steps, every    whole numbers. A stretch is a twentieth of the steps if nothing is said
+        progress, seed  as in `advance` and in `heat`
+
+        A mean is that of ten temperatures of `measure`, one after each tenth of the stretch. So the longer a stretch is, the less
+        do they depend on the instant: take 10,000 steps of 2 fs for argon, or more.
 
         It is done by tugs and steps alone: what is saved by `branch` stays, and from there the same call leads to the same atoms.
         """

@@ -1,6 +1,7 @@
 """Velocities that are stretched to a temperature, by tugs alone: `rescale` and `equilibrate`."""
 import math
 import signal
+import statistics
 from unittest import mock
 from typing import Any, List, Tuple
 
@@ -84,36 +85,72 @@ def test_it_is_walked_back_from_a_branch(user: Any) -> None:
 def test_equilibrated_to_a_temperature(user: Any, order: Any) -> None:
     a = argon(user, order=order)
     a.branch("start")
-    assert a.equilibrate(100, 120, every=50) == pytest.approx(100, rel=1e-5)
-    assert (a.step, a.measure().temperature) == (120, pytest.approx(100, rel=1e-5))
-    assert a.measure().momentum == (0, 0, 0)
+    told = a.equilibrate(100, 120, every=50)
+    assert (a.step, a.measure().momentum) == (120, (0, 0, 0))
     there = both(a)
     a.restore("start")
     assert a.measure().kinetic == 0
-    a.equilibrate(100, 120, every=50)
+    assert a.equilibrate(100, 120, every=50) == told
     assert both(a) == there
 
 
-def test_equilibrate_is_rescale_and_advance(user: Any) -> None:
+def means_of(session: Any, pieces: Any) -> Tuple[float, float]:
+    """The mean temperature after pieces of so many steps, and the last temperature."""
+    temperatures = []
+    for steps in pieces:
+        session.advance(steps)
+        temperatures.append(session.measure().temperature)
+    return sum(temperatures) / len(temperatures), temperatures[-1]
+
+
+def test_it_stretches_by_the_mean_and_returns_that_of_the_last_stretch(user: Any) -> None:
     a, twin = argon(user), argon(user, "twin")
-    a.equilibrate(80, 25, every=10, seed=3)
+    told = a.equilibrate(80, 55, every=20, seed=3)
     twin.heat(80, seed=3)
-    for steps in (10, 10, 5):
-        twin.advance(steps)
-        twin.rescale(80)
-    assert both(a) == both(twin)
-    a.equilibrate(60, 5)
+    for pieces in ([2] * 10, [2] * 10):
+        mean, last = means_of(twin, pieces)
+        twin.rescale(80 * last / mean)
+    # Ten equal parts of 15 steps end behind 1.5, 3, 4.5, .. of them, rounded down.
+    wanted, last = means_of(twin, [1, 2] * 5)
+    assert (both(a), a.step) == (both(twin), 55)
+    assert told == pytest.approx(wanted, rel=1e-12) and abs(told - last) > 0.1
+    told = a.equilibrate(60, 3, every=50)
     twin.rescale(60)
-    twin.advance(5)
-    twin.rescale(60)
+    assert told == pytest.approx(means_of(twin, [1, 1, 1])[0], rel=1e-12)
     assert both(a) == both(twin)
-    assert (a.equilibrate(70, 0), a.step) == (pytest.approx(70, rel=1e-5), 30)
+    assert (a.equilibrate(70, 0), a.step) == (pytest.approx(70, rel=1e-5), 58)
+
+
+def test_a_stretch_is_a_twentieth_of_the_steps(user: Any) -> None:
+    a, twin = argon(user), argon(user, "twin")
+    assert a.equilibrate(80, 60) == twin.equilibrate(80, 60, every=3)
+    assert a.equilibrate(70, 7) == twin.equilibrate(70, 7, every=1)
+    assert both(a) == both(twin)
+
+
+def test_at_a_temperature_of_zero_the_atoms_are_held_again_and_again(user: Any) -> None:
+    a = argon(user)
+    assert (a.equilibrate(0, 40, every=10), a.step) == (pytest.approx(0, abs=1), 40)
+    alone = user.load("alone", "1\n\nAr 0 0 0\n", edge=21.04, dt=2, **units.ARGON)
+    assert alone.equilibrate(0, 40, every=10) == 0
+
+
+def test_what_it_returns_is_the_mean_of_the_run_that_follows(user: Any) -> None:
+    argon = user.load("argon", CRYSTAL, edge=21.04, dt=2, **units.ARGON)
+    told = argon.equilibrate(94.4, 10_000, seed=1)
+    # Blocks of the run that follows, each as long as the stretch whose mean was told, and measured as often.
+    blocks = [means_of(argon, [50] * 10)[0] for _ in range(16)]
+    mean = statistics.mean(blocks)
+    error = statistics.stdev(blocks) * math.sqrt(1 + 1 / len(blocks))
+    assert error < 3
+    assert abs(told - mean) < 3 * error
+    assert abs(mean - 94.4) < 3
 
 
 def test_how_far_it_is(user: Any) -> None:
     told = []
     argon(user).equilibrate(80, 5, every=3, progress=lambda *numbers: told.append(numbers))
-    assert told == [(0, 5), (3, 5), (3, 5), (5, 5)]
+    assert sorted(set(told)) == [(done, 5) for done in range(6)] and told == sorted(told)
 
 
 def test_what_cannot_be(user: Any) -> None:
