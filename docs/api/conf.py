@@ -37,7 +37,6 @@ autodoc_mock_imports = [name for name in OPTIONAL if importlib.util.find_spec(na
 INTERNAL = {
     "User": "ask_commands ask_text ask_rows known has_dropped state_of row restore resort is_free make_room outlasts_connections",
     "Session": "measured is_free",
-    "Motion": "tugs",
     "Order": "for_user for_server",
     "units": "checked_positive real_of checked_length nano word plain_float is_on_ring",
 }

@@ -102,7 +102,13 @@ def _place(word: bytes, edge: int) -> int:
     shift = 9 - len(fraction) + int(power or 0)
     digits = int(whole + fraction)
     # In 10^-9, halves away from zero.
-    number = digits * 10**shift if shift >= 0 else (2 * digits + 10**-shift) // (2 * 10**-shift)
+    number = digits * _power(shift) if shift >= 0 else (2 * digits + _power(-shift)) // (2 * _power(-shift))
     if number > MAX_NANO:
         raise ValueError("beyond a million")
     return (-number if sign == b"-" else number) * RING // edge % RING
+
+
+def _power(exponent: int) -> int:
+    """Ten to an exponent that is not below zero."""
+    power: int = 10**exponent
+    return power

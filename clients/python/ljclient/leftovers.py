@@ -62,8 +62,8 @@ def _left(name: str, branch: str, step: int, saved: int) -> None:
     """Tells of what was left, since somebody may have gone on."""
     _tell(
         f"an earlier connection was lost while {name} was at the server's step {saved} and it looked at the session or changed it; "
-        f"{name} is at {step} now, so it was left: user.ask('RESTORE {name} {branch}') goes back to {saved}, and "
-        f"user.ask('FORGET {name} {branch}') stays at {step}"
+        f"{name} is at {step} now, so it was left: `RESTORE {name} {branch}` goes back to {saved}, and `FORGET {name} {branch}` stays "
+        f"at {step}; say it at the prompt, or by user.ask"
     )
 
 

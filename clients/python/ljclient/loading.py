@@ -187,9 +187,7 @@ class Loader:
         self._known[name] = new.known(known)
 
     @contextlib.contextmanager
-    def _recorded(
-        self, name: str, path: Optional[files.Path], replace: bool, command_of: CommandOf, continues: str = ""
-    ) -> Iterator[None]:
+    def _recorded(self, name: str, path: Optional[files.Path], replace: bool, command_of: CommandOf, continues: str = "") -> Iterator[None]:
         """Drops a session that is to be replaced, once the server has taken the new one, and has the record of that begin with what
         loads it.
 

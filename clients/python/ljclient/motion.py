@@ -2,7 +2,7 @@
 from __future__ import annotations
 
 from dataclasses import dataclass, field
-from typing import Any, List, Optional, Sequence, Tuple
+from typing import Any, Optional, Sequence, Tuple
 
 from . import ase_bridge, columns
 from .units import RING, Scale, checked_positive
@@ -41,11 +41,6 @@ class Motion:
         rounded = tuple(_rounded(atom, parts) for atom, parts in enumerate(wanted))
         errors = (abs(exact - whole) for pair in zip(wanted, rounded) for exact, whole in zip(*pair))
         return Motion(unit, unit * max(errors, default=0.0), rounded)
-
-    def tugs(self, name: str) -> List[str]:
-        """The commands that set the atoms of a session in motion."""
-        moving = ((atom, moved) for atom, moved in enumerate(self.displacements) if any(moved))
-        return [f"TUG {name} {atom} {x} {y} {z}" for atom, (x, y, z) in moving]
 
     def __str__(self) -> str:
         return (

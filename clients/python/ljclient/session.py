@@ -9,6 +9,7 @@ from . import reading, sampling, saving, snapshots, stepping, trajectories
 from .elements import Replacements, with_symbols
 from .energy_watch import WatchedHooks
 from .guards import RESERVED, change, checked_branch
+from .interrupts import held
 from .measurement import Measurement, known
 from .mixture import Mixture
 from .motion import Motion
@@ -158,7 +159,7 @@ class Session:
         total, most = count_of(n, "a number of steps"), stepping.MAX_STEPS
         hooks = WatchedHooks(self._user, self.name, total)
         with held():
-            first = hooks.measure_start()
+            first = hooks.measure_start() if total else 0
             lines = [f"START {self.name} {min(most, total - made)}" for made in range(first, max(total, first + 1), most)]
             target = number_after(lines[-1], self._user.ask_all(lines)[-1].words, 2)
         return hooks.begun(total - first, target)

@@ -120,8 +120,8 @@ def liquid(user: Any) -> Any:
     for row in user.sessions():
         user.ask(f"DROP {row.name}")
     sites = [(1.1 * (number % 5), 1.1 * (number // 5 % 5), 1.1 * (number // 25)) for number in range(75)]
-    rows = [("Kr" if number % 3 else "Ar", *sites[number * 32 % 75]) for number in range(70)]
-    session = user.load("a", rows, symbols=None, watch=False, **LIQUID)
+    symbols = ["Kr" if number % 3 else "Ar" for number in range(70)]
+    session = user.load("a", [sites[number * 32 % 75] for number in range(70)], symbols=symbols, watch=False, **LIQUID)
     user.ask_all([f"TUG a {number} {number} {-number} 0" for number in range(70)])
     session.advance(2)
     return session

@@ -96,7 +96,8 @@ def bytes_of(where: Where, order: Any, call: Call, folder: pathlib.Path) -> int:
         session = prepared(user, order)
         before = transport_of(user).sent
         call.do(session, folder)
-        return int(transport_of(user).sent) - before
+        sent: int = transport_of(user).sent - before
+        return sent
 
 
 @pytest.mark.parametrize("order", [None, "space"])

@@ -559,3 +559,10 @@ def test_there_and_back_from_a_hot_crystal_is_not_told_of() -> None:
             a.reverse()
         assert list(a.thermo(every=100, rows=2))
     assert texts == []
+
+
+def test_a_start_by_no_step_makes_none() -> None:
+    with run(PROGRAM) as user:
+        a = dimer(user)
+        a._user.known("a").watch.gone = 1000
+        assert (a.start(0), a.target, a.step) == (0, 0, 0)

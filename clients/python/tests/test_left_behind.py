@@ -115,7 +115,7 @@ def test_a_session_that_has_gone_on_stays_there(where: Where) -> None:
     before = seen(where)
     (text,) = told(where)
     assert text.startswith("an earlier connection was lost while a was at the server's step 3 and it looked at the session or changed it; ")
-    assert f"a is at {before.step} now, so it was left: user.ask('RESTORE a ljclient-look') goes back to 3, and " in text
+    assert f"a is at {before.step} now, so it was left: `RESTORE a ljclient-look` goes back to 3, and " in text
     assert seen(where) == before
     with warnings.catch_warnings(), joined(where) as user:
         warnings.simplefilter("ignore")
@@ -163,9 +163,10 @@ def test_reserved_names_are_for_nobody_else(where: Where) -> None:
             for ask in (session.branch, session.restore, session.forget):
                 with pytest.raises(ValueError, match="keeps for itself"):
                     ask(name)
-        for load in (lambda: user.load("ljclient-new", ROWS, **SCALE), lambda: session.copy("ljclient-new")):
-            with pytest.raises(ValueError, match="keeps for itself"):
-                load()
+        with pytest.raises(ValueError, match="keeps for itself"):
+            user.load("ljclient-new", ROWS, **SCALE)
+        with pytest.raises(ValueError, match="keeps for itself"):
+            session.copy("ljclient-new")
 
 
 def test_user_session_puts_right_what_it_finds(where: Where) -> None:

@@ -63,7 +63,7 @@ class ByEither(unittest.TestCase):
             (b"OK SHOW a 7 1 0 0 0 0\n", "`SHOW a 1` was answered"),
             (b"OK SHOW a 7 1 0  0 0\n", "`SHOW a 1` was answered"),
             (b"OK SHOW a 7 1 0 0 0x1\n", "`SHOW a 1` was answered"),
-            (b"OK SHOW a 7 1 0 0 \xb2\n", "`SHOW a 1` was answered"),
+            (b"OK SHOW a 7 1 0 0 \xb2\n", "is no text of the protocol"),
             (b"OK SHOW a 8 1 0 0 0\n", "2 atoms of session a were not shown at one step"),
             (b"HTTP/1.1 400\n", "is no reply to `SHOW a 1`"),
             (b"OK STEP a 7\n", "`SHOW a 1` was answered"),

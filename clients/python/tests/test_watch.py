@@ -178,13 +178,13 @@ class Lines(unittest.TestCase):
             for line in ("SHOW a 4000", "LIST", "LIST a", "DUMP b"):
                 with contextlib.suppress(refusals.NoAtom, refusals.NoSession):
                     user.ask(line)
-        # LOAD, DUMP, the four and BYE
-        self.assertEqual(self.watcher.lines(1), [f"TIME ended ann {origin} since TIME 7 commands ERR 10 NO_SESSION"])
+        # The LIST of `connect`, LOAD, DUMP, the four and BYE
+        self.assertEqual(self.watcher.lines(1), [f"TIME ended ann {origin} since TIME 8 commands ERR 10 NO_SESSION"])
 
     def test_the_line_of_a_text_that_is_refused(self) -> None:
         with self.join() as user, contextlib.suppress(refusals.XyzNumber):
             user.load("a", "1\nERR 01 DENIED\nX x 0 0\n", edge=256, sigma=1, h=1)
-        self.assertRegex(self.watcher.lines(2)[1], "2 commands ERR 33 XYZ_NUMBER line 3$")
+        self.assertRegex(self.watcher.lines(2)[1], "3 commands ERR 33 XYZ_NUMBER line 3$")
 
     def test_no_token_is_shown(self) -> None:
         wrong = "b" * 32
@@ -211,11 +211,11 @@ class Lines(unittest.TestCase):
         port = int(present(re.search(r":(\d+), for", terminal.until(r"listens on 127\.0\.0\.1:\d+, for")))[1])
         terminal.until(rf"\n127\.0\.0\.1:{port}  0 open\n")
         with connect("127.0.0.1", port, "ann", TOKEN):
-            terminal.until(r"1 open\nin +ann +127\.0\.0\.1:\d+ +since [0-9:]+ +0 commands\n")
+            terminal.until(r"1 open\nin +ann +127\.0\.0\.1:\d+ +since [0-9:]+ +1 command\n")
             with socket.create_connection(("127.0.0.1", port), SECONDS) as second:
                 second.sendall(f"HELLO ann {TOKEN}\n".encode())
                 terminal.until(r"2 open\nin +ann [^\n]*\nwaits +ann [^\n]*\n")
-        terminal.until(r"ended +ann [^\n]* 1 command\n")
+        terminal.until(r"ended +ann [^\n]* 2 commands\n")
         terminal.until("0 open\n")
         terminal.interrupt()
         self.assertEqual(terminal.ended()[0], 0)

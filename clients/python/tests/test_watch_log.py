@@ -47,7 +47,7 @@ def test_what_a_user_did(tmp_path: pathlib.Path) -> None:
     assert {"event": "listens", "at": f"127.0.0.1:{watcher.port}", "server": f"127.0.0.1:{server.port}"}.items() <= listens.items()
     assert (let_in["event"], let_in["user"], let_in["commands"]) == ("in", "ann", 0)
     # LOAD, ADVANCE, SHOW and BYE
-    assert {"event": "ended", "user": "ann", "commands": 4, "steps": 2, "refusal": "ERR 14 NO_ATOM"}.items() <= ended.items()
+    assert {"event": "ended", "user": "ann", "commands": 5, "steps": 2, "refusal": "ERR 14 NO_ATOM"}.items() <= ended.items()
     assert re.fullmatch(r"127\.0\.0\.1:\d+", ended["from"]) and ended["seconds"] >= let_in["seconds"]
     assert all(CLOCK.fullmatch(each["time"]) for each in (listens, let_in, ended))
 
@@ -76,7 +76,7 @@ def test_on_standard_output_alone() -> None:
         child.terminate()
         out, err = child.communicate(timeout=SECONDS)
         assert out == "" and err is None
-    assert [(each["event"], each["commands"]) for each in told] == [("in", 0), ("ended", 2)]
+    assert [(each["event"], each["commands"]) for each in told] == [("in", 0), ("ended", 3)]
 
 
 def test_a_log_that_was_moved_is_begun_anew(tmp_path: pathlib.Path) -> None:

@@ -72,7 +72,7 @@ def test_commands_and_steps_of_users(seen: Any) -> None:
         lines = "ADVANCE a 100,REVERSE a,ADVANCE a 50,START b 20,BRANCH b k,ADVANCE b 5,RESTORE b k,START b 7"
         for line in lines.split(","):
             user.ask(line)
-        values = seen.until('ljserve_commands_total{user="ann"}', 10)
+        values = seen.until('ljserve_commands_total{user="ann"}', 11)
         assert values['ljserve_steps_total{user="ann"}'] == 100 + 50 + 20 + 5 + 7
     with seen.join() as user:
         for line in ("ADVANCE a 3", "DROP a"):
@@ -80,9 +80,9 @@ def test_commands_and_steps_of_users(seen: Any) -> None:
         dimer(user).advance(2)
     with seen.join("ben") as user:
         user.ask("LIST")
-    values = seen.until('ljserve_commands_total{user="ben"}', 2)
-    # LOAD, LOAD and the eight; ADVANCE, DROP, LOAD and ADVANCE; and a BYE each
-    assert values['ljserve_commands_total{user="ann"}'] == 10 + 4 + 2
+    values = seen.until('ljserve_commands_total{user="ben"}', 3)
+    # LIST, LOAD, LOAD and the eight; LIST, LIST b, ADVANCE, DROP, LOAD and ADVANCE; and a BYE each
+    assert values['ljserve_commands_total{user="ann"}'] == 11 + 6 + 2
     assert values['ljserve_steps_total{user="ann"}'] == 182 + 3 + 2
     assert values['ljserve_steps_total{user="ben"}'] == 0
     assert values["ljserve_connections_total"] == 3
@@ -235,7 +235,7 @@ def test_prometheus_reads_it(seen: Any) -> None:
         user.ask("LIST")
         families = {family.name: family for family in parser.text_string_to_metric_families(seen.text())}
     (sample,) = families["ljserve_commands"].samples
-    assert (families["ljserve_commands"].type, sample.labels, sample.value) == ("counter", {"user": "ann"}, 1)
+    assert (families["ljserve_commands"].type, sample.labels, sample.value) == ("counter", {"user": "ann"}, 2)
     assert families["ljserve_places"].type == "gauge" and families["ljserve_places"].documentation
 
 
