@@ -20,6 +20,7 @@ from .arrays import distance, least_images
 from .energy_watch import EnergyWarning
 from .ensemble import Job, ensemble
 from .errors import BadReply, CannotStart, ClientError, Closed, ConnectionLost, Damaged, Missing, NotRecorded, Refused, TimedOut
+from .leftovers import LeftWarning
 from .measurement import Measurement
 from .mixture import Mixture
 from .motion import Motion
@@ -43,6 +44,7 @@ __all__ = [
     "Damaged",
     "EnergyWarning",
     "Job",
+    "LeftWarning",
     "Measurement",
     "Missing",
     "Mixture",

@@ -118,3 +118,42 @@ def test_a_session_is_as_it_was_before_or_after(where: Where, tmp_path: pathlib.
             with joined(where):
                 pass
         assert seen(where) in wanted, f"cut after {count} of {total} bytes"
+
+
+def reached(where: Where, lines: List[str]) -> List[Any]:
+    """What a session is after each of these commands, but for those between the begin and the end of a look or a change."""
+    with joined(where) as user:
+        prepared(user)
+    found, is_between = [seen(where)], False
+    for line in lines:
+        talk = Talk(where)
+        talk.told(line)
+        talk.close()
+        words = line.split()
+        if words[-1] in ("ljclient-look", "ljclient-change"):
+            is_between = words[0] != "FORGET"
+        if not is_between:
+            found.append(seen(where))
+    return found
+
+
+def test_an_equilibration_stands_on_its_way(where: Where) -> None:
+    with cuttable(where) as user:
+        session = prepared(user)
+        lines: List[str] = []
+        put, before = user._wire._put, transport_of(user).sent
+        user._wire._put = lambda data, asked: (lines.extend(asked), put(data, asked))[1]
+        session.equilibrate(0.8, 6, every=3)
+        total = transport_of(user).sent - before
+    assert lines.count("BRANCH a ljclient-change") == 2
+    wanted = reached(where, lines)
+    for count in places(total, PLACES):
+        with cuttable(where) as user:
+            session = prepared(user)
+            transport_of(user).cut_after(count)
+            with pytest.raises(ClientError):
+                session.equilibrate(0.8, 6, every=3)
+        with warnings.catch_warnings():
+            warnings.simplefilter("ignore")
+            joined(where).close()
+        assert seen(where) in wanted, f"cut after {count} of {total} bytes"

@@ -8,8 +8,7 @@ from typing import Any, Iterator, List
 import pytest
 
 from cuts import Talk, Where, cuttable, joined, places, seen, transport_of
-from ljclient import ClientError, refusals
-from ljclient.leftovers import LeftWarning
+from ljclient import ClientError, LeftWarning, refusals
 from support import Server, listed
 from test_cut_replacements import LIQUID, liquid
 from test_cuts import CALLS, OTHERS, PLACES, ROWS, SCALE, prepared
@@ -288,3 +287,17 @@ def test_what_was_to_replace_a_session_stays_until_that_is_there_again(where: Wh
         user.load("a", OTHERS, watch=False, **SCALE)
         assert [row.name for row in user.sessions()] == ["b", "a"]
     assert seen(where) == kept._replace(saved=[]) and told(where) == []
+
+
+def test_a_guard_is_counted_in_the_quota_of_a_record(where: Where, tmp_path: pathlib.Path) -> None:
+    path = tmp_path / "run.lj"
+    with joined(where) as user:
+        for row in user.sessions():
+            user.ask(f"DROP {row.name}")
+        session = user.load("a", ROWS, watch=False, record=path, **SCALE)
+        session.advance(1)
+        before = path.read_text()
+        session.heat(1.0)
+        session.drop()
+    assert "quota sessions 1 atoms 8 branches 0" in before and "quota sessions 1 atoms 8 branches 1" in path.read_text()
+    assert "> BRANCH a ljclient-change" in path.read_text() and "> FORGET a ljclient-change" in path.read_text()

@@ -7,8 +7,9 @@ from __future__ import annotations
 from typing import Any, Callable, Dict, List, NamedTuple, Tuple
 
 from .. import ClientError, Measurement, Scale, User, arrays, frames
+from ..guards import look
 from ..refusals import NoSession
-from ..replies import number_after, whole_numbers
+from ..replies import whole_number, whole_numbers
 from ..units import RING
 from .scenes import edge_in_sigma
 from .second import SecondRun
@@ -147,8 +148,10 @@ class Stage:
         return {**told, "atoms": len(self._motions[START].places), **self._when(direction)}
 
     def both(self) -> Answer:
-        """The places now and one step before, of which speeds are told. The motion is turned back and turned again."""
-        now, _, before, _ = self._user.ask_all([f"DUMP {self.name}", f"REVERSE {self.name}"] * 2)
+        """The places now and one step before, of which speeds are told. The motion is turned back, which is undone."""
+        dump = f"DUMP {self.name}"
+        with look(self._user, self.name, 3) as way:
+            now, _, before, *_ = self._user.ask_all([dump, f"REVERSE {self.name}", dump, *way.turned, *way.end])
         return {"now": "\n".join(now.lines[2:]), "before": "\n".join(before.lines[2:])}
 
     def begin_second(self) -> Answer:
@@ -219,10 +222,11 @@ class Stage:
         return {"jumped": True}
 
     def _found(self, user: User) -> Moment:
-        """The step at which the session is, and the direction. Turned twice it is as it was."""
-        line = f"REVERSE {self.name}"
+        """The step at which the session is, and the direction, for which the motion is turned back, which is undone."""
         try:
-            before, now = (number_after(line, reply.words, 2) for reply in user.ask_all([line, line]))
+            with look(user, self.name, 1) as way:
+                turned, back, *_ = user.ask_all([f"REVERSE {self.name}", *way.turned, *way.end])
+            before, now = whole_number(turned.words[-1]), whole_number(back.words[-1])
         except NoSession:
             raise Lost(f"the server no longer has {self.name}: choose other atoms") from None
         return Moment(now, now - before)
