@@ -10,6 +10,7 @@ import pytest
 
 from cuts import Talk, Where, cuttable, joined, places, seen, served, transport_of
 from ljclient import ClientError
+from ljclient.view.stage import Stage
 
 
 PLACES = 200
@@ -45,11 +46,13 @@ def prepared(user: Any, order: Any = None) -> Any:
 
 
 class Call(NamedTuple):
-    """A call that is cut: what it does with a session, by how many steps it goes on, and whether it changes the motion."""
+    """A call that is cut: what it does with a session, by how many steps it goes on, whether it changes the motion, and which module
+    has to be installed for it."""
 
     do: Callable[[Any, pathlib.Path], Any]
     steps: int = 0
     is_change: bool = False
+    needs: str = "json"
 
 
 def broken_rows(session: Any, folder: pathlib.Path) -> None:
@@ -60,11 +63,18 @@ def broken_rows(session: Any, folder: pathlib.Path) -> None:
     session.measure()
 
 
+def speeds_of_the_view(session: Any, folder: pathlib.Path) -> None:
+    """What a page of the live view asks for, to show the session and its speeds."""
+    stage = Stage(session._user, session.name, session.scale, True, "second")
+    stage._found(session._user)
+    stage.both()
+
+
 CALLS = {
     "velocities": Call(lambda session, folder: session.velocities()),
     "forces": Call(lambda session, folder: session.forces()),
-    "pressure": Call(lambda session, folder: session.pressure()),
-    "to_ase": Call(lambda session, folder: session.to_ase()),
+    "pressure": Call(lambda session, folder: session.pressure(), needs="numpy"),
+    "to_ase": Call(lambda session, folder: session.to_ase(), needs="ase"),
     "save": Call(lambda session, folder: session.save(folder / "a")),
     "thermo": Call(lambda session, folder: list(session.thermo(every=2, rows=1))),
     "rows": Call(lambda session, folder: list(session.thermo(every=2, rows=3)), 5),
@@ -72,6 +82,7 @@ CALLS = {
     "frames": Call(lambda session, folder: list(session.frames(2, 3)), 4),
     "write_trajectory": Call(lambda session, folder: session.write_trajectory(folder / "a.xyz", 2, 2), 2),
     "advance and save": Call(lambda session, folder: session.advance(4, save=folder / "a", seconds=0, piece=1), 4),
+    "speeds of the view": Call(speeds_of_the_view),
     "heat": Call(lambda session, folder: session.heat(1.0), is_change=True),
     "rescale": Call(lambda session, folder: session.rescale(0.5), is_change=True),
 }
@@ -104,6 +115,7 @@ def bytes_of(where: Where, order: Any, call: Call, folder: pathlib.Path) -> int:
 @pytest.mark.parametrize("name", CALLS)
 def test_a_session_is_as_it_was_before_or_after(where: Where, tmp_path: pathlib.Path, name: str, order: Any) -> None:
     call = CALLS[name]
+    pytest.importorskip(call.needs)
     total = bytes_of(where, order, call, tmp_path)
     wanted = [seen(where)] if call.is_change else []
     wanted += steps_of(where, order, call.steps)

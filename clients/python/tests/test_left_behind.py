@@ -66,6 +66,7 @@ def raw(where: Where, *lines: str) -> List[List[str]]:
 @pytest.mark.parametrize("name", CALLS)
 def test_a_full_quota_has_a_note_on_the_disk(full: Where, tmp_path: pathlib.Path, state: Any, name: str) -> None:
     call = CALLS[name]
+    pytest.importorskip(call.needs)
     with cuttable(full) as user:
         session = prepared(user)
         before = transport_of(user).sent
