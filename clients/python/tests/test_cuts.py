@@ -4,6 +4,7 @@ Each call is cut at 200 places, from its first byte on. What the session is then
 """
 import pathlib
 import warnings
+from unittest import mock
 from typing import Any, Callable, Dict, Iterator, List, NamedTuple
 
 import pytest
@@ -152,11 +153,11 @@ def reached(where: Where, lines: List[str]) -> List[Any]:
 def test_an_equilibration_stands_on_its_way(where: Where) -> None:
     with cuttable(where) as user:
         session = prepared(user)
-        lines: List[str] = []
-        put, before = user._wire._put, transport_of(user).sent
-        user._wire._put = lambda data, asked: (lines.extend(asked), put(data, asked))[1]
-        session.equilibrate(0.8, 6, every=3)
+        before = transport_of(user).sent
+        with mock.patch.object(user._wire, "_put", wraps=user._wire._put) as put:
+            session.equilibrate(0.8, 6, every=3)
         total = transport_of(user).sent - before
+    lines = [line for call in put.call_args_list for line in call.args[1]]
     assert lines.count("BRANCH a ljclient-change") == 2
     wanted = reached(where, lines)
     for count in places(total, PLACES):
