@@ -138,7 +138,7 @@ def _noted(user: "Loader", name: str, before: Optional[Sequence[Place]] = None) 
     wait = f"ADVANCE {name} 0"
     owned = Owned(user.address, user.name or "", name)
     note = Note(owned, number_after(wait, user.ask(wait).words, 2), before=before)
-    with _said_if_lost(user, name, note.step), noted(note) as keep:
+    with _said_if_lost(user, name, note.step, "the next connection from this machine"), noted(note) as keep:
         if before is None:
             back = user.ask_rows([f"REVERSE {name}", f"REVERSE {name}"]).split(b"\n")[0]
             keep(dataclasses.replace(note, direction=note.step - int(back.split(b" ")[-1])))
@@ -146,8 +146,8 @@ def _noted(user: "Loader", name: str, before: Optional[Sequence[Place]] = None) 
 
 
 @contextlib.contextmanager
-def _said_if_lost(user: "Loader", name: str, step: int) -> Iterator[None]:
-    """Has the error of a connection that is lost within say what the session was before."""
+def _said_if_lost(user: "Loader", name: str, step: int, whose: str = "the next connection") -> Iterator[None]:
+    """Has the error of a connection that is lost within say what the session was before, and who puts it back."""
     try:
         yield
     except ClientError as error:
@@ -155,7 +155,7 @@ def _said_if_lost(user: "Loader", name: str, step: int) -> Iterator[None]:
             known = user.known(name)
             order, turned = known.order, known.direction
             direction = "" if turned is None else f", direction {order.direction * turned:+}"
-            error.more = f"{name} was at step {order.step_of(step)}{direction} before that, and the next connection puts it back there"
+            error.more = f"{name} was at step {order.step_of(step)}{direction} before that, and {whose} puts it back there"
         raise
 
 

@@ -30,9 +30,9 @@ def put_right(user: "Loader") -> None:
     rows = [fields(line, 4) for line in user.ask("LIST").lines]
     if any(name == REPLACING for name, *_ in rows):
         _replacement(user, [name for name, *_ in rows])
-    for name, step, _, branches in rows:
-        if name != REPLACING and whole_number(branches):
-            session(user, name, whole_number(step), user.ask(f"LIST {name}").lines)
+    steps = {name: whole_number(step) for name, step, _, branches in rows if name != REPLACING and whole_number(branches)}
+    for (name, step), reply in zip(steps.items(), user.ask_all([f"LIST {name}" for name in steps])):
+        session(user, name, step, reply.lines)
     names = [name for name, *_ in rows]
     for note in notes_of(user.address, user.name or ""):
         if note.owned.session in names:

@@ -397,6 +397,8 @@ def connect(host: str, port: int, name: str, token: str, *, timeout: float = 60.
     tls      whether the connection is encrypted, to a server or a proxy before it that has a certificate of the name `host`
     ca       with `tls`, a file with the certificate of the issuer, in PEM; without it one that the system knows
 
+    What an earlier connection has left half done, since it was lost, is put right, or a `LeftWarning` says what it is.
+
     With `tls` the token is sent only if the certificate is valid; `ConnectionLost` says what to do if it is not. Without it there is
     a `PlainTextWarning`, once for each host that is another machine; `warnings.simplefilter("ignore", PlainTextWarning)` silences it.
 

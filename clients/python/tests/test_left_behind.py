@@ -156,6 +156,11 @@ def test_the_error_of_a_lost_connection_says_what_the_session_was(where: Where) 
     assert any(error.endswith(said) for error in errors), errors
 
 
+def test_the_error_says_so_too_where_only_a_note_knows(full: Where) -> None:
+    error = cut(full, 200, CALLS["velocities"].do)
+    assert str(error).endswith("; a was at step 3, direction +1 before that, and the next connection from this machine puts it back there")
+
+
 def test_reserved_names_are_for_nobody_else(where: Where) -> None:
     with joined(where) as user:
         session = prepared(user)
