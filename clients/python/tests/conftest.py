@@ -8,6 +8,7 @@ import pytest
 
 sys.path.insert(0, str(pathlib.Path(__file__).resolve().parents[1]))
 from browsing import Browser  # noqa: E402
+from cuts import Where, served  # noqa: E402
 from ljclient import run  # noqa: E402
 from relays import Relay, certificate  # noqa: E402
 from support import PROGRAM, Server  # noqa: E402
@@ -25,6 +26,20 @@ def server() -> Iterator[Any]:
     """A server of the user `ann`."""
     with Server() as one:
         yield one
+
+
+@pytest.fixture(scope="module", params=["lock", "queue", "keep"])
+def where(request: Any, tmp_path_factory: pytest.TempPathFactory) -> Iterator[Where]:
+    """A server over each pool, and one behind `tools/keep`, for connections that are cut."""
+    with served(request.param, tmp_path_factory.mktemp("kept")) as where:
+        yield where
+
+
+@pytest.fixture
+def state(tmp_path: pathlib.Path, monkeypatch: pytest.MonkeyPatch) -> pathlib.Path:
+    """The folder of the client's notes, which is one of the test."""
+    monkeypatch.setenv("XDG_STATE_HOME", str(tmp_path / "state"))
+    return tmp_path / "state" / "ljclient"
 
 
 @pytest.fixture(scope="session")

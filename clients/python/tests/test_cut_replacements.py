@@ -2,32 +2,19 @@
 
 Each call is cut at 200 places. The next connection has the older session or the new one, or it says where the new one is.
 """
-import pathlib
 import warnings
-from typing import Any, Callable, Dict, Iterator, NamedTuple
+from typing import Any, Callable, Dict, NamedTuple
 
 import pytest
 
-from cuts import Where, cuttable, joined, places, seen, served, transport_of
+from cuts import Where, cuttable, joined, places, seen, transport_of
 from ljclient import ClientError
 from support import listed
 from test_cuts import OTHERS, PLACES, ROWS, SCALE, prepared
 
+pytestmark = pytest.mark.usefixtures("state")
 VELOCITIES = [(0.01 * (number - 4), 0.002, -0.003 * number) for number in range(8)]
 WORDS: Dict[str, Any] = {"edge": 8.0, "sigma": 1.0, "epsilon": 0.01, "mass": 40.0, "dt": 2.0}
-
-
-@pytest.fixture(scope="module", params=["lock", "queue", "keep"])
-def where(request: Any, tmp_path_factory: pytest.TempPathFactory) -> Iterator[Where]:
-    """A server over each pool, and one behind `tools/keep`."""
-    with served(request.param, tmp_path_factory.mktemp("kept")) as where:
-        yield where
-
-
-@pytest.fixture(autouse=True)
-def state(tmp_path: pathlib.Path, monkeypatch: Any) -> None:
-    """The folder of notes is one of the test."""
-    monkeypatch.setenv("XDG_STATE_HOME", str(tmp_path / "state"))
 
 
 @pytest.fixture(scope="module")

@@ -5,34 +5,22 @@ Each call is cut at 200 places, from its first byte on. What the session is then
 import pathlib
 import warnings
 from unittest import mock
-from typing import Any, Callable, Dict, Iterator, List, NamedTuple
+from typing import Any, Callable, Dict, List, NamedTuple
 
 import pytest
 
-from cuts import Talk, Where, cuttable, joined, places, seen, served, transport_of
+from cuts import Talk, Where, cuttable, joined, places, seen, transport_of
 from ljclient import ClientError
 from ljclient.view.stage import Stage
 
 
+pytestmark = pytest.mark.usefixtures("state")
 PLACES = 200
 SCALE: Dict[str, Any] = {"edge": 8.0, "sigma": 1.0, "h": 4096}
 MOVED = [(1000, -2000, 3000), (-500, 700, -900), (0, 40, 0), (0, 0, 5), (9, 9, 9), (-8, 0, 0), (600, 600, -600), (-1, -1, 1)]
 SITES = [(x, y, z) for x in (1.0, 2.2) for y in (1.0, 2.2) for z in (1.0, 2.2)]
 ROWS = [("Ar", *site) for site in SITES]
 OTHERS = [("Ar", x + 3, y, z) for x, y, z in SITES[:6]]
-
-
-@pytest.fixture(scope="module", params=["lock", "queue", "keep"])
-def where(request: Any, tmp_path_factory: pytest.TempPathFactory) -> Iterator[Where]:
-    """A server over each pool, and one behind `tools/keep`."""
-    with served(request.param, tmp_path_factory.mktemp("kept")) as where:
-        yield where
-
-
-@pytest.fixture(autouse=True)
-def state(tmp_path: pathlib.Path, monkeypatch: Any) -> None:
-    """The folder of notes is one of the test."""
-    monkeypatch.setenv("XDG_STATE_HOME", str(tmp_path / "state"))
 
 
 def prepared(user: Any, order: Any = None) -> Any:

@@ -13,13 +13,8 @@ from support import Server, listed
 from test_cut_replacements import LIQUID, liquid
 from test_cuts import CALLS, OTHERS, PLACES, ROWS, SCALE, prepared
 
+pytestmark = pytest.mark.usefixtures("state")
 FULL = (2, 16, 0)  # two sessions, their atoms, and no branch
-
-
-@pytest.fixture(autouse=True)
-def state(tmp_path: pathlib.Path, monkeypatch: Any) -> Any:
-    monkeypatch.setenv("XDG_STATE_HOME", str(tmp_path / "state"))
-    return tmp_path / "state" / "ljclient"
 
 
 @pytest.fixture(scope="module")
