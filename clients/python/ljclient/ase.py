@@ -123,9 +123,7 @@ class ReversibleVerlet(_Driver):  # type: ignore[misc]
         `run(n)`, `reverse()`, `run(n)` and `reverse()` give back positions and momenta to the bit.
         """
         self._take_up()
-        with self.session.lock:
-            self.session.advance(1)
-            self.session.reverse()
+        self.session._step_and_turn()
         self._show()
 
     def _going(self, steps: int, most: int) -> Iterator[bool]:
@@ -181,7 +179,7 @@ class ReversibleVerlet(_Driver):  # type: ignore[misc]
         three, ring = three_frames(self._user, name), RING / self.session.edge
         velocities = numpy.array(ase_bridge.velocities_of(atoms) or numpy.zeros((len(atoms), 3)))
         moved = numpy.rint(velocities * self.session.scale.time(1) * ring - least_images(three.after, three.now) / 2).astype(int)
-        self.session._tug_all(moved.tolist(), arrays.listed(three.before))
+        self.session._tug_all(moved.tolist(), arrays.listed(three.now), arrays.listed(three.before))
         self._path = Path(name)
         cells = numpy.rint((atoms.get_positions() * ring - three.now) / RING).astype(int)
         self._start = three.now + cells * RING

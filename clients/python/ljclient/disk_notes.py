@@ -23,6 +23,7 @@ from .order import Place
 FORMAT = "ljclient note 1"
 THIS_MACHINE = ("127.0.0.1", "::1", "[::1]")
 DIGITS = 16
+MEASURED = 7
 # The name of a session, a sum of whose it is, and of a saved session digits that make it a file of its own.
 SHAPE = re.compile(rf"([A-Za-z0-9_-]{{1,16}}?)-[0-9a-f]{{{DIGITS}}}(?:-[0-9a-f]{{8}})?\.[a-z]+")
 
@@ -50,16 +51,29 @@ class Owned:
 class Note:
     """What a session was, in the server's numbers.
 
-    owned      whose it is
-    step       its step number
-    direction  1 or -1: by how much the next step changes it. None where only REVERSE was on its way
-    before     of a change the places of all atoms a step before; None of a look
+    owned           whose it is
+    measured        what MEASURE told of it: step, atoms, three of momentum, kinetic number and potential
+    direction       1 or -1: by how much the next step changes the step number. None where only REVERSE was on its way
+    places, before  of a change the places of all atoms then and a step before; None of a look
     """
 
     owned: Owned
-    step: int
+    measured: Sequence[int]
     direction: Optional[int] = None
+    places: Optional[Sequence[Place]] = None
     before: Optional[Sequence[Place]] = None
+
+    @property
+    def step(self) -> int:
+        return self.measured[0]
+
+    @property
+    def is_sound(self) -> bool:
+        """Whether it is as one is written."""
+        numbers = [*self.measured, *(part for place in (*(self.places or ()), *(self.before or ())) for part in place)]
+        is_whole = len(self.measured) == MEASURED and all(type(number) is int for number in numbers)
+        is_change = (self.places is None) == (self.before is None) and len(self.places or ()) == len(self.before or ())
+        return is_whole and is_change and self.direction in (None, 1, -1)
 
     @property
     def path(self) -> pathlib.Path:
@@ -104,7 +118,7 @@ def noted(note: Note) -> Iterator[Callable[[Note], None]]:
 
 
 def saved_file_of(owned: Owned) -> pathlib.Path:
-    """A file that is not there yet, for a session that is to be replaced."""
+    """A file that is not there yet, for a session that is to be replaced. OSError where the folder cannot be made."""
     made_folder()
     return owned.path(f"-{secrets.token_hex(4)}.saved")
 
@@ -114,10 +128,10 @@ def saved_files_of(server: str, user: str) -> List[Tuple[str, pathlib.Path]]:
     return _files_of(server, user, ".saved")
 
 
-def notes_of(server: str, user: str) -> List[Note]:
-    """The notes of a user's sessions at a server. A file that is none is passed over."""
-    notes = (_read(Owned(server, user, name), path) for name, path in _files_of(server, user, ".json"))
-    return [note for note in notes if note is not None]
+def notes_of(server: str, user: str) -> Tuple[List[Note], List[pathlib.Path]]:
+    """The notes of a user's sessions at a server, and files in their places that are none."""
+    read = [(_read(Owned(server, user, name), path), path) for name, path in _files_of(server, user, ".json")]
+    return [note for note, _ in read if note is not None], [path for note, path in read if note is None]
 
 
 def _files_of(server: str, user: str, ending: str) -> List[Tuple[str, pathlib.Path]]:
@@ -131,8 +145,8 @@ def _read(owned: Owned, path: pathlib.Path) -> Optional[Note]:
         told: Dict[str, Any] = json.loads(path.read_text())
         if told.pop("format") != FORMAT:
             return None
-        note = Note(owned, **told)
-        before = [(int(x), int(y), int(z)) for x, y, z in note.before or ()]
-        return dataclasses.replace(note, step=int(note.step), before=before or None)
-    except (OSError, ValueError, TypeError, KeyError, AttributeError):
+        frames = {name: told[name] and [(x, y, z) for x, y, z in told[name]] for name in ("places", "before")}
+        note = Note(owned, **{**told, **frames})
+        return note if note.is_sound else None
+    except (OSError, ValueError, TypeError, KeyError, AttributeError, RecursionError):
         return None

@@ -17,7 +17,7 @@ from .interrupts import held
 from .names import checked_name
 from .order import Place
 from .refusals import BranchExists, Memory, QuotaBranches
-from .replies import number_after
+from .replies import number_after, whole_number
 
 if TYPE_CHECKING:
     from .loading import Loader
@@ -59,16 +59,16 @@ class Way(NamedTuple):
 
 @contextlib.contextmanager
 def look(user: "Loader", name: str, count: int) -> Iterator[Way]:
-    """A look at a session without pending steps by so many commands, which is at the end as it was. An interrupt waits until then.
+    """A look at a session by so many commands, which is at the end as it was. An interrupt waits until then, but steps that were
+    started before are waited for first.
 
     The commands of the way that is given have to be asked within, the last of them those of its end.
     """
-    with held(), user.lock:
-        user.make_room(count + MOST_OF_A_GUARD)
+    with _begun(user, name, count):
         if not user.outlasts_connections:
             yield Way.by_turns(name)
         elif (step := _saved(user, name, LOOK)) is not None:
-            with _said_if_lost(user, name, step), _forgotten(user, name, LOOK):
+            with _put_back(user, name, LOOK, step):
                 yield Way.by_branch(name)
         else:
             with _noted(user, name):
@@ -76,69 +76,96 @@ def look(user: "Loader", name: str, count: int) -> Iterator[Way]:
 
 
 @contextlib.contextmanager
-def change(user: "Loader", name: str, before: Sequence[Place]) -> Iterator[Tuple[str, ...]]:
-    """A change of many atoms of a session by tugs, whose places of the step before are given in the server's order.
+def change(user: "Loader", name: str, places: Sequence[Place], before: Sequence[Place]) -> Iterator[Tuple[str, ...]]:
+    """A change of many atoms of a session by tugs, whose places now and a step before are given in the server's order.
 
     The commands that are given end it, and have to be the last ones that are asked within. An interrupt waits until then.
     """
-    with held(), user.lock:
-        user.make_room(len(before) + MOST_OF_A_GUARD)
+    with _begun(user, name, len(before)):
         if not user.outlasts_connections:
             yield ()
         elif (step := _saved(user, name, CHANGE)) is not None:
-            with _said_if_lost(user, name, step), _forgotten(user, name, CHANGE):
+            with _put_back(user, name, CHANGE, step):
                 yield (f"FORGET {name} {CHANGE}",)
         else:
-            with _noted(user, name, before):
+            with _noted(user, name, places, before):
                 yield ()
 
 
 @contextlib.contextmanager
-def reordering(user: "Loader", name: str, count: int) -> Iterator[Tuple[str, ...]]:
-    """As `change`, of the order of a session's atoms by so many commands, on whose way its motion is turned back. So it is guarded
-    as a look is.
+def turning(user: "Loader", name: str, count: int) -> Iterator[Tuple[str, ...]]:
+    """As `change`, of what takes so many commands, on whose way a session is turned back or goes a step on. It is guarded as a look.
 
-    Raises the refusal, and nothing is changed, where the quota has no place for it.
+    Raises a refusal of NO_PLACE, and nothing is changed, where the quota has no place for it.
     """
-    with held(), user.lock:
-        user.make_room(count + MOST_OF_A_GUARD)
+    with _begun(user, name, count):
         if not user.outlasts_connections:
             yield ()
             return
         line = f"BRANCH {name} {LOOK}"
-        step = number_after(line, user.ask(line).words, 3)
-        with _said_if_lost(user, name, step), _forgotten(user, name, LOOK):
+        with _forgotten(user, name, LOOK):
+            step = number_after(line, user.ask(line).words, 3)
+        with _put_back(user, name, LOOK, step):
             yield (f"FORGET {name} {LOOK}",)
+
+
+@contextlib.contextmanager
+def _begun(user: "Loader", name: str, count: int) -> Iterator[None]:
+    """So many commands of a session go over one connection, behind steps that were started, and have no effect on what is known of
+    its direction. An interrupt waits until the end."""
+    known = user.known(name)
+    if known.is_started:
+        user.ask(f"ADVANCE {name} 0")
+        known.is_started = False
+    with held(), user.lock:
+        user.make_room(count + MOST_OF_A_GUARD)
+        known = user.known(name)
+        direction = known.direction
+        try:
+            yield
+        finally:
+            known.direction = direction
 
 
 def _saved(user: "Loader", name: str, branch: str) -> Optional[int]:
     """Saves a session under a reserved name. Returns the server's step, or None where there is no place for it."""
     line = f"BRANCH {name} {branch}"
     try:
-        return number_after(line, user.ask(line).words, 3)
+        with _forgotten(user, name, branch):
+            return number_after(line, user.ask(line).words, 3)
     except NO_PLACE:
         return None
 
 
 @contextlib.contextmanager
+def _put_back(user: "Loader", name: str, branch: str, step: int) -> Iterator[None]:
+    """What is saved within under a reserved name is forgotten at the end, and else said by the error."""
+    with _said_if_lost(user, name, step, user.known(name).direction), _forgotten(user, name, branch):
+        yield
+
+
+@contextlib.contextmanager
 def _forgotten(user: "Loader", name: str, branch: str) -> Iterator[None]:
-    """Where what is asked within is broken off and the connection goes on, the session is put back at once."""
+    """Where what is asked within is broken off and the connection goes on, the session is put back at once. What an earlier
+    connection has left stays."""
     try:
         yield
+    except NO_PLACE:
+        raise
     except BaseException:
         with contextlib.suppress(ClientError):
-            if not user.closed and branch in branches_of(user, name):
+            if not user.closed and branch not in user.known(name).left and branch in branches_of(user, name):
                 user.ask_rows([f"RESTORE {name} {branch}", f"FORGET {name} {branch}"])
         raise
 
 
 @contextlib.contextmanager
-def _noted(user: "Loader", name: str, before: Optional[Sequence[Place]] = None) -> Iterator[None]:
+def _noted(user: "Loader", name: str, places: Optional[Sequence[Place]] = None, before: Optional[Sequence[Place]] = None) -> Iterator[None]:
     """A note on the disk says within what the session was. Its direction is learnt by turning it back and again."""
-    wait = f"ADVANCE {name} 0"
-    owned = Owned(user.address, user.name or "", name)
-    note = Note(owned, number_after(wait, user.ask(wait).words, 2), before=before)
-    with _said_if_lost(user, name, note.step, "the next connection from this machine"), noted(note) as keep:
+    line = f"MEASURE {name}"
+    measured = [whole_number(word) for word in user.ask(line).words[2:]]
+    note = Note(Owned(user.address, user.name or "", name), measured, places=places, before=before)
+    with _said_if_lost(user, name, note.step, user.known(name).direction, "the next connection from this machine"), noted(note) as keep:
         if before is None:
             back = user.ask_rows([f"REVERSE {name}", f"REVERSE {name}"]).split(b"\n")[0]
             keep(dataclasses.replace(note, direction=note.step - int(back.split(b" ")[-1])))
@@ -146,16 +173,16 @@ def _noted(user: "Loader", name: str, before: Optional[Sequence[Place]] = None) 
 
 
 @contextlib.contextmanager
-def _said_if_lost(user: "Loader", name: str, step: int, whose: str = "the next connection") -> Iterator[None]:
+def _said_if_lost(user: "Loader", name: str, step: int, direction: Optional[int], whose: str = "the next connection") -> Iterator[None]:
     """Has the error of a connection that is lost within say what the session was before, and who puts it back."""
     try:
         yield
     except ClientError as error:
         if user.closed and not isinstance(error, Refused):
-            known = user.known(name)
-            order, turned = known.order, known.direction
-            direction = "" if turned is None else f", direction {order.direction * turned:+}"
-            error.more = f"{name} was at step {order.step_of(step)}{direction} before that, and {whose} puts it back there"
+            order = user.known(name).order
+            turned = "" if direction is None else f", direction {order.direction * direction:+}"
+            what = f"{name} was at step {order.step_of(step)}{turned} before that"
+            error.more = f"{what}, and {whose} puts it back there unless all was done"
         raise
 
 
@@ -166,7 +193,7 @@ def checked_branch(name: str) -> str:
 
 def checked_session(name: str) -> str:
     """A name for a session. Raises ValueError for what is none, and for one that is reserved."""
-    return _checked(name, (REPLACING,))
+    return _checked(name, (REPLACING, *RESERVED))
 
 
 def _checked(name: str, reserved: Collection[str]) -> str:

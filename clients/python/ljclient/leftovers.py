@@ -6,12 +6,12 @@ one. Else both are left, and a warning says so.
 """
 from __future__ import annotations
 
-from typing import TYPE_CHECKING, Dict, Iterable, List
+from typing import TYPE_CHECKING, Any, Dict, Iterable, List, Optional, Tuple
 
 from . import arrays, reading
 from .disk_notes import Note, notes_of, saved_files_of
 from .guards import CHANGE, LOOK, REPLACING
-from .order import Order
+from .order import Order, Place
 from .replacing import gone_of
 from .replies import fields, number_after, whole_number
 from .tugs import tugs_of
@@ -26,127 +26,136 @@ class LeftWarning(UserWarning):
 
 
 def put_right(user: "Loader") -> None:
-    """Puts all of a user's sessions right, or tells what is not."""
+    """Puts all of a user's sessions right, and then tells what was left and what was not."""
     rows = [fields(line, 4) for line in user.ask("LIST").lines]
-    if any(name == REPLACING for name, *_ in rows):
-        _replacement(user, [name for name, *_ in rows])
+    names, told = [name for name, *_ in rows], []
+    if REPLACING in names:
+        told.append(_replacement(user, names))
     steps = {name: whole_number(step) for name, step, _, branches in rows if name != REPLACING and whole_number(branches)}
     for (name, step), reply in zip(steps.items(), user.ask_all([f"LIST {name}" for name in steps])):
-        session(user, name, step, reply.lines)
-    names = [name for name, *_ in rows]
-    for note in notes_of(user.address, user.name or ""):
-        if note.owned.session in names:
-            _noted(user, note)
-    _saved_files(user, names)
+        told += _branches(user, name, step, reply.lines)
+    notes, damaged = notes_of(user.address, user.name or "")
+    told += [_noted(user, note, note.owned.session in names) for note in notes]
+    told += [f"{path} is no note of this client: delete it" for path in damaged]
+    told += _saved_files(user, names)
+    _tell(told)
 
 
 def session(user: "Loader", name: str, step: int, saved: Iterable[str]) -> None:
-    """Puts a session right by the branches that are saved in it, whose lines these are. It is at this step of the server, or
-    will be."""
+    """Puts a session right by the branches that are saved in it, whose lines these are, and tells of it. It is at this step of the
+    server, or will be."""
+    _tell(_branches(user, name, step, saved))
+
+
+def _tell(texts: Iterable[Optional[str]]) -> None:
+    for text in texts:
+        if text is not None:
+            warn_caller(text, LeftWarning)
+
+
+def _branches(user: "Loader", name: str, step: int, saved: Iterable[str]) -> List[str]:
+    """Puts a session right by the branches that are saved in it, and returns what is to be told."""
     steps: Dict[str, int] = {branch: whole_number(at) for branch, at in (fields(line, 2) for line in saved)}
-    known = user.known(name)
+    known, told = user.known(name), []
     known.left = frozenset()
-    for branch, reach in ((LOOK, 1), (CHANGE, 0)):
+    for branch, reach, what in ((LOOK, 1, "looked at it"), (CHANGE, 0, "changed the motion of its atoms")):
         if branch not in steps:
             continue
+        lost = f"an earlier connection was lost while it {what}: {name} was at the server's step {steps[branch]}"
         if abs(step - steps[branch]) <= reach:
             user.ask_rows([f"RESTORE {name} {branch}", f"FORGET {name} {branch}"])
-            if branch == CHANGE:
-                _tell(f"an earlier connection was lost while it changed the motion of {name}: its atoms are as before")
+            told.append(f"{lost}, and is as it was there")
         else:
             known.left |= {branch}
-            _left(name, branch, step, steps[branch])
+            told.append(
+                f"{lost}, and is at {step} now, so it was left: `RESTORE {name} {branch}` goes back to {steps[branch]}, and `FORGET "
+                f"{name} {branch}` stays at {step}; say it at the prompt, or by user.ask"
+            )
+    return told
 
 
-def _left(name: str, branch: str, step: int, saved: int) -> None:
-    """Tells of what was left, since somebody may have gone on."""
-    _tell(
-        f"an earlier connection was lost while {name} was at the server's step {saved} and it looked at the session or changed it; "
-        f"{name} is at {step} now, so it was left: `RESTORE {name} {branch}` goes back to {saved}, and `FORGET {name} {branch}` stays "
-        f"at {step}; say it at the prompt, or by user.ask"
-    )
-
-
-def _tell(text: str) -> None:
-    warn_caller(text, LeftWarning)
-
-
-def _replacement(user: "Loader", names: List[str]) -> None:
+def _replacement(user: "Loader", names: List[str]) -> Optional[str]:
     """What was to replace another session is dropped, unless that one is gone already: its name is saved in it before that."""
     gone = gone_of(user, names)
     if gone is None:
         user.ask(f"DROP {REPLACING}")
-        return
-    _tell(
+        return None
+    return (
         f"an earlier connection was lost while {gone} was replaced, which is gone: what was to replace it is there as {REPLACING}. "
         f"Load {gone} once more"
     )
 
 
-def _saved_files(user: "Loader", names: Iterable[str]) -> None:
-    """Tells of sessions that were to be replaced and are gone, and of the files that they are saved in."""
-    for name, path in saved_files_of(user.address, user.name or ""):
-        if name not in names:
-            _tell(
-                f"{name} was to be replaced by an earlier connection, and is gone. It is saved in {path}: user.load_saved(..) loads "
-                f"it, and once that file is deleted nothing is told of it any more"
-            )
+def _saved_files(user: "Loader", names: Iterable[str]) -> List[str]:
+    """What is told of sessions that are not there, and of the files that they are saved in since they were to be replaced."""
+    return [
+        f"{name} is not there, and {path} has it as it was before an earlier connection replaced it: user.load_saved(..) loads it; "
+        f"delete the file if it is not wanted"
+        for name, path in saved_files_of(user.address, user.name or "")
+        if name not in names
+    ]
 
 
-def _noted(user: "Loader", note: Note) -> None:
-    """Puts a session right by a note on the disk."""
+def _noted(user: "Loader", note: Note, is_there: bool) -> Optional[str]:
+    """Puts a session right by a note on the disk, and returns what is to be told. A note of a session that is gone is deleted."""
     name = note.owned.session
+    if not is_there:
+        note.remove()
+        return None
     wait = f"ADVANCE {name} 0"
     step = number_after(wait, user.ask(wait).words, 2)
     back = _turned_back if note.before is None else _changed_back
+    lost = f"an earlier connection was lost while {name} was at the server's step {note.step}"
     if abs(step - note.step) <= 1 and back(user, note, step):
         note.remove()
-        return
-    _tell(
-        f"{note.path} says that a connection was lost while {name} was at the server's step {note.step} and was looked at or changed; "
-        f"{name} is elsewhere now, so it was left: look at it, and delete that file"
-    )
-
-
-def _turn(user: "Loader", name: str) -> int:
-    """Turns the motion back, and returns the server's step."""
-    line = f"REVERSE {name}"
-    return number_after(line, user.ask(line).words, 2)
+        return f"{lost}, and it is as it was there"
+    return f"{lost}, as {note.path} says; {name} is elsewhere now, so it was left: look at it, and delete that file"
 
 
 def _turned_back(user: "Loader", note: Note, step: int) -> bool:
-    """Goes back to the step and the direction of a note, from where a look may have left the session. Returns whether it was there.
+    """Goes back to the step and the direction of a note, from where a look may have left the session. Returns whether it was there:
+    else it is as before.
 
     On the way of a look it is, with the step n and the direction d of the note, at (n, d), (n + d, d), (n, -d) or (n - d, -d).
     """
-    name, n, d = note.owned.session, note.step, note.direction
-    if step == n and d is None:
-        return True
-    turned = _turn(user, name)
+    name, n = note.owned.session, note.step
+    turn, on = f"REVERSE {name}", f"ADVANCE {name} 1"
+    turned = number_after(turn, user.ask(turn).words, 2)
     now = step - turned
-    if d is None:
-        is_right = turned == n
-    else:
-        is_right = (step, now) in ((n, d), (n + d, d), (n, -d), (n - d, -d))
-    if not is_right or (step, now) == (n, d):
-        _turn(user, name)
-    elif d is not None and (step, now) != (n - d, -d):
-        if now == -d:
-            _turn(user, name)
-        user.ask_rows([f"ADVANCE {name} 1", f"REVERSE {name}"])
-    return is_right
+    # Where only REVERSE was on its way, it is at (n, d) or (n - d, -d).
+    d = note.direction if note.direction is not None else now if step == n else -now
+    # From here, turned once already, to the note.
+    ways: Dict[Tuple[int, int], List[str]] = {(n, d): [turn], (n + d, d): [on, turn], (n, -d): [turn, on, turn], (n - d, -d): []}
+    way = ways.get((step, now))
+    if way is not None:
+        user.ask_rows(way)
+        if [whole_number(word) for word in user.ask(f"MEASURE {name}").words[2:]] == list(note.measured):
+            return True
+        user.ask_rows([line for each in reversed(way) for line in ([turn, on, turn] if each == on else [turn])])
+    user.ask_rows([turn])
+    return False
 
 
 def _changed_back(user: "Loader", note: Note, step: int) -> bool:
-    """Gives the atoms the places of the step before that a note has. Returns whether the session was at its step."""
-    name, before = note.owned.session, [(x, y, z) for x, y, z in note.before or ()]
-    if step != note.step and _turn(user, name) != note.step:
-        _turn(user, name)
-        return False
+    """Gives the atoms the places of the step before that a note has. Returns whether the session was the one of the note: else it is as
+    before."""
+    name, before = note.owned.session, note.before or ()
+    turn = f"REVERSE {name}"
     if user.row(name).atoms != len(before):
         return False
-    turn, shows = f"REVERSE {name}", reading.shows(name, len(before))
-    rows = user.ask_rows([turn, *shows, turn]).split(b"\n")
-    there = reading.places_of(name, len(before), b"\n".join([*rows[1:-2], b""]))
-    user.ask_rows(tugs_of(name, Order(), arrays.listed(there.places), before))
+    is_turned = step != note.step
+    if is_turned and number_after(turn, user.ask(turn).words, 2) != note.step:
+        user.ask_rows([turn])
+        return False
+    shows = reading.shows(name, len(before))
+    rows = user.ask_rows([*shows, turn, *shows, turn])
+    places, there = (_listed(each.places) for each in reading.both_of(name, len(before), rows))
+    if places != [tuple(place) for place in note.places or ()]:
+        user.ask_rows([turn] if is_turned else [])
+        return False
+    user.ask_rows(tugs_of(name, Order(), there, before))
     return True
+
+
+def _listed(places: Any) -> List[Place]:
+    return [(x, y, z) for x, y, z in arrays.listed(places)]

@@ -9,7 +9,7 @@ from typing import TYPE_CHECKING, Any, Dict, Iterable, Iterator, List, Optional,
 from . import checkpoint, files, units, xyz
 from .energy_watch import EnergyWatch, warn_of_large_steps
 from .errors import ClientError, NotRecorded
-from .guards import RESERVED, branches_of, checked_session
+from .guards import branches_of, checked_session
 from .interrupts import held
 from .mixture import Mixture, Pair, RawClass
 from .motion import motion_of
@@ -182,9 +182,10 @@ class Loader:
     def _send(self, new: NewSession, name: str, known: Known, replace: bool, record: Optional[files.Path]) -> None:
         """Asks for a new session, in place of one of that name where it is to be replaced."""
         line, body = new.command(name)
-        with self._recorded(name, record, replace, new.command):
-            self.ask(line, body)
-        self._known[name] = new.known(known)
+        with held():
+            with self._recorded(name, record, replace, new.command):
+                self.ask(line, body)
+            self._known[name] = new.known(known)
 
     @contextlib.contextmanager
     def _recorded(self, name: str, path: Optional[files.Path], replace: bool, command_of: CommandOf, continues: str = "") -> Iterator[None]:
@@ -290,7 +291,7 @@ class Loader:
     @whole
     def resort(self, name: str) -> None:
         """As `Session.resort`."""
-        if saved := [branch for branch in branches_of(self, name) if branch not in RESERVED]:
+        if saved := branches_of(self, name):
             raise ValueError(f"{name} cannot be sorted anew, since what is saved by branch would be lost: {', '.join(saved)}")
         resort(self, name)
 

@@ -7,6 +7,7 @@ saved to a file meanwhile.
 from __future__ import annotations
 
 import contextlib
+import pathlib
 from typing import TYPE_CHECKING, Callable, Iterator, List, Optional, Sequence
 
 from . import checkpoint
@@ -20,6 +21,8 @@ from .state import Command
 if TYPE_CHECKING:
     from .loading import Loader
 
+# How many commands it takes at most, which all go over one connection, but for those by which an older session is read.
+COMMANDS = 20
 NO_PLACE = (QuotaSessions, QuotaAtoms, QuotaBranches, Memory)
 # The command that loads a session under a name.
 CommandOf = Callable[[str], Command]
@@ -36,6 +39,7 @@ def replacing(user: "Loader", name: str, command_of: CommandOf, is_wanted: bool)
         yield []
         return
     with held(), user.lock:
+        user.make_room(COMMANDS)
         rows = [row.name for row in user.sessions()]
         gone = gone_of(user, rows)
         if not is_wanted or name not in rows:
@@ -65,12 +69,23 @@ def _replaced(user: "Loader", name: str, command_of: CommandOf) -> Iterator[None
             yield
             user.ask(f"DROP {REPLACING}")
         return
-    state = user.state_of(name)
-    path = saved_file_of(Owned(user.address, user.name or "", name))
-    checkpoint.write(state, path)
-    with _told(name, f"as it was it is saved in {path}, and user.load_saved(..) loads it"):
+    path = _saved(user, name)
+    with _told(name, f"as it was, but for what `branch` saved in it, it is in {path}, and user.load_saved(..) loads it"):
         yield
     path.unlink()
+
+
+def _saved(user: "Loader", name: str) -> pathlib.Path:
+    """The file that a session is saved to. Raises ValueError or ClientError, and nothing is changed, if it cannot be."""
+    state = user.state_of(name)
+    if state.mixture is None and len(set(state.symbols)) > 1:
+        raise ValueError(f"the quota has no place beside {name}, and how its atoms of several symbols interact is not known: drop it first")
+    try:
+        path = saved_file_of(Owned(user.address, user.name or "", name))
+        checkpoint.write(state, path)
+    except OSError as error:
+        raise ClientError(f"the quota has no place beside {name}, and it cannot be saved ({error}): drop it first") from error
+    return path
 
 
 def _is_taken(user: "Loader", name: str, command_of: CommandOf) -> bool:
@@ -98,3 +113,5 @@ def _told(name: str, where: str) -> Iterator[None]:
     except ClientError as error:
         error.more = f"if {name} is gone, {where}"
         raise
+    except OSError as error:
+        raise ClientError(f"{error}; if {name} is gone, {where}") from error

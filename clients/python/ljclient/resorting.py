@@ -5,7 +5,7 @@ import contextlib
 from dataclasses import replace
 from typing import TYPE_CHECKING, Optional, Sequence
 
-from .guards import NO_PLACE, RESERVED, branches_of, reordering
+from .guards import NO_PLACE, branches_of, turning
 from .order import Doubt, Order, Place, sorted_anew
 from .stepping import UNBOUNDED
 from .tugs import tugs_of
@@ -33,7 +33,7 @@ def resort(loader: "Loader", name: str) -> None:
     turn = f"REVERSE {name}"
     before, places = (tugs_of(name, Order(), old.for_server(frame), new.for_server(frame)) for frame in (state.before, state.places))
     lines = [*before, turn, *places, turn]
-    with reordering(loader, name, len(lines)) as end:
+    with turning(loader, name, len(lines)) as end:
         known.order = replace(old, doubt=doubt)
         loader.ask_rows([*lines, *end])
         known.order = new
@@ -70,7 +70,7 @@ class Resorting:
             return UNBOUNDED
         if known.gone >= RESORTED_EACH:
             known.gone = 0
-            if RESERVED.issuperset(branches_of(self._loader, self._name)):
+            if not branches_of(self._loader, self._name):
                 with contextlib.suppress(*NO_PLACE):
                     self._loader.resort(self._name)
         return RESORTED_EACH - self._loader.known(self._name).gone

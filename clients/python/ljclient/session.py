@@ -8,7 +8,7 @@ from . import arrays, ase_bridge, box, centred, checkpoint, equilibrating, files
 from . import reading, sampling, saving, snapshots, stepping, trajectories
 from .elements import Replacements, with_symbols
 from .energy_watch import WatchedHooks
-from .guards import RESERVED, change, checked_branch
+from .guards import NO_PLACE, RESERVED, change, checked_branch, turning
 from .interrupts import held
 from .measurement import Measurement, known
 from .mixture import Mixture
@@ -514,14 +514,27 @@ class Session:
         """Gives the atoms of both frames these displacements in place of those of the last step. An interrupt waits until all have
         theirs, and where the connection is lost between, the next one gives back those that they had."""
         changes = arrays.listed(arrays.least_images(wanted, arrays.least_images(now.places, before.places)))
-        self._tug_all(changes, arrays.listed(before.places))
+        self._tug_all(changes, arrays.listed(now.places), arrays.listed(before.places))
 
-    def _tug_all(self, changes: Sequence[Sequence[int]], before: Sequence[Place]) -> None:
-        """Tugs each atom by such a displacement, from these places a step before: all of them or none."""
+    def _tug_all(self, changes: Sequence[Sequence[int]], places: Sequence[Place], before: Sequence[Place]) -> None:
+        """Tugs each atom by such a displacement, which has these places now and a step before: all of them or none."""
         self._user.known(self.name).watch.begin_anew()
         tugs = [self._tug(atom, change) for atom, change in enumerate(changes) if any(change)]
-        with change(self._user, self.name, self.order.for_server(before)) as end:
+        for_server = self.order.for_server
+        with change(self._user, self.name, for_server(places), for_server(before)) as end:
             self._user.ask_rows([*tugs, *end])
+
+    @whole
+    def _step_and_turn(self) -> None:
+        """Goes on by a step and turns the motion back, which leaves the places as they are: both or, at a server, none."""
+        lines = [f"ADVANCE {self.name} 1", f"REVERSE {self.name}"]
+        try:
+            with turning(self._user, self.name, len(lines)) as end:
+                self._user.ask_all([*lines, *end])
+        except NO_PLACE:
+            self._user.ask_all(lines)
+        if (direction := self._user.known(self.name).direction) is not None:
+            self._user.known(self.name).direction = -direction
 
     def _row(self) -> "Row":
         return self._user.row(self.name)

@@ -309,6 +309,7 @@ class User(Loader):
             self._take(self._reopen())
             self._listeners.told(Mark.CONNECTION)
             self._attach()
+            leftovers.put_right(self)
         elif self._restart and asked >= max(MAX_ITEMS // 2, self._tried_at + MAX_ITEMS // 20):
             self._tried_at = math.inf
             watches = {name: dataclasses.replace(known.watch) for name, known in self._known.items()}

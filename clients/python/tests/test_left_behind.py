@@ -76,7 +76,7 @@ def test_a_full_quota_has_a_note_on_the_disk(full: Where, tmp_path: pathlib.Path
         raw(full, "ADVANCE a 1")
     for count in places(total, PLACES):
         cut(full, count, call.do, tmp_path)
-        assert told(full) == []
+        assert all("connection was lost while a was at the server's step" in text for text in told(full))
         assert seen(full) in wanted, f"cut after {count} of {total} bytes"
         assert list(state.glob("*")) == []
 
@@ -85,7 +85,7 @@ def test_a_note_tells_what_the_session_was(full: Where, state: Any) -> None:
     cut(full, 200, CALLS["velocities"].do)
     (note,) = state.glob("a-*.json")
     told_there = json.loads(note.read_text())
-    assert (told_there["step"], told_there["direction"], told_there["before"]) == (3, 1, None)
+    assert (told_there["measured"][:2], told_there["direction"], told_there["before"]) == ([3, 8], 1, None)
     assert note.stat().st_mode & 0o077 == 0 or note.parent.stat().st_mode & 0o077 == 0
 
 
@@ -98,7 +98,8 @@ def test_another_machine_knows_nothing_of_a_note(full: Where, monkeypatch: Any, 
     monkeypatch.setenv("XDG_STATE_HOME", str(tmp_path / "elsewhere"))
     assert told(full) == [] and seen(full).direction == -1
     monkeypatch.setenv("XDG_STATE_HOME", str(tmp_path / "state"))
-    assert told(full) == [] and seen(full).direction == 1
+    assert told(full) == ["an earlier connection was lost while a was at the server's step 3, and it is as it was there"]
+    assert seen(full).direction == 1
 
 
 def test_a_session_that_has_gone_on_stays_there(where: Where) -> None:
@@ -109,8 +110,8 @@ def test_a_session_that_has_gone_on_stays_there(where: Where) -> None:
     raw(where, "ADVANCE a 3")
     before = seen(where)
     (text,) = told(where)
-    assert text.startswith("an earlier connection was lost while a was at the server's step 3 and it looked at the session or changed it; ")
-    assert f"a is at {before.step} now, so it was left: `RESTORE a ljclient-look` goes back to 3, and " in text
+    assert text.startswith("an earlier connection was lost while it looked at it: a was at the server's step 3, and is at ")
+    assert f"is at {before.step} now, so it was left: `RESTORE a ljclient-look` goes back to 3, and " in text
     assert seen(where) == before
     with warnings.catch_warnings(), joined(where) as user:
         warnings.simplefilter("ignore")
@@ -139,7 +140,8 @@ def test_a_change_that_was_broken_off_is_undone_and_said(where: Where) -> None:
         is_between = any(line.startswith("ljclient-change") for line in seen(where).saved)
         texts = told(where)
         if is_between:
-            assert texts == ["an earlier connection was lost while it changed the motion of a: its atoms are as before"]
+            changed = "an earlier connection was lost while it changed the motion of its atoms: a was at the server's step 3"
+            assert texts == [f"{changed}, and is as it was there"]
             assert seen(where) == before
         seen_between.add(is_between)
     assert seen_between == {True, False}
@@ -147,13 +149,14 @@ def test_a_change_that_was_broken_off_is_undone_and_said(where: Where) -> None:
 
 def test_the_error_of_a_lost_connection_says_what_the_session_was(where: Where) -> None:
     errors = {str(cut(where, count, CALLS["velocities"].do)) for count in range(100, 200, 10)}
-    said = "; a was at step 3, direction +1 before that, and the next connection puts it back there"
+    said = "; a was at step 3, direction +1 before that, and the next connection puts it back there unless all was done"
     assert any(error.endswith(said) for error in errors), errors
 
 
 def test_the_error_says_so_too_where_only_a_note_knows(full: Where) -> None:
     error = cut(full, 200, CALLS["velocities"].do)
-    assert str(error).endswith("; a was at step 3, direction +1 before that, and the next connection from this machine puts it back there")
+    said = "; a was at step 3, direction +1 before that, and the next connection from this machine puts it back there unless all was done"
+    assert str(error).endswith(said)
 
 
 def test_reserved_names_are_for_nobody_else(where: Where) -> None:
@@ -174,7 +177,8 @@ def test_user_session_puts_right_what_it_finds(where: Where) -> None:
         prepared(user)
         before = listed(user.session("a").places())
         user.ask_all(["BRANCH a ljclient-look", "REVERSE a"])
-        session = user.session("a", **SCALE)
+        with pytest.warns(LeftWarning, match="a was at the server's step 3, and is as it was there"):
+            session = user.session("a", **SCALE)
         assert (session.step, listed(session.places()), session.saved()) == (3, before, [])
 
 
@@ -196,11 +200,12 @@ def test_a_replacement_without_room_has_a_file(full: Where, state: Any, tmp_path
         with pytest.raises(refusals.XyzNumber) as caught:
             user.load("a", many, replace=True, watch=False, **SCALE)
         (path,) = state.glob("a-*.saved")
-        assert f"if a is gone, as it was it is saved in {path}, and user.load_saved(..) loads it" in str(caught.value)
+        said = f"if a is gone, as it was, but for what `branch` saved in it, it is in {path}, and user.load_saved(..) loads it"
+        assert said in str(caught.value)
         assert [row.name for row in user.sessions()] == ["b"]
     assert told(full) == [
-        f"a was to be replaced by an earlier connection, and is gone. It is saved in {path}: user.load_saved(..) loads it, and once "
-        "that file is deleted nothing is told of it any more"
+        f"a is not there, and {path} has it as it was before an earlier connection replaced it: user.load_saved(..) loads it; delete the "
+        "file if it is not wanted"
     ]
     with warnings.catch_warnings(), joined(full) as user:
         warnings.simplefilter("ignore")
