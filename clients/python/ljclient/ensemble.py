@@ -135,7 +135,10 @@ def _made(folder: Optional[Path]) -> Iterator[pathlib.Path]:
         with tempfile.TemporaryDirectory() as temporary:
             yield pathlib.Path(temporary)
     else:
-        os.makedirs(folder, exist_ok=True)
+        try:
+            os.makedirs(folder, exist_ok=True)
+        except FileExistsError:
+            raise ValueError(f"{os.fspath(folder)} is a file: say a folder for the checkpoints") from None
         yield pathlib.Path(folder).resolve()
 
 

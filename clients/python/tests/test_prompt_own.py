@@ -200,6 +200,14 @@ def test_a_faulty_line_of_a_file_is_shown(terminal: Any, tmp_path: pathlib.Path)
     assert told.startswith("ERR 33 XYZ_NUMBER line 4\n") and "  bad.xyz, line 4: Ar one 0 0\n" in told
 
 
+def test_atoms_of_another_symbol_are_loaded_by_saying_theirs(terminal: Any, tmp_path: pathlib.Path) -> None:
+    (tmp_path / "krypton.xyz").write_text(DIMER.replace("Ar", "Kr"))
+    line = "LOAD a krypton.xyz edge=20 dt=2fs argon"
+    assert "symbols='Ar'" in says(terminal, line)
+    assert says(terminal, f"{line} symbols=Ar").startswith("OK LOAD a 0 2\n")
+    assert "1 to 16 printing characters" in " ".join(says(terminal, f"{line} symbols=").split())
+
+
 @pytest.mark.parametrize(
     "line, told",
     [

@@ -17,6 +17,8 @@ SCALE = ["--edge", 20, "--sigma", 1, "--h", 131072]
 # Two atoms that move, and in the second file one more in the middle, which feels neither of them and stays.
 FILES = {"two.xyz": "2\n\nAr 0 0 0\nAr 1.5 0 0\n", "three.xyz": "3\n\nAr 0 0 0\nAr 1.5 0 0\nAr 10 10 0\n"}
 TWO, THREE = 0, 1
+# What asks the server for nothing stays: the list of keys, and what is drawn as a picture and as numbers.
+STAYING = ["", "picture", "csv"]
 ENABLED = "[...document.querySelectorAll('button, select')].filter(each => !each.disabled).map(each => each.id)"
 
 
@@ -309,7 +311,7 @@ def test_an_end_is_said_for_good(shown: Any) -> None:
     slab = "document.getElementById('depth')"
     shown.browser.value(f"{slab}.value = 0.2; {slab}.dispatchEvent(new Event('input'))")
     shown.browser.value("new Promise(done => requestAnimationFrame(() => requestAnimationFrame(done))).then(() => true)")
-    assert shown.browser.value(ENABLED) == []
+    assert shown.browser.value(ENABLED) == STAYING
     assert (shown.message, shown.kind) == (message, ["bad"])
     shown.picture("ended")
 
@@ -322,7 +324,7 @@ def test_an_end_of_the_program_is_said_for_good(shown: Any) -> None:
     os.kill(program, signal.SIGKILL)
     message = shown.says("The program has ended. Load this page anew to begin again (")
     assert "has ended with status -9" in message
-    assert (shown.browser.value(ENABLED), shown.browser.text("play"), shown.kind) == ([], "Play", ["bad"])
+    assert (shown.browser.value(ENABLED), shown.browser.text("play"), shown.kind) == (STAYING, "Play", ["bad"])
     shown.picture("program_ended")
     shown.choose(THREE)
     shown.browser.wait_for(f"document.getElementById('scene').value === '{TWO}'")
@@ -336,7 +338,7 @@ def test_a_page_that_is_not_let_in_says_why(browser: Any) -> None:
         browser.open(view.link)
         browser.wait_for("document.getElementById('play')?.disabled")
         why = "1 page is open already from your address, 127.0.0.1, and no more may be. Close one, and load this page anew."
-        assert (browser.text("message"), browser.value(ENABLED)) == (why, [])
+        assert (browser.text("message"), browser.value(ENABLED)) == (why, STAYING)
         if PICTURES:
             (pathlib.Path(PICTURES) / "not_let_in.png").write_bytes(browser.picture())
         browser.leave()

@@ -6,6 +6,7 @@ import re
 from typing import Any, Dict, List, NamedTuple, Optional, Sequence, Tuple
 
 from .. import units
+from ..names import SYMBOL
 from ..session import Session
 from ..user import User
 from .commands import MODES
@@ -24,6 +25,7 @@ MASSES = {"": units.dalton, "u": units.dalton, "Da": units.dalton}
 TIMES = {"": units.femtosecond, "fs": units.femtosecond, "ps": units.picosecond}
 UNITS = {"edge": LENGTHS, "sigma": LENGTHS, "epsilon": ENERGIES, "mass": MASSES, "dt": TIMES, "h": {"": 1.0}}
 QUANTITY = re.compile(r"([+-]?(?:[0-9]+\.?[0-9]*|\.[0-9]+)(?:[eE][+-]?[0-9]+)?)(.*)\Z")
+SYMBOLS = "symbols="
 WANTED = "say the time step and the substance, as in `dt=2fs argon`, or sigma=, epsilon=, mass= and dt=, or sigma= and h="
 
 
@@ -58,8 +60,12 @@ def load_of(line: str) -> Optional[PhysicalLoad]:
     if words[:1] != ["LOAD"] or len(words) < 4 or not any(is_physical(word) for word in words[3:]):
         return None
     mode = words[-1] if words[-1] in MODES else ""
-    said = scale_of(words[3:-1] if mode else words[3:])
-    return PhysicalLoad(words[1], words[2], mode == "pair", said)
+    rest = words[3:-1] if mode else words[3:]
+    symbols = [word.partition("=")[2] for word in rest if word.startswith(SYMBOLS)]
+    said = scale_of([word for word in rest if not word.startswith(SYMBOLS)])
+    if symbols and not SYMBOL.match(symbols[-1]):
+        raise Fault(f"`{SYMBOLS}{symbols[-1]}`: the symbol of all atoms comes behind {SYMBOLS}, 1 to 16 printing characters")
+    return PhysicalLoad(words[1], words[2], mode == "pair", {**said, "symbols": symbols[-1]} if symbols else said)
 
 
 def file_of(line: str) -> Tuple[str, bytes]:

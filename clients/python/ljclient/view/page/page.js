@@ -94,7 +94,7 @@ function stop(why) {
   stopped = true;
   play(false);
   box.forget();
-  for (const control of document.querySelectorAll("button, select")) control.disabled = true;
+  for (const control of document.querySelectorAll("button:not(.link), select")) control.disabled = true;
   message.say(why, [], "bad");
 }
 
