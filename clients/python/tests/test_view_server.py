@@ -222,7 +222,7 @@ def test_the_page_says_that_the_server_has_ended(server: Any, view: Any, ann: An
         server.end()
         page.wait_for(f"document.getElementById('message').textContent.startsWith('{end_of(server)}')")
         assert page.text("play") == "Play"
-        assert page.value("[...document.querySelectorAll('button, select')].every(each => each.disabled)")
+        assert page.value("[...document.querySelectorAll('button:not(.link), select')].every(each => each.disabled)")
         picture(page, "server_ended")
         assert page.faults == []
 
