@@ -76,6 +76,8 @@ class RecordFile:
         """What each line says below the head, up to one that is cut short."""
         self._read_head(file.readline(MAX_ROW))
         for self._at, row in enumerate(iter(lambda: file.readline(MAX_ROW), b""), 2):
+            if self.is_ended:
+                raise self._damaged("the record goes on below its end")
             if not row.endswith(b"\n"):
                 if len(row) == MAX_ROW:
                     raise self._damaged(f"the line has more than {MAX_ROW:,} bytes")
@@ -85,8 +87,8 @@ class RecordFile:
             if check != self._chain.check_of(text):
                 raise self._damaged("the line was changed, or one above it is missing")
             word, blank, rest = text.partition(b" ")
-            if self.is_ended or word not in MARKS or (MARKS[word] in ALONE) == bool(blank):
-                raise self._damaged("the record goes on below its end" if self.is_ended else "there is no line of this kind")
+            if word not in MARKS or (MARKS[word] in ALONE) == bool(blank):
+                raise self._damaged("there is no line of this kind")
             yield MARKS[word], rest
 
     def _read_head(self, head: bytes) -> None:

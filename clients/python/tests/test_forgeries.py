@@ -1,11 +1,18 @@
 """Forgeries: true records, changed in one place with checks that are right, are refused, or `verify` tells something else of them."""
+import contextlib
 import functools
+import io
 import pathlib
 import re
+from unittest import mock
 from typing import Callable, Dict, Iterator, List, Tuple
 
 import pytest
 
+from ljclient import Damaged, verify
+from ljclient.record_file import sum_of_continued
+from record_texts import verified, with_checks
+from support import PROGRAM
 from true_records import NAMES, judged, text_of
 
 LARGE = "quota sessions 64 atoms 65536 branches 256"
@@ -193,5 +200,42 @@ def test_lines_that_are_put_in(folder: pathlib.Path, tmp_path: pathlib.Path, nam
     held(folder, tmp_path / "run.lj", name, kind)
 
 
+# What is put below the end: lines, whole and without an end, with checks that are right or none.
+BELOW = {
+    "letter": "x",
+    "line": "x\n",
+    "empty_line": "\n",
+    "blank": " ",
+    "null": "\0",
+    "end": "end",
+    "whole_end": "end\n",
+    "command": "> SHOW a 0",
+    "mebibyte": 2**20 * "x",
+}
+
+
+@pytest.mark.parametrize("kind", BELOW)
+def test_text_below_the_end(folder: pathlib.Path, tmp_path: pathlib.Path, kind: str) -> None:
+    """Neither `verify` takes it, nor does a record that is to go on from there."""
+    text, path = true_text("branched", folder), tmp_path / "run.lj"
+    assert text.endswith("\nend\n")
+    for tail in (with_checks(text + BELOW[kind]), with_checks(text) + BELOW[kind]):
+        path.write_text(tail)
+        status, told, faults = verified("--partial", path)
+        why = f"line {text.count(chr(10)) + 1}: the record goes on below its end"
+        assert (status, told, faults) == (2, [], [f"ljclient: {path}, {why}"])
+        with pytest.raises(Damaged, match=why):
+            sum_of_continued(path, tmp_path / "other.lj")
+
+
+def test_text_that_is_put_below_the_end_while_it_is_played(folder: pathlib.Path, tmp_path: pathlib.Path) -> None:
+    text, path, told = true_text("branched", folder), tmp_path / "run.lj", io.StringIO()
+    path.write_text(with_checks(text))
+    with mock.patch.object(verify, "heading", lambda *_: str(path.write_text(with_checks(text) + "x"))):
+        with contextlib.redirect_stdout(io.StringIO()), contextlib.redirect_stderr(told):
+            status = verify.main(["--quiet", str(path), "--program", PROGRAM])
+    assert (status, "the record goes on below its end" in told.getvalue()) == (2, True)
+
+
 def test_how_many_kinds_there_are() -> None:
-    assert len({*CHANGED, *MOVED, *PUT_IN}) >= 60
+    assert len({*CHANGED, *MOVED, *PUT_IN, *BELOW}) >= 70
