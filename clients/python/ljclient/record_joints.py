@@ -8,7 +8,7 @@ from __future__ import annotations
 import contextlib
 from dataclasses import dataclass, field
 from fractions import Fraction
-from typing import TYPE_CHECKING, List, Optional, Sequence, Tuple
+from typing import TYPE_CHECKING, Dict, List, Optional, Sequence, Tuple
 
 from . import record
 from .errors import Refused
@@ -23,6 +23,8 @@ if TYPE_CHECKING:
 RING_EDGE = RING * 1000
 BILLION = 10**9
 FULL_WEIGHT = 256
+# The name of what the session is like itself, beside the names under which it was saved.
+NOW = b""
 
 
 @dataclass(frozen=True)
@@ -110,41 +112,59 @@ class Joints:
         self.trajectories = 1
         self.uncompared = 0
         self._name = name
-        self._before: Sequence[Side] = ()
+        self._before: Dict[bytes, Side] = {}
+        self._now: Optional[Dict[bytes, Side]] = None
+        self._found: List[Optional[bool]] = []
+
+    def look(self, user: "User", loaded: Optional[Loaded]) -> None:
+        """Reads the session as it is, before what is saved in it is restored and read, and it moves."""
+        self._now = {}
+        with contextlib.suppress(Refused):
+            if loaded is not None:
+                self._now = self._sides(user, loaded)
 
     def leave(self, user: "User", loaded: Optional[Loaded], has_moved: bool) -> None:
-        """Reads the session before it is gone."""
-        self._before = ()
+        """Reads the session before it is gone, and what is saved in it if that is to be in a new program too."""
+        now, self._now = self._now, None
+        self._before, self._found = {}, []
         with contextlib.suppress(Refused):
             if loaded is not None:
                 self._before = self._all_sides(user, loaded) if has_moved else self._sides(user, loaded)
+        if self._before and now is not None:
+            self._before = {**self._before, **now}
 
-    def arrive(self, user: "User", loaded: Optional[Loaded]) -> str:
-        """Compares the session that was loaded again, and returns what is told of it."""
-        after = self._sides(user, loaded) if self._before and loaded is not None else ()
-        if after and after[0] in self._before:
+    def compare(self, user: "User", loaded: Optional[Loaded], saved: bytes) -> None:
+        """Compares the session with what was saved under a name, or with itself before if there is none."""
+        after = self._sides(user, loaded) if self._before and loaded is not None else {}
+        self._found.append(after[NOW] == self._before.get(saved) if after else None)
+
+    def differ(self) -> None:
+        """Takes in that the commands behind a load leave it otherwise than it was."""
+        self._found.append(False)
+
+    def arrive(self) -> str:
+        """Counts the trajectories, and returns what is told of the session that was loaded again."""
+        if self._found and all(self._found):
             return "the session goes on as it was"
         self.trajectories += 1
-        if after:
+        if False in self._found:
             return "another trajectory begins"
         self.uncompared += 1
         return "it was not compared whether the session goes on as it was"
 
-    def _sides(self, user: "User", loaded: Loaded) -> Sequence[Side]:
+    def _sides(self, user: "User", loaded: Loaded) -> Dict[bytes, Side]:
         """The session as it is, if there is room to read it."""
-        return (side_of(user, self._name, loaded),) if self._takes(loaded.cost) else ()
+        return {NOW: side_of(user, self._name, loaded)} if self._takes(loaded.cost) else {}
 
-    def _all_sides(self, user: "User", loaded: Loaded) -> Sequence[Side]:
-        """The session as it is, and as it was saved: a new program is first told what was saved first.
-
-        The session has what was saved last then."""
+    def _all_sides(self, user: "User", loaded: Loaded) -> Dict[bytes, Side]:
+        """The session as it is, and as it was saved under each name. The session has what was saved last then."""
         saved = [line.split(" ")[0] for line in user.ask(f"LIST {self._name}").lines] if self._takes(1) else []
         if not self._takes((loaded.cost + 1) * (len(saved) + 1)):
-            return ()
-        sides = [side_of(user, self._name, loaded)]
+            return {}
+        sides = {NOW: side_of(user, self._name, loaded)}
         for branch in saved:
             user.ask(f"RESTORE {self._name} {branch}")
-            sides.append(side_of(user, self._name, loaded))
+            sides[branch.encode()] = side_of(user, self._name, loaded)
         return sides
 
     def _takes(self, cost: int) -> bool:

@@ -11,6 +11,57 @@ from .record import Entry, Mark
 from .record_file import RecordFile
 
 
+# What a client reads a session by, beside an ADVANCE of no steps.
+READS = (b"SHOW", b"DUMP", b"LIST", b"REVERSE")
+
+
+@dataclass(frozen=True)
+class Arrival:
+    """What a session has to be like behind a command, so that it goes on as it was.
+
+    load     the line of the load that has loaded it again
+    saved    the name under which it was saved like this; empty if it is to be as it was just before
+    is_last  whether nothing more is compared of this load
+    """
+
+    load: int
+    saved: bytes = b""
+    is_last: bool = True
+
+
+@dataclass
+class Return:
+    """What follows the load in a new program: what was saved is saved again in its order, with tugs from each to the next.
+
+    load   the line of the load
+    saved  the names that are not saved again yet
+    turns  how many REVERSEs are left up to the next BRANCH, or up to the end
+    """
+
+    load: int
+    saved: List[bytes]
+    turns: int = 0
+    arrivals: Dict[int, Arrival] = field(default_factory=dict)
+
+    def takes(self, entry: Entry) -> bool:
+        """Whether the next command is one of these, which is then taken in."""
+        words = record.words_of(entry.line)
+        if self.turns and entry.is_granted_of(b"TUG", b"REVERSE"):
+            self.turns -= words[0] == b"REVERSE"
+            if self.is_done:
+                self.arrivals[entry.number] = Arrival(self.load)
+            return True
+        if self.turns or not entry.is_granted_of(b"BRANCH") or words[2:] != self.saved[:1]:
+            return False
+        self.arrivals[entry.number] = Arrival(self.load, self.saved.pop(0), False)
+        self.turns = 2
+        return True
+
+    @property
+    def is_done(self) -> bool:
+        return not self.saved and not self.turns
+
+
 class Leaving(enum.Enum):
     """How a session is gone that is loaded again."""
 
@@ -27,21 +78,34 @@ class Plan:
     played       how many commands are played, in each program
     left_out     how many commands are not played
     connections  how many new connections were begun
+    looks        the lines before which a session is read, since what is saved in it is read then, before it moves
     leaves       the lines before which a session is read that is loaded again, and how it is gone
-    arrives      the lines of the loads that load it again
+    arrives      the lines behind which a session that was loaded again is compared, and with what
+    unlike       the lines of loads in a new program that are followed by something else than what was saved
+    unended      the lines of loads in a new program with which the record ends before all is there that was saved
     """
 
     file: RecordFile
     played: List[int] = field(default_factory=lambda: [0])
     left_out: int = 0
     connections: int = 0
+    looks: Set[int] = field(default_factory=set)
     leaves: Dict[int, Leaving] = field(default_factory=dict)
-    arrives: Set[int] = field(default_factory=set)
+    arrives: Dict[int, Arrival] = field(default_factory=dict)
+    unlike: Set[int] = field(default_factory=set)
+    unended: Set[int] = field(default_factory=set)
+    _saved: List[bytes] = field(default_factory=list)
+    _restored: List[Tuple[int, bytes]] = field(default_factory=list)
+    _return: Optional[Return] = None
     _gone: Optional[Tuple[int, Leaving]] = None
     _is_renewed: bool = False
 
     def take(self, entry: Entry) -> None:
         """Takes the next entry in."""
+        if self._return is not None:
+            self._go_on(self._return, entry)
+        if entry.mark is not Mark.MOVED:
+            self._restore(entry)
         if entry.mark is Mark.REPLY:
             self._reply(entry)
         elif entry.mark is Mark.CONNECTION:
@@ -50,6 +114,8 @@ class Plan:
         elif entry.mark is Mark.MOVED:
             self.played.append(0)
             self._gone = entry.number, Leaving.MOVED
+            if self._restored and [name for _, name in self._restored] == self._saved:
+                self.looks.add(self._restored[0][0])
         else:
             self.left_out += 1
             if entry.refusal == record.NO_SESSION and self._gone is None:
@@ -61,6 +127,7 @@ class Plan:
             self._load(entry.number)
         elif entry.is_granted_of(b"DROP"):
             self._gone = entry.number, Leaving.DROPPED
+        self._save(entry)
         self._is_renewed = False
         self.played[-1] += 1
 
@@ -71,8 +138,49 @@ class Plan:
         if self._gone is not None:
             line, leaving = self._gone
             self.leaves[line] = leaving
-            self.arrives.add(number)
+            self.arrives[number] = Arrival(number)
             self._gone = None
+            if leaving is Leaving.MOVED and self._saved:
+                self._return = Return(number, self._saved)
+                self.unended = {number}
+
+    def _go_on(self, following: Return, entry: Entry) -> None:
+        """Takes in what follows the load in a new program, which is compared once all is there that was saved."""
+        is_taken = following.takes(entry)
+        if is_taken and not following.is_done:
+            return
+        if is_taken:
+            del self.arrives[following.load]
+            self.arrives.update(following.arrivals)
+        else:
+            self.unlike.add(following.load)
+        self._return, self.unended = None, set()
+
+    def _restore(self, entry: Entry) -> None:
+        """Follows what is restored and read only, one after the other in order of saving, as a client does that moves a session."""
+        words = record.words_of(entry.line)
+        if entry.is_granted_of(b"RESTORE"):
+            if words[2:] != self._next_restored:
+                self._restored = []
+            if words[2:] == self._next_restored:
+                self._restored.append((entry.number, words[2]))
+        elif not entry.is_granted_of(*READS) and not (entry.is_granted_of(b"ADVANCE") and words[2:] == [b"0"]):
+            self._restored = []
+
+    @property
+    def _next_restored(self) -> List[bytes]:
+        """The name that is restored next, if there is one; a list that no words are if all were restored."""
+        return self._saved[len(self._restored) : len(self._restored) + 1] or [b"", b""]
+
+    def _save(self, entry: Entry) -> None:
+        """Follows what is saved, in order of saving."""
+        name = record.words_of(entry.line)[2:3]
+        if entry.is_granted_of(*record.LOADS):
+            self._saved = []
+        elif entry.is_granted_of(b"BRANCH"):
+            self._saved += name
+        elif entry.is_granted_of(b"FORGET"):
+            self._saved = [each for each in self._saved if [each] != name]
 
 
 def plan_of(path: Path) -> Plan:

@@ -11,7 +11,7 @@ from .errors import ClientError, Refused
 from .record import Answer, Entry, Mark, shown
 from .record_file import RecordFile
 from .record_joints import Joints, Loaded, loaded_by
-from .record_plan import Leaving, Plan
+from .record_plan import Arrival, Leaving, Plan
 from .recording import Listener
 from .user import MAX_ITEMS, User
 
@@ -97,10 +97,15 @@ class Stage:
         self._opener = opener
         self._is_server = is_server
         self._file = plan.file
+        self._plan = plan
         self._player = player
         self._rooms = [0 if is_server else MAX_ITEMS - SPARE_ITEMS - played for played in plan.played]
         self.joints = Joints(plan.file.session, self._rooms.pop(0))
         self.user = self._opened()
+
+    def look(self) -> None:
+        """Reads the session, as it is to be when it has moved."""
+        self.joints.look(self.user, self._player.loaded)
 
     def leave(self, leaving: Leaving) -> None:
         """Has the session be gone as it is said, if it is not by a command of the record. Before that it is read."""
@@ -126,9 +131,14 @@ class Stage:
             why = self._player.trouble or f"line {entries[-1].number}: not all commands up to here were answered"
             raise Trouble(f"{self._player.path}, {why}; the file says that it needs a quota of {self._file.quota}")
 
-    def arrive(self) -> str:
-        """Compares the session that was loaded again with what was read of it, and returns what is told."""
-        return self.joints.arrive(self.user, self._player.loaded)
+    def arrive(self, arrival: Arrival) -> None:
+        """Compares the session that was loaded again with what was read of it, and tells of it behind the last of its commands."""
+        if arrival.load in self._plan.unlike:
+            self.joints.differ()
+        elif arrival.load not in self._plan.unended:
+            self.joints.compare(self.user, self._player.loaded, arrival.saved)
+        if arrival.is_last:
+            self._player.note(f"again - line {arrival.load}: {self.joints.arrive()}")
 
     def close(self) -> None:
         """Leaves a server as it was."""
@@ -184,8 +194,10 @@ def left_out(entry: Entry) -> str:
 def play(plan: Plan, stage: Stage, player: Player) -> None:
     """Plays a whole record, as it was planned. Raises Trouble if that cannot be, or if the file is another one by now."""
     again = RecordFile(plan.file.path)
-    for part in parts_of(again.entries(), plan.arrives | set(plan.leaves)):
+    for part in parts_of(again.entries(), {*plan.arrives, *plan.leaves, *plan.looks}):
         first = part[0]
+        if first.number in plan.looks:
+            stage.look()
         if first.number in plan.leaves:
             stage.leave(plan.leaves[first.number])
         if first.mark is Mark.REPLY:
@@ -194,6 +206,6 @@ def play(plan: Plan, stage: Stage, player: Player) -> None:
             player.note(left_out(first))
             player.is_renewed = player.is_renewed or first.mark is Mark.CONNECTION
         if first.number in plan.arrives:
-            player.note(f"again - line {first.number}: {stage.arrive()}")
+            stage.arrive(plan.arrives[first.number])
     if again.sum != plan.file.sum or player.count != sum(plan.played):
         raise Trouble(f"{player.path} was changed while it was played")

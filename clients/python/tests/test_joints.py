@@ -1,13 +1,14 @@
 """Where a session of a record is loaded again: it goes on as it was, to the bit, or the verdict tells of another trajectory."""
 import pathlib
-from typing import Any
+import re
+from typing import Any, Callable, Tuple
 from unittest import mock
 
 import pytest
 
-from ljclient import record_joints, record_playing, run
-from record_texts import verified, with_checks
-from support import ARGON, EXAMPLES, PROGRAM, TOKEN, Server
+from ljclient import record_joints, record_playing, run, user as users
+from record_texts import DIMER_TEXT, verified, with_checks, without_checks
+from support import ARGON, EXAMPLES, PROGRAM, TOKEN, Server, dimer
 from true_records import judged, text_of
 
 ON = "again - line : the session goes on as it was"
@@ -104,6 +105,83 @@ def test_a_new_program_that_is_told_what_was_saved(tmp_path: pathlib.Path) -> No
     assert [ON in lines for lines in told] == [True, False]
     assert [OTHER in lines for lines in told] == [False, True]
     assert ["; 1 trajectory" in lines[-1] for lines in told] == [True, False]
+
+
+@pytest.fixture(scope="module")
+def parts(tmp_path_factory: pytest.TempPathFactory) -> Tuple[str, str]:
+    """The record of a dimer that goes on in a new program with two saved states, above that and up to where it is as it was."""
+    path = tmp_path_factory.mktemp("true") / "run.lj"
+    with mock.patch.object(users, "MAX_ITEMS", 100), run(PROGRAM) as user:
+        a = dimer(user, record=path)
+        for name in ("k", "m"):
+            a.advance(2)
+            a.branch(name)
+        for _ in range(80):
+            a.advance(1)
+    above, _, below = "\n".join([*without_checks(path), ""]).partition("moved\n")
+    moved = re.match(r"(?:> (?!ADVANCE).*\n(?:[:<].*\n)+)+", below)
+    assert moved and moved[0].count("> BRANCH") == 2 and moved[0].count("> REVERSE") == 4
+    return above, moved[0]
+
+
+def less(pattern: str) -> Callable[[str], str]:
+    """What leaves out the last text of this pattern."""
+    return lambda moved: re.sub(rf"(?s)(.*){pattern}", r"\1", moved, count=1)
+
+
+TUG, TURN = r"> TUG[^\n]*\n<[^\n]*\n", r"> REVERSE[^\n]*\n<[^\n]*\n"
+FIRST_TURN = r"(> REVERSE a\n)"
+
+
+@pytest.mark.parametrize(
+    ("change", "told"),
+    [
+        (str, ON),
+        (lambda moved: f"{moved}> TUG a 0 0 7 0\n< OK TUG a 0 0\n> REVERSE a\n< OK REVERSE a -1\n", ON),
+        (lambda moved: re.sub(FIRST_TURN, r"> TUG a 0 0 0 0\n< OK TUG a 0 0\n\1", moved, count=1), ON),
+        (lambda moved: re.sub(FIRST_TURN, r"> TUG a 0 0 0 1\n< OK TUG a 0 0\n\1", moved, count=1), OTHER),
+        (lambda moved: re.sub(FIRST_TURN, r"> ADVANCE a 0\n< OK ADVANCE a 0\n\1", moved, count=1), OTHER),
+        (lambda moved: re.sub(FIRST_TURN, r"> BRANCH a q\n! ERR 90 MEMORY\n\1", moved, count=1), OTHER),
+        (lambda moved: re.sub(FIRST_TURN, r"connection\n\1", moved, count=1), OTHER),
+        (less(TUG), OTHER),
+        (lambda moved: f"{less(TURN)(moved)}> SHOW a 5\n< ERR 14 NO_ATOM\n", OTHER),
+        (less(TURN), UNCOMPARED),
+        (lambda moved: moved[: moved.index("> BRANCH")], UNCOMPARED),
+        (lambda moved: moved[: moved.index("> BRANCH")] + "> ADVANCE a 1\n< OK ADVANCE a 1\n", OTHER),
+        (lambda moved: re.sub(r"(BRANCH a )([km])", lambda found: f"{found[1]}{'km'[found[2] == 'k']}", moved), OTHER),
+        (lambda moved: re.sub(r"(BRANCH a )m", r"\1z", moved), OTHER),
+        (lambda moved: moved.replace("Ar 1774e-6", "Ar 1775e-6", 1), OTHER),
+    ],
+)
+def test_what_was_saved_is_saved_anew(parts: Tuple[str, str], tmp_path: pathlib.Path, change: Callable[[str], str], told: str) -> None:
+    """Each state is compared where it is saved again, and at the end that in which the session was."""
+    above, moved = parts
+    status, lines = judged(tmp_path / "run.lj", f"{above}moved\n{change(moved)}end\n")
+    count = {ON: "1 trajectory", OTHER: "2 trajectories"}.get(told, "at most 2 trajectories, since 1 load was not compared")
+    assert (status, [line for line in lines if line.startswith("again")]) == (0, [told])
+    assert f"; {count}" in lines[-1]
+
+
+@pytest.mark.parametrize("put_in", ["> ADVANCE a 1\n< OK ADVANCE a 5\n", "> TUG a 0 0 0 0\n< OK TUG a 0 4\n"])
+def test_steps_that_are_lost(parts: Tuple[str, str], tmp_path: pathlib.Path, put_in: str) -> None:
+    """The session is to be as it was before what is saved is restored only if nothing but reading it is between."""
+    above, moved = parts
+    assert above.endswith("> REVERSE a\n< OK REVERSE a 4\n")
+    assert judged(tmp_path / "run.lj", f"{above}{put_in}moved\n{moved}end\n")[1][-2] == OTHER
+
+
+DIMER_LOAD = DIMER_TEXT[DIMER_TEXT.index("> LOAD") : DIMER_TEXT.index("> ADVANCE")]
+TURNED = "> REVERSE a\n< OK REVERSE a -1\n> REVERSE a\n< OK REVERSE a 0\n"
+SPLICED = "quota sessions 1 atoms 2 branches 1\n> BRANCH a k\n< OK BRANCH a k 0\n> ADVANCE a 100000\n< OK ADVANCE a 100000\nmoved\n"
+
+
+@pytest.mark.parametrize("following", ["", "> BRANCH a k\n< OK BRANCH a k 0\n", f"> BRANCH a k\n< OK BRANCH a k 0\n{TURNED}"])
+def test_a_run_that_is_rewound(tmp_path: pathlib.Path, following: str) -> None:
+    """What was saved is loaded in the new program, and nothing makes it the session as it was."""
+    head = "ljserve record 2\nquota sessions 1 atoms 2 branches 0\n"
+    text = f"{head}{DIMER_LOAD}{SPLICED}{DIMER_LOAD}{following}> ADVANCE a 1\n< OK ADVANCE a 1\nend\n"
+    status, lines = judged(tmp_path / "run.lj", text)
+    assert (status, lines[-2], lines[-1].split("; ")[-1]) == (0, OTHER, "2 trajectories")
 
 
 def test_atoms_in_the_order_of_space(tmp_path: pathlib.Path) -> None:
