@@ -26,6 +26,8 @@ NO_SESSION = 10
 OF_NO_COMMAND = (1, 5)
 # Refusals of the form of a line, which don't tell whether its session is there.
 OF_FORM = (2, 3)
+# Refusals of a load that do not tell that no session has its name.
+OF_ANY_LOAD = (*OF_NO_COMMAND, *OF_FORM, 4, 6, 8, 11)
 QUOTA_NAMES = ("sessions", "atoms", "branches")
 MAX_BODY = 1 << 20
 MAX_COMMAND = 256
@@ -166,6 +168,11 @@ def refusal_of(first: bytes) -> Optional[int]:
     """The number of the refusal that the first line of a reply is, if it is one."""
     words = first.split(b" ")
     return int(words[1]) if words[0] == b"ERR" and words[1:2] and words[1].isdigit() else None
+
+
+def tells_that_it_is_gone(words: Sequence[bytes], refusal: Optional[int]) -> bool:
+    """Whether a refusal of this command tells that the session is not there: a load is refused for its name first."""
+    return refusal == NO_SESSION or (words[0] in LOADS and refusal is not None and refusal not in OF_ANY_LOAD)
 
 
 def session_of(words: Sequence[bytes]) -> str:

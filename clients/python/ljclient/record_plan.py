@@ -118,26 +118,33 @@ class Plan:
                 self.looks.add(self._restored[0][0])
         else:
             self.left_out += 1
-            if entry.refusal == record.NO_SESSION and self._gone is None:
-                self._gone = entry.number, Leaving.LOST
+            self._find_gone(entry)
 
     def _reply(self, entry: Entry) -> None:
-        is_load, is_first = entry.is_granted_of(*record.LOADS), not sum(self.played)
-        if is_load and not is_first:
-            self._load(entry.number)
+        if record.words_of(entry.line)[0] in record.LOADS and any(self.played):
+            self._load(entry)
         elif entry.is_granted_of(b"DROP"):
             self._gone = entry.number, Leaving.DROPPED
         self._save(entry)
-        self._is_renewed = False
+        self._is_renewed = self._is_renewed and entry.refusal in record.OF_FORM
         self.played[-1] += 1
 
-    def _load(self, number: int) -> None:
-        """Takes in that the session is loaded again. A new connection may have found it gone by this load alone."""
-        if self._gone is None and self._is_renewed:
-            self._gone = number, Leaving.LOST
-        if self._gone is not None:
-            line, leaving = self._gone
-            self.leaves[line] = leaving
+    def _find_gone(self, entry: Entry) -> None:
+        """Takes in that a command may find the session gone, as a new connection does by a load alone."""
+        is_known = self._is_renewed or entry.refusal == record.NO_SESSION
+        is_gone = entry.is_granted_of(*record.LOADS) or record.tells_that_it_is_gone(record.words_of(entry.line), entry.refusal)
+        if self._gone is None and is_known and is_gone:
+            self._gone = entry.number, Leaving.LOST
+
+    def _load(self, entry: Entry) -> None:
+        """Takes in that the session is loaded again, or would be but for a refusal, for which it has to be gone too."""
+        self._find_gone(entry)
+        if self._gone is None:
+            return
+        line, leaving = self._gone
+        self.leaves[line] = leaving
+        if entry.is_granted:
+            number = entry.number
             self.arrives[number] = Arrival(number)
             self._gone = None
             if leaving is Leaving.MOVED and self._saved:

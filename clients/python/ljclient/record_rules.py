@@ -95,19 +95,26 @@ class Rules:
 
     def _refused(self, entry: Entry, words: List[bytes]) -> None:
         """Takes in a refusal that is not played."""
+        is_gone = record.tells_that_it_is_gone(words, entry.refusal)
         number = next((each for each in outside_of(words[0]) if entry.first == text_of(each)), 0)
         if number == ENOUGH or (number == BODY and record.count_of(entry.line) is None):
             self.is_stopped = True
         elif number == record.NO_SESSION and (self.is_renewed or self.is_lost):
-            self.is_loaded, self.is_lost, self.is_renewed = False, True, False
+            self._lose()
         elif number not in OF_QUOTA_AND_MEMORY.get(words[0], ()) or not self._gets_as_far(entry.line, words):
             raise Misplaced(f"this is no refusal of a {record.shown(words[0])} that may stand here behind `!`", True)
+        elif self.is_renewed and is_gone:
+            self._lose()
+
+    def _lose(self) -> None:
+        """Takes in that a new connection has found the session gone."""
+        self.is_loaded, self.is_lost, self.is_renewed = False, True, False
 
     def _gets_as_far(self, line: bytes, words: List[bytes]) -> bool:
         """Whether a command may be refused for a quota or for memory, and not before that for something else."""
         is_whole = len(words) == WORDS[words[0]] and len(line) <= record.MAX_COMMAND and record.count_of(line) is not None
         if words[0] in record.LOADS:
-            return is_whole and not self.is_loaded
+            return is_whole and (self.is_renewed or not self.is_loaded)
         return is_whole and self.is_loaded and words[2] not in self.saved and bool(NAME.match(words[2].decode("latin-1")))
 
     def _replied(self, entry: Entry, words: List[bytes], quota: Quota) -> None:
@@ -116,7 +123,9 @@ class Rules:
             raise Misplaced("this refusal should stand behind `!`", True)
         if self.is_begun and not self.is_loaded and words[0] not in record.LOADS:
             raise Misplaced("the session is gone above, and was not loaded again")
-        if entry.refusal not in record.OF_FORM:
+        if self.is_renewed and record.tells_that_it_is_gone(words, entry.refusal):
+            self._lose()
+        elif entry.refusal not in record.OF_FORM:
             self.is_renewed = False
         if entry.is_granted:
             self._granted(words)

@@ -64,6 +64,7 @@ class Record(Listener):
 
     def answered(self, words: Sequence[bytes], answer: Answer) -> None:
         is_load, is_granted = words[0] in record.LOADS, answer.refusal is None
+        is_gone = self._is_renewed and record.tells_that_it_is_gone(words, answer.refusal)
         if self.is_over or not (self.is_loaded or is_load) or not (self.is_begun or is_granted):
             return
         if answer.refusal in record.OF_NO_COMMAND or (answer.refusal == record.NO_SESSION and not self._is_renewed):
@@ -72,7 +73,9 @@ class Record(Listener):
         if not self.is_begun:
             self._begin()
         self._is_renewed = self._is_renewed and answer.refusal in record.OF_FORM
-        if words[0] in FOLLOWED or answer.refusal == record.NO_SESSION:
+        if is_gone:
+            self.is_loaded = False
+        elif words[0] in FOLLOWED:
             self._follow(words, answer, is_granted)
         self._tell(*record.sent_lines(answer.line, answer.body), *record.reply_lines(answer))
         if not self.is_loaded:
@@ -128,7 +131,7 @@ class Record(Listener):
             self._saved.add(words[2])
         elif is_granted and words[0] == b"FORGET":
             self._saved.discard(words[2])
-        elif (is_granted and words[0] == b"DROP") or answer.refusal == record.NO_SESSION:
+        elif is_granted and words[0] == b"DROP":
             self.is_loaded = False
         needed = self._quota.with_these(self._atoms, len(self._saved))
         if needed != self._quota:

@@ -170,7 +170,36 @@ def test_steps_that_are_lost(parts: Tuple[str, str], tmp_path: pathlib.Path, put
     assert judged(tmp_path / "run.lj", f"{above}{put_in}moved\n{moved}end\n")[1][-2] == OTHER
 
 
+SHORT = "> LOAD a 256 1 131072 rest 8\n: 2\n: dimer\n< ERR 31 XYZ_SHORT line 3\n"
+MEASURED = "> MEASURE a\n! ERR 10 NO_SESSION\n"
 DIMER_LOAD = DIMER_TEXT[DIMER_TEXT.index("> LOAD") : DIMER_TEXT.index("> ADVANCE")]
+NO_ROOM = f"{DIMER_LOAD.rpartition('< ')[0]}! ERR 21 QUOTA_ATOMS\n"
+
+
+@pytest.mark.parametrize(
+    ("put_in", "left_out", "trajectories"),
+    [
+        (f"> SHOW a x\n< ERR 03 SYNTAX\n{DIMER_LOAD}", 0, "2 trajectories"),
+        (f"> SHOW a x\n< ERR 03 SYNTAX\n{SHORT}{DIMER_LOAD}", 0, "2 trajectories"),
+        (f"{SHORT}{DIMER_LOAD}", 0, "2 trajectories"),
+        (f"{SHORT}{SHORT}", 0, "1 trajectory"),
+        (f"{NO_ROOM}{SHORT}{DIMER_LOAD}", 1, "2 trajectories"),
+        (f"{NO_ROOM}{DIMER_LOAD}", 1, "2 trajectories"),
+        (NO_ROOM, 1, "1 trajectory"),
+        (f"{SHORT}{NO_ROOM}{MEASURED}{DIMER_LOAD}", 2, "2 trajectories"),
+        (f"{MEASURED}{SHORT}", 1, "1 trajectory"),
+        (f"{DIMER_LOAD.rpartition('< ')[0]}< ERR 11 EXISTS\n", 0, "1 trajectory"),
+    ],
+)
+def test_a_server_that_was_begun_anew(tmp_path: pathlib.Path, put_in: str, left_out: int, trajectories: str) -> None:
+    """Its refusal of a load tells so too, if a load is refused for its name before that."""
+    status, lines = judged(tmp_path / "run.lj", DIMER_TEXT.replace("end\n", f"connection\n{put_in}end\n"))
+    told = f"{left_out} command{'s were' if left_out != 1 else ' was'} not played; {trajectories}; 1 new connection"
+    assert (status, told in lines[-1]) == (0, True), lines
+    if put_in[:6] == SHORT[:6] and "EXISTS" not in put_in:
+        assert judged(tmp_path / "run.lj", DIMER_TEXT.replace("end\n", f"{put_in}end\n"))[0] in (1, 2)
+
+
 TURNED = "> REVERSE a\n< OK REVERSE a -1\n> REVERSE a\n< OK REVERSE a 0\n"
 SPLICED = "quota sessions 1 atoms 2 branches 1\n> BRANCH a k\n< OK BRANCH a k 0\n> ADVANCE a 100000\n< OK ADVANCE a 100000\nmoved\n"
 

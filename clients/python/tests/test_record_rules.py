@@ -6,7 +6,9 @@ from typing import Any, Dict, Set
 import pytest
 
 from ljclient import Damaged, Refused, record
+from ljclient.record import Answer
 from ljclient.record_file import RecordFile
+from ljclient.recording import Record
 from ljclient.record_rules import OF_QUOTA_AND_MEMORY, outside_of
 from record_texts import DIMER_TEXT, with_checks
 from support import TOP
@@ -150,3 +152,22 @@ def test_a_session_that_is_gone(tmp_path: pathlib.Path, put_in: str, why: str) -
     path = tmp_path / "run.lj"
     path.write_text(with_checks(text))
     assert len(list(RecordFile(path).entries())) > DIMER_TEXT.count("\n> ") + 1
+
+
+def test_what_tells_a_record_that_its_session_is_gone(tmp_path: pathlib.Path) -> None:
+    """A new connection's load that is refused for its body, but none that is refused for its name, nor without a new connection."""
+    line, granted = b"LOAD a 256 1 131072 rest 2", Answer(b"LOAD a 256 1 131072 rest 2", b"2\n", b"OK LOAD a 0 2")
+    for is_renewed, first, is_over in (
+        (True, b"ERR 31 XYZ_SHORT line 2", True),
+        (True, b"ERR 11 EXISTS", False),
+        (False, b"ERR 90 MEMORY", False),
+    ):
+        one = Record(tmp_path / "run.lj", [])
+        one.answered(line.split(), granted)
+        if is_renewed:
+            one.told(record.Mark.CONNECTION)
+        one.answered(line.split(), Answer(line, b"2\n", first))
+        assert one.is_over == is_over
+        one.close()
+        one.flush()
+    (tmp_path / "run.lj").unlink()
