@@ -31,6 +31,7 @@ OF_ANY_LOAD = (*OF_NO_COMMAND, *OF_FORM, 4, 6, 8, 11)
 QUOTA_NAMES = ("sessions", "atoms", "branches")
 MAX_BODY = 1 << 20
 MAX_COMMAND = 256
+NUMBER = re.compile(rb"[0-9]{1,2}\Z")
 COUNT = re.compile(rb"[0-9]{1,7}\Z")
 
 
@@ -167,7 +168,7 @@ def words_of(line: bytes) -> List[bytes]:
 def refusal_of(first: bytes) -> Optional[int]:
     """The number of the refusal that the first line of a reply is, if it is one."""
     words = first.split(b" ")
-    return int(words[1]) if words[0] == b"ERR" and words[1:2] and words[1].isdigit() else None
+    return int(words[1]) if words[0] == b"ERR" and words[1:2] and NUMBER.match(words[1]) else None
 
 
 def tells_that_it_is_gone(words: Sequence[bytes], refusal: Optional[int]) -> bool:

@@ -3,12 +3,13 @@ from __future__ import annotations
 
 import os
 import re
+import stat
 from dataclasses import dataclass, field
 from typing import BinaryIO, Dict, Iterator, List, Optional, Sequence, Tuple
 
 from . import record
 from .errors import Damaged
-from .files import Path
+from .files import KINDS, Path
 from .names import NAME
 from .record import Chain, Entry, Mark, Quota
 from .record_rules import Misplaced, Rules
@@ -62,6 +63,7 @@ class RecordFile:
     def entries(self) -> Iterator[Entry]:
         """The entries in order, once. Raises `Damaged`, with the line, where one cannot stand as it was written."""
         rules = Rules()
+        check_regular(self.path)
         with open(self.path, "rb") as file:
             rows = self._rows(file)
             for mark, rest in rows:
@@ -98,6 +100,8 @@ class RecordFile:
             self._chain = Chain(line)
             self._may_stand = ABOVE if line == record.HEAD else ABOVE[:2]
             return
+        if head.endswith(b"\r\n") and line[:-1] in record.HEADS:
+            raise self._damaged("its line ends were changed: each line of a record ends with LF alone, and here with CR LF")
         if head.startswith(record.FORMAT) and head.endswith(b"\n"):
             told = record.shown(line)[:40]
             raise self._damaged(f"it says `{told}`, and this client reads `{record.HEAD.decode()}` and older: take a newer client")
@@ -206,6 +210,14 @@ class RecordFile:
 
     def _damaged(self, why: str) -> Damaged:
         return Damaged(os.fspath(self.path), self._at, why)
+
+
+def check_regular(path: Path) -> None:
+    """Raises ValueError unless this is a regular file, which can be read twice, or none that can be opened."""
+    kind = stat.S_IFMT(os.stat(path).st_mode)
+    if kind not in (stat.S_IFREG, stat.S_IFDIR):
+        what = KINDS.get(kind, "no regular file")
+        raise ValueError(f"{os.fspath(path)} is {what}, and a record is read twice: save it to a file first")
 
 
 def sum_of_continued(path: Optional[Path], following: Optional[Path]) -> str:

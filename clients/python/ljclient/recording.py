@@ -63,7 +63,7 @@ class Record(Listener):
         return self._file.target == os.path.realpath(path)
 
     def answered(self, words: Sequence[bytes], answer: Answer) -> None:
-        is_load, is_granted = words[0] in record.LOADS, answer.refusal is None
+        is_load, is_granted = words[0] in record.LOADS, answer.first.startswith(b"OK ")
         is_gone = self._is_renewed and record.tells_that_it_is_gone(words, answer.refusal)
         if self.is_over or not (self.is_loaded or is_load) or not (self.is_begun or is_granted):
             return

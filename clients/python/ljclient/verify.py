@@ -10,7 +10,7 @@ from typing import List
 from .errors import ClientError, Damaged
 from .locate import find_program, version_of
 from .prompt.starting import Parser, add_tls, check_tls, is_address, word_of_waiting
-from .record import HEADS
+from .record import HEADS, shown
 from .record_file import RecordFile
 from .record_joints import Joints
 from .record_plan import Plan, plan_of
@@ -37,12 +37,28 @@ Status 0: each reply is the same. 1: one differs. 2: it could not be played, or 
 """
 
 
+def told(text: str) -> str:
+    """A text as one line that a terminal shows and does not obey: names of files and versions may have any bytes."""
+    return shown(text.encode("utf-8", "surrogateescape"))
+
+
 def say(text: str) -> None:
-    print(text, flush=True)
+    """Tells a line. Raises Trouble if it cannot be written, but BrokenPipeError if nobody reads it."""
+    try:
+        print(told(text), flush=True)
+    except BrokenPipeError:
+        raise
+    except OSError as error:
+        raise Trouble(f"cannot write what is told: {error.strerror or error}") from error
 
 
 def complain(text: str) -> None:
-    print(f"ljclient: {text}", file=sys.stderr, flush=True)
+    print(f"ljclient: {told(text)}", file=sys.stderr, flush=True)
+
+
+def let_go() -> None:
+    """Has nothing more be written to standard output, which takes nothing."""
+    os.dup2(os.open(os.devnull, os.O_WRONLY), sys.stdout.fileno())
 
 
 def options_of(words: List[str]) -> argparse.Namespace:
@@ -66,6 +82,8 @@ def options_of(words: List[str]) -> argparse.Namespace:
         parser.error("--server HOST:PORT NAME: the first word is no HOST:PORT")
     if options.timeout is not None and not 0 < options.timeout < float("inf"):
         parser.error("SECONDS is a number above 0")
+    if options.program == "":
+        parser.error("--program PROGRAM is empty")
     if options.sha256 is not None and not SUM.match(options.sha256):
         parser.error("--sha256 HEX is 64 hexadecimal digits")
     check_tls(parser, options)
@@ -133,25 +151,25 @@ def compared(player: Player) -> str:
 
 def trajectories_of(joints: Joints) -> str:
     """How many trajectories a record has, or has at most."""
-    told = counted(joints.trajectories, "trajectory", "trajectories")
+    number = counted(joints.trajectories, "trajectory", "trajectories")
     if not joints.uncompared:
-        return told
+        return number
     loads = counted(joints.uncompared, "load was", "loads were")
-    return f"at most {told}, since {loads} not compared with the session before"
+    return f"at most {number}, since {loads} not compared with the session before"
 
 
 def verdict(plan: Plan, player: Player, joints: Joints) -> str:
     """What is told at the end."""
-    told = [compared(player), counted(plan.left_out, "command was not played", "commands were not played"), trajectories_of(joints)]
+    parts = [compared(player), counted(plan.left_out, "command was not played", "commands were not played"), trajectories_of(joints)]
     if plan.connections:
-        told.append(counted(plan.connections, "new connection", "new connections"))
+        parts.append(counted(plan.connections, "new connection", "new connections"))
     if plan.file.continues:
-        told.append(f"the file says that it continues {plan.file.continues}")
+        parts.append(f"the file says that it continues {plan.file.continues}")
     if plan.file.format != FORMATS:
-        told.append(f"its format is {plan.file.format}")
+        parts.append(f"its format is {plan.file.format}")
     if not plan.file.is_ended:
-        told.append("it has no end")
-    return f"{player.path}: {'; '.join(told)}; SHA-256 {plan.file.sum}"
+        parts.append("it has no end")
+    return f"{player.path}: {'; '.join(parts)}; SHA-256 {plan.file.sum}"
 
 
 def heading(options: argparse.Namespace, file: RecordFile) -> str:
@@ -168,8 +186,8 @@ def verify(options: argparse.Namespace) -> int:
     is_ended = is_whole(plan.file)
     tell: Tell = (lambda text: None) if options.quiet else say
     player = Player(os.fspath(options.file), tell, say, complain)
-    if not options.server:
-        options.program = options.program or find_program()
+    if not options.server and options.program is None:
+        options.program = find_program()
     tell(heading(options, plan.file))
     stage = Stage(opener_of(options), bool(options.server), plan, player)
     try:
@@ -188,11 +206,13 @@ def main(words: List[str]) -> int:
     try:
         return verify(options)
     except BrokenPipeError:
-        os.dup2(os.open(os.devnull, os.O_WRONLY), sys.stdout.fileno())
+        let_go()
     except OSError as error:
         complain(f"cannot read {options.file}: {error.strerror or error}" if not isinstance(error, ClientError) else str(error))
     except (ClientError, Damaged, Trouble, ValueError) as error:
         complain(str(error))
+        if isinstance(error.__cause__, OSError) and isinstance(error, Trouble):
+            let_go()
     except KeyboardInterrupt:
         complain("interrupted")
     return TROUBLE

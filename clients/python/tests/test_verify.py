@@ -1,18 +1,22 @@
 """`python3 -m ljclient verify`: a record is played again, and each reply is told to be the same or not."""
 import contextlib
 import hashlib
+import os
 import pathlib
 import random
 import re
+import subprocess
+import sys
 from unittest import mock
 from typing import Any, Callable, List, Tuple
 
 import pytest
 
 from ljclient import Damaged, Refused, record_playing, run, verify
-from ljclient.record_file import RecordFile
+from ljclient.record_file import RecordFile, sum_of_continued
 from record_texts import COMMANDS, DIMER_TEXT, sums, twisted, verified, with_checks
 from support import DIMER, PROGRAM, TOKEN, TOP, Server, dimer, joined
+from terminals import environment
 
 LINES = DIMER_TEXT.splitlines()
 # The lines at which a command begins, and those at which its reply ends.
@@ -306,6 +310,73 @@ def test_what_a_terminal_would_obey_is_escaped(path: Any) -> None:
 
 
 @pytest.mark.parametrize(
+    ("name", "shown"),
+    [
+        ("\x1b[2J.lj", "\\x1b[2J.lj"),
+        ("a.lj\nb.lj: all 9 replies are the same", "a.lj\\x0ab.lj: all 9 replies are the same"),
+        ("\udc80.lj", "\\x80.lj"),
+        ("\u00e9.lj", "\\xc3\\xa9.lj"),
+    ],
+)
+def test_names_of_files_that_a_terminal_would_obey(path: Any, name: str, shown: str) -> None:
+    """Neither can a name be taken for a line of its own."""
+    other = path.rename(path.with_name(name))
+    where = f"{path.parent}/{shown}"
+    status, told, faults = verified("--quiet", other)
+    assert (status, faults, len(told)) == (0, [], 2)
+    assert told[-1].startswith(f"{where}: all {len(COMMANDS)} replies are the same; ")
+    other.write_text(with_checks(DIMER_TEXT) + "x")
+    assert verified(other) == (2, [], [f"ljclient: {where}, line {len(LINES) + 1}: the record goes on below its end"])
+    other.write_text(with_checks(DIMER_TEXT.removesuffix("end\n")))
+    assert verified("--quiet", other)[2][0].startswith(f"ljclient: {where} has no `end`")
+    assert verified(f"{other}.none") == (2, [], [f"ljclient: cannot read {where}.none: No such file or directory"])
+
+
+def test_a_version_that_a_terminal_would_obey(path: Any, tmp_path: pathlib.Path) -> None:
+    program = pathlib.Path(twisted(tmp_path, "none", "none"))
+    program.write_text(program.read_text().replace("ljserve 9.9.9", "\\x1b[2J"))
+    assert verified(path, "--program", program)[1][0].endswith("; played over \\x1b[2J")
+
+
+@pytest.mark.parametrize("options", [(), ("--partial",)])
+def test_files_that_cannot_be_read_twice(path: Any, options: Any) -> None:
+    """A FIFO is not waited for, and neither does a record continue one."""
+    fifo = path.with_name("fifo")
+    os.mkfifo(fifo)
+    why = "and a record is read twice: save it to a file first"
+    assert verified(fifo, *options) == (2, [], [f"ljclient: {fifo} is a FIFO, {why}"])
+    assert verified("/dev/null", *options) == (2, [], [f"ljclient: /dev/null is a device, {why}"])
+    with pytest.raises(ValueError, match=why):
+        sum_of_continued(fifo, path)
+    command = [sys.executable, "-m", "ljclient", "verify", "/dev/stdin", *options]
+    done = subprocess.run(command, input=path.read_bytes(), capture_output=True, env=environment(), timeout=60)
+    assert (done.returncode, done.stdout, done.stderr) == (2, b"", f"ljclient: /dev/stdin is a FIFO, {why}\n".encode())
+    with open(path, "rb") as file:
+        assert subprocess.run(command, stdin=file, capture_output=True, env=environment(), timeout=60).returncode == 0
+
+
+def test_a_full_disk(path: Any) -> None:
+    with open("/dev/full", "wb") as full:
+        done = subprocess.run(
+            [sys.executable, "-m", "ljclient", "verify", path], stdout=full, stderr=subprocess.PIPE, env=environment(), timeout=60
+        )
+    assert (done.returncode, done.stderr) == (2, b"ljclient: cannot write what is told: No space left on device\n")
+
+
+def test_a_copy_with_other_line_ends(path: Any) -> None:
+    path.write_bytes(path.read_bytes().replace(b"\n", b"\r\n"))
+    why = "its line ends were changed: each line of a record ends with LF alone, and here with CR LF"
+    assert verified(path) == (2, [], [f"ljclient: {path}, line 1: {why}"])
+
+
+@pytest.mark.parametrize("digits", [3, 5000])
+def test_a_number_of_a_refusal_that_is_none(path: Any, digits: int) -> None:
+    edited(path, DIMER_TEXT.replace("< ERR 12 NO_BRANCH", f"< ERR {digits * '9'} NO_BRANCH"))
+    status, told, (fault,) = verified("--quiet", path)
+    assert (status, fault.endswith("9 NO_BRANCH`, and `ERR 12 NO_BRANCH` here")) == (1, True)
+
+
+@pytest.mark.parametrize(
     ("words", "told"),
     [
         ([], "the following arguments are required: FILE"),
@@ -313,6 +384,7 @@ def test_what_a_terminal_would_obey_is_escaped(path: Any) -> None:
         (["a", "--no"], "there is no option --no"),
         (["a", "--server", "here", "ann"], "--server HOST:PORT NAME: the first word is no HOST:PORT"),
         (["a", "--server", "127.0.0.1:4000", "ann", "--program", "x"], "not allowed with argument --server"),
+        (["a", "--program", ""], "--program PROGRAM is empty"),
         (["a", "--timeout", "0"], "SECONDS is a number above 0"),
         (["a", "--sha256", "0123"], "--sha256 HEX is 64 hexadecimal digits"),
     ],
