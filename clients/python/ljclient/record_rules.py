@@ -22,7 +22,7 @@ OF_QUOTA_AND_MEMORY: Dict[bytes, FrozenSet[int]] = {
 # The commands that are refused where no session has the name.
 OF_A_LOADED_SESSION = record.OF_A_SESSION - frozenset(record.LOADS)
 # How many words a command has that gets as far as its quota.
-WORDS = {b"LOAD": 7, b"LOADMIX": 17, b"BRANCH": 3}
+WORDS = {b"LOAD": 7, b"LOADMIX": 16, b"BRANCH": 3}
 BODY, ENOUGH = refusals.Body.number, refusals.Enough.number
 
 

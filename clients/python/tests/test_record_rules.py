@@ -120,6 +120,7 @@ def test_what_follows_the_end_of_a_connection(tmp_path: pathlib.Path, ending: st
 
 GONE = "> SHOW a 0\n! ERR 10 NO_SESSION\n"
 BACK = f"{LOAD}< OK LOAD a 0 2\n> ADVANCE a 1\n< OK ADVANCE a 1\n"
+MIXED = "> LOADMIX a 256 Na Cl 1 131072 256 1 262144 512 1 131072 256 rest 24\n: 2\n: mix\n: Na 0 0 0\n: Cl 1 0 0\n"
 MISSING = "the session is gone above, and was not loaded again"
 
 
@@ -130,6 +131,7 @@ MISSING = "the session is gone above, and was not loaded again"
         (f"connection\n> LIST a b\n< ERR 03 SYNTAX\n{GONE}{GONE}{BACK}", ""),
         (f"connection\n{GONE}connection\n{GONE}{LOAD}! ERR 21 QUOTA_ATOMS\n{GONE}{BACK}", ""),
         (f"> DROP a\n< OK DROP a\n{LOAD}! ERR 90 MEMORY\n{BACK}", ""),
+        (f"> DROP a\n< OK DROP a\n{MIXED}! ERR 21 QUOTA_ATOMS\n{BACK}", ""),
         (f"> DROP a\n< OK DROP a\n? LOAD a 256 1 131072 rest 28\nconnection\n{BACK}", ""),
         (GONE, "this is no refusal of a SHOW that may stand here behind `!`"),
         (f"connection\n> LIST a\n< OK LIST a 0\n{GONE}", "this is no refusal of a SHOW that may stand here behind `!`"),
