@@ -6,6 +6,7 @@ has just before and just after is compared in ring units, in whatever order its 
 from __future__ import annotations
 
 import contextlib
+import re
 from dataclasses import dataclass, field
 from fractions import Fraction
 from typing import TYPE_CHECKING, Dict, List, Optional, Sequence, Tuple
@@ -13,6 +14,8 @@ from typing import TYPE_CHECKING, Dict, List, Optional, Sequence, Tuple
 from . import record
 from .errors import Refused
 from .order import Place
+from .record import Entry
+from .record_rules import WORDS
 from .units import RING
 from .wire import Reply
 
@@ -23,6 +26,11 @@ if TYPE_CHECKING:
 RING_EDGE = RING * 1000
 BILLION = 10**9
 FULL_WEIGHT = 256
+# The least edge of a box in 10^-9 of the file's unit, and the most atoms.
+LEAST_EDGE = 10**6
+MOST_ATOMS = 4096
+DECIMAL = re.compile(rb"[+-]?(?:[0-9]+\.?[0-9]*|\.[0-9]+)(?:[eEdD][+-]?[0-9]{1,3})?\Z")
+WHOLE = re.compile(rb"[0-9]{1,19}\Z")
 # The name of what the session is like itself, beside the names under which it was saved.
 NOW = b""
 
@@ -57,21 +65,34 @@ class Side:
 
 
 def nano_of(word: bytes) -> int:
-    """The billionths that a decimal number of the protocol says, halves away from zero."""
+    """The billionths that a decimal number of the protocol says, halves away from zero. ValueError if it is none."""
+    if not DECIMAL.match(word) or len(word) > 40:
+        raise ValueError("this is no decimal number of the protocol")
     number = Fraction(word.decode("ascii").lower().replace("d", "e"))
     size = int(abs(number) * BILLION + Fraction(1, 2))
     return -size if number < 0 else size
 
 
-def loaded_by(line: bytes, first: bytes) -> Loaded:
-    """What a LOAD or LOADMIX has loaded that was granted."""
-    verb, _, edge_word, *words = record.words_of(line)
+def whole_of(word: bytes) -> int:
+    """A whole number of the protocol. ValueError if it is none."""
+    if not WHOLE.match(word):
+        raise ValueError("this is no whole number of the protocol")
+    return int(word)
+
+
+def loaded_by(entry: Entry) -> Loaded:
+    """What a LOAD or LOADMIX has loaded that was granted. ValueError if the protocol grants no such load."""
+    verb, _, edge_word, *words = all_words = record.words_of(entry.line)
+    if len(all_words) != WORDS[verb] or not 1 <= entry.atoms <= MOST_ATOMS:
+        raise ValueError("a load of the protocol has other words")
     species = tuple(words[:2]) if verb == b"LOADMIX" else ()
     numbers = words[2:-2] if species else [*words[:-2], b"%d" % FULL_WEIGHT]
     edge = nano_of(edge_word)
+    if edge < LEAST_EDGE:
+        raise ValueError("the edge is too small")
     triples = zip(numbers[::3], numbers[1::3], numbers[2::3])
-    classes = tuple((nano_of(sigma) * RING // edge, int(h), int(weight)) for sigma, h, weight in triples)
-    return Loaded(species, classes, int(first.split(b" ")[-1]), edge == RING_EDGE)
+    classes = tuple((nano_of(sigma) * RING // edge, whole_of(h), whole_of(weight)) for sigma, h, weight in triples)
+    return Loaded(species, classes, entry.atoms, edge == RING_EDGE)
 
 
 def side_of(user: "User", name: str, loaded: Loaded) -> Side:

@@ -67,8 +67,7 @@ class Player(Listener):
             self.count += 1
             self._tell(f"same {'-' if self.differing else entry.sum} line {entry.number}: {shown(entry.line)}")
             if entry.is_granted_of(*record.LOADS):
-                self.loaded = loaded_by(entry.line, entry.first)
-                self.note(f"loaded - line {entry.number}: {told_of(entry)}")
+                self._load(entry)
         elif answer.is_from_outside:
             self.trouble = f"line {entry.number}: `{shown(entry.line)}` is answered `{shown(answer.first)}` here"
         else:
@@ -77,6 +76,15 @@ class Player(Listener):
 
     def unanswered(self, line: bytes) -> None:
         self.trouble = self.trouble or f"`{shown(line)}` was not answered here"
+
+    def _load(self, entry: Entry) -> None:
+        """Takes in what was loaded, and tells of it."""
+        try:
+            self.loaded = loaded_by(entry)
+        except ValueError:
+            self.trouble = f"line {entry.number}: `{shown(entry.line)}` is granted here, which is no load of the protocol"
+            return
+        self.note(f"loaded - line {entry.number}: {told_of(entry)}")
 
     def _differs(self, entry: Entry, answer: Answer) -> None:
         self._tell(f"differs - line {entry.number}: {shown(entry.line)}")

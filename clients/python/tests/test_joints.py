@@ -240,3 +240,9 @@ def test_atoms_in_the_order_of_space(tmp_path: pathlib.Path) -> None:
 def test_decimal_numbers(word: str, nanos: int) -> None:
     """They are rounded to 10^-9, halves away from zero."""
     assert record_joints.nano_of(word.encode()) == nanos
+
+
+@pytest.mark.parametrize("word", ["", ".", "1e", "1.2.3", "NaN", "0x1", "1/0", "1_0", "1e1000", 41 * "1", "1e99999999"])
+def test_words_that_are_no_decimal_numbers(word: str) -> None:
+    with pytest.raises(ValueError):
+        record_joints.nano_of(word.encode())

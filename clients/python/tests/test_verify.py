@@ -147,6 +147,26 @@ def test_commands_that_were_edited_with_their_checks(path: Any) -> None:
     assert told[-1].startswith(f"{path}: 2 of {len(COMMANDS)} replies differ, the first at line 12; {PLAIN}; SHA-256 ")
 
 
+@pytest.mark.parametrize(
+    ("line", "refusal"),
+    [
+        ("LOAD a 0 1 131072 rest 28", "ERR 36 EDGE"),
+        ("LOAD a 1/0 1 131072 rest 28", "ERR 36 EDGE"),
+        ("LOAD a 1e99999999 1 131072 rest 28", "ERR 36 EDGE"),
+        ("LOAD a 256 nan 131072 rest 28", "ERR 37 SIGMA"),
+        ("LOAD a 256 1 1_3 rest 28", "ERR 38 STEP_FACTOR"),
+        ("LOAD a 256 1 131072 131072 rest 28", "ERR 03 SYNTAX"),
+        ("LOAD a 28", "ERR 03 SYNTAX"),
+    ],
+)
+def test_a_program_that_grants_what_is_no_load(path: Any, tmp_path: pathlib.Path, line: str, refusal: str) -> None:
+    """It is found out where the record grants it too."""
+    edited(path, DIMER_TEXT.replace(COMMANDS[0], line))
+    status, told, (fault,) = verified("--quiet", path, "--program", twisted(tmp_path, refusal, "OK LOAD a 0 2"))
+    assert (status, told) == (2, [])
+    assert fault.startswith(f"ljclient: {path}, line 4: `{line}` is granted here, which is no load of the protocol; ")
+
+
 @pytest.mark.parametrize("number", range(1, len(LINES) + 1))
 def test_a_line_with_another_byte(path: Any, number: Any) -> None:
     rows = path.read_bytes().split(b"\n")
