@@ -148,7 +148,7 @@ FIRST_TURN = r"(> REVERSE a\n)"
         (less(TURN), UNCOMPARED),
         (lambda moved: moved[: moved.index("> BRANCH")], UNCOMPARED),
         (lambda moved: moved[: moved.index("> BRANCH")] + "> ADVANCE a 1\n< OK ADVANCE a 1\n", OTHER),
-        (lambda moved: re.sub(r"(BRANCH a )([km])", lambda found: f"{found[1]}{'km'[found[2] == 'k']}", moved), OTHER),
+        (lambda moved: re.sub(r"(BRANCH a )([km])", lambda found: str(found[1]) + "km"[found[2] == "k"], moved), OTHER),
         (lambda moved: re.sub(r"(BRANCH a )m", r"\1z", moved), OTHER),
         (lambda moved: moved.replace("Ar 1774e-6", "Ar 1775e-6", 1), OTHER),
     ],
