@@ -34,7 +34,7 @@ MOST_BY_HAND = {
     "docs/FILES.md": 1024,
     "docs/SPEED.md": 4000,
 }
-MOST_OF_ALL = 171_000
+MOST_OF_ALL = 172_000
 
 
 def by_hand(path: Path) -> int:
