@@ -528,13 +528,13 @@ class Session:
     def _step_and_turn(self) -> None:
         """Goes on by a step and turns the motion back, which leaves the places as they are: both or, at a server, none."""
         lines = [f"ADVANCE {self.name} 1", f"REVERSE {self.name}"]
+        direction = self._user.known(self.name).direction
         try:
             with turning(self._user, self.name, len(lines)) as end:
                 self._user.ask_all([*lines, *end])
         except NO_PLACE:
             self._user.ask_all(lines)
-        if (direction := self._user.known(self.name).direction) is not None:
-            self._user.known(self.name).direction = -direction
+        self._user.known(self.name).direction = None if direction is None else -direction
 
     def _row(self) -> "Row":
         return self._user.row(self.name)

@@ -232,3 +232,12 @@ def test_a_folder_of_notes_that_cannot_be_made_is_said(tmp_path: pathlib.Path, m
             with pytest.raises(ClientError, match="the quota has no place beside a, and it cannot be saved .*: drop it first"):
                 user.load("a", OTHERS, replace=True, watch=False, **SCALE)
             assert listed(session.places()) == before
+
+
+def test_a_driver_that_turns_back_without_a_place_for_a_branch_knows_its_direction(full: Where) -> None:
+    with joined(full) as user:
+        for row in user.sessions():
+            user.ask(f"DROP {row.name}")
+        session = user.load("a", ROWS, watch=False, **SCALE)
+        session._step_and_turn()
+        assert (user.known("a").direction, seen_while(user)) == (-1, -1)
