@@ -95,17 +95,21 @@ def _atom(words: Sequence[bytes], edge: int) -> Tuple[str, Place]:
 
 
 def _place(word: bytes, edge: int) -> int:
+    return nano_of(word) * RING // edge % RING
+
+
+def nano_of(word: bytes) -> int:
+    """The number of 10^-9 that a decimal word of the protocol says, halves away from zero. ValueError if it is none, or out of range."""
     found = NUMBER.match(word)
     if found is None or len(word) > MAX_WORD:
-        raise ValueError("no decimal word")
+        raise ValueError("this is no decimal number of the protocol")
     sign, whole, fraction, power = found.groups()
     shift = 9 - len(fraction) + int(power or 0)
     digits = int(whole + fraction)
-    # In 10^-9, halves away from zero.
     number = digits * _power(shift) if shift >= 0 else (2 * digits + _power(-shift)) // (2 * _power(-shift))
     if number > MAX_NANO:
-        raise ValueError("beyond a million")
-    return (-number if sign == b"-" else number) * RING // edge % RING
+        raise ValueError("this is beyond a million")
+    return -number if sign == b"-" else number
 
 
 def _power(exponent: int) -> int:

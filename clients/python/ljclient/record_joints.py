@@ -8,11 +8,11 @@ from __future__ import annotations
 import contextlib
 import re
 from dataclasses import dataclass, field
-from fractions import Fraction
 from typing import TYPE_CHECKING, Dict, List, Optional, Sequence, Tuple
 
 from . import record
 from .errors import Refused
+from .exact import nano_of
 from .order import Place
 from .record import Entry
 from .record_rules import WORDS
@@ -24,12 +24,10 @@ if TYPE_CHECKING:
 
 # The edge of the box in which DUMP tells each ring unit, in 10^-9 of the file's unit.
 RING_EDGE = RING * 1000
-BILLION = 10**9
 FULL_WEIGHT = 256
 # The least edge of a box in 10^-9 of the file's unit, and the most atoms.
 LEAST_EDGE = 10**6
 MOST_ATOMS = 4096
-DECIMAL = re.compile(rb"[+-]?(?:[0-9]+\.?[0-9]*|\.[0-9]+)(?:[eEdD][+-]?[0-9]{1,3})?\Z")
 WHOLE = re.compile(rb"[0-9]{1,19}\Z")
 # The name of what the session is like itself, beside the names under which it was saved.
 NOW = b""
@@ -62,15 +60,6 @@ class Side:
 
     loaded: Loaded
     atoms: Sequence[Tuple[str, Place, Place]]
-
-
-def nano_of(word: bytes) -> int:
-    """The billionths that a decimal number of the protocol says, halves away from zero. ValueError if it is none."""
-    if not DECIMAL.match(word) or len(word) > 40:
-        raise ValueError("this is no decimal number of the protocol")
-    number = Fraction(word.decode("ascii").lower().replace("d", "e"))
-    size = int(abs(number) * BILLION + Fraction(1, 2))
-    return -size if number < 0 else size
 
 
 def whole_of(word: bytes) -> int:

@@ -6,7 +6,7 @@ from unittest import mock
 
 import pytest
 
-from ljclient import record_joints, record_playing, run, user as users
+from ljclient import exact, record_playing, run, user as users
 from record_texts import DIMER_TEXT, verified, with_checks, without_checks
 from support import ARGON, EXAMPLES, PROGRAM, TOKEN, Server, dimer
 from true_records import judged, text_of
@@ -239,10 +239,10 @@ def test_atoms_in_the_order_of_space(tmp_path: pathlib.Path) -> None:
 )
 def test_decimal_numbers(word: str, nanos: int) -> None:
     """They are rounded to 10^-9, halves away from zero."""
-    assert record_joints.nano_of(word.encode()) == nanos
+    assert exact.nano_of(word.encode()) == nanos
 
 
 @pytest.mark.parametrize("word", ["", ".", "1e", "1.2.3", "NaN", "0x1", "1/0", "1_0", "1e1000", 41 * "1", "1e99999999"])
 def test_words_that_are_no_decimal_numbers(word: str) -> None:
     with pytest.raises(ValueError):
-        record_joints.nano_of(word.encode())
+        exact.nano_of(word.encode())
