@@ -159,14 +159,14 @@ def played_record(block: Any, folder: Any) -> None:
     folder.python(script)
     *_, verdict = folder.shell(block.text).splitlines()
     said = present(re.search(r"`(all \d+ replies are the same; [^`]*)`", text))[1]
-    (command,) = re.findall(r"`(sed .*? sha256sum)`", text)
-    assert verdict == f"argon.lj: {said}; SHA-256 {folder.shell(command).split()[0]}"
+    record, commands = (folder.shell(each).split()[0] for each in re.findall(r"`(sed .*? sha256sum)`", text))
+    assert verdict == f"argon.lj: {said}; its commands have the SHA-256 {commands}; SHA-256 {record}"
 
 
 def file_of_a_record(block: Any, folder: Any) -> None:
     folder.put("run.lj", block.text)
     told = folder.shell("python3 -m ljclient verify --quiet run.lj")
-    assert ": all 4 replies are the same; 0 commands were not played; 1 trajectory; SHA-256 " in told
+    assert ": all 4 replies are the same; 0 commands were not played; 1 trajectory; its commands have the SHA-256 " in told
 
 
 def own_file(block: Any, folder: Any) -> None:

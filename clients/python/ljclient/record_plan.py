@@ -2,6 +2,7 @@
 from __future__ import annotations
 
 import enum
+import hashlib
 from dataclasses import dataclass, field
 from typing import Dict, List, Optional, Set, Tuple
 
@@ -94,11 +95,17 @@ class Plan:
     arrives: Dict[int, Arrival] = field(default_factory=dict)
     unlike: Set[int] = field(default_factory=set)
     unended: Set[int] = field(default_factory=set)
+    _commands: "hashlib._Hash" = field(default_factory=hashlib.sha256)
     _saved: List[bytes] = field(default_factory=list)
     _restored: List[Tuple[int, bytes]] = field(default_factory=list)
     _return: Optional[Return] = None
     _gone: Optional[Tuple[int, Leaving]] = None
     _is_renewed: bool = False
+
+    @property
+    def commands(self) -> str:
+        """The SHA-256 of the commands that are played, and of their bodies: of what stands behind `>` and `:`, each with LF."""
+        return self._commands.hexdigest()
 
     def take(self, entry: Entry) -> None:
         """Takes the next entry in."""
@@ -128,6 +135,8 @@ class Plan:
         self._save(entry)
         self._is_renewed = self._is_renewed and entry.refusal in record.OF_FORM
         self.played[-1] += 1
+        for row in record.sent_lines(entry.line, entry.body):
+            self._commands.update(row[2:] + b"\n")
 
     def _find_gone(self, entry: Entry) -> None:
         """Takes in that a command may find the session gone, as a new connection does by a load alone."""

@@ -29,8 +29,9 @@ each command, with the SHA-256 of the record up to its reply. They are played ov
 record says, or over a server, where NAME must have room for it and no session of that name. The session is dropped at the end.
 
 The last line tells how many replies were compared; how many commands were not played, since the session has not replied to them;
-how many trajectories there are, of which another one begins where the session is loaded again and is not as it was; and the
-SHA-256 of the record. A line for each load has the SHA-256 of its body. What was not played is only what the file says.
+how many trajectories there are, of which another one begins where the session is loaded again and is not as it was; the SHA-256
+of the commands that were played, which each record of these commands has; and the SHA-256 of the record. A line for each
+load has the SHA-256 of its body. What was not played is only what the file says.
 
 Status 0: each reply is the same. 1: one differs. 2: it could not be played, or the file is damaged or not the one of --sha256.
 3: each reply is the same, and the record has no `end`, or is cut short (with --partial: 0).
@@ -169,6 +170,7 @@ def verdict(plan: Plan, player: Player, joints: Joints) -> str:
         parts.append(f"its format is {plan.file.format}")
     if not plan.file.is_ended:
         parts.append("it has no end")
+    parts.append(f"its commands have the SHA-256 {plan.commands}")
     return f"{player.path}: {'; '.join(parts)}; SHA-256 {plan.file.sum}"
 
 

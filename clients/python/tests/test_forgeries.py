@@ -13,7 +13,7 @@ from ljclient import Damaged, verify
 from ljclient.record_file import sum_of_continued
 from record_texts import verified, with_checks
 from support import PROGRAM
-from true_records import NAMES, judged, text_of
+from true_records import NAMES, judged, judged_with_sum, text_of
 
 LARGE = "quota sessions 64 atoms 65536 branches 256"
 SMALL = "quota sessions 1 atoms 1 branches 0"
@@ -81,6 +81,11 @@ def other_words(one: str, other: str) -> Callable[[str], str]:
 CHANGED: Dict[str, Callable[[str], str]] = {
     "last_number": lambda line: re.sub(r"\d+(?=\D*$)", other_number, line),
     "first_number": lambda line: re.sub(r"\d+", other_number, line, count=1),
+    "number_with_zero": lambda line: re.sub(r"\b\d+$", r"0\g<0>", line),
+    "numbers_with_zeros": lambda line: re.sub(r"\b\d+", r"00\g<0>", line),
+    "blanks": lambda line: line[:2] + line[2:].replace(" ", "  "),
+    "tabs": lambda line: line[:2] + line[2:].replace(" ", "\t"),
+    "carriage_return": lambda line: f"{line}\r",
     "turned_round": lambda line: line[:2] + line[:1:-1],
     "word_more": lambda line: f"{line} 1",
     "letter_more": lambda line: f"{line}x",
@@ -134,12 +139,26 @@ def edits(lines: List[str], kind: str) -> Iterator[Tuple[int, List[str]]]:
 
 
 def is_exempt(lines: List[str], number: int, forged: List[str]) -> bool:
-    """Whether it is an edit that files.md names as one that does not show: of what the record says of itself, a larger quota, or
-    another command that is refused and played."""
-    if lines[number].startswith("> ") and lines[number + 1].startswith("< ERR ") and len(forged) == len(lines):
-        return forged[number + 1 :] == lines[number + 1 :]
+    """Whether it is an edit that files.md names as one that does not show: of what the record says of itself, or a larger quota."""
     of_itself = [[line for line in each if not line.startswith(("client ", "program "))] for each in (lines, forged)]
     return of_itself[0] == of_itself[1] or (number < len(forged) and is_larger_quota(lines[number], forged[number]))
+
+
+def is_of_commands(lines: List[str], number: int, forged: List[str]) -> bool:
+    """Whether it is an edit of a command that files.md names as one of which the sum of the commands alone tells."""
+    if len(forged) != len(lines) or forged[number + 1 :] != lines[number + 1 :] or not forged[number].startswith("> "):
+        return False
+    is_read = any(line.startswith(("> SHOW", "> MEASURE", "> DUMP")) for line in lines[number:])
+    return (
+        (lines[number].startswith("> TUG") and not is_read)
+        or lines[number + 1].startswith("< ERR ")
+        or words_of(lines[number]) == words_of(forged[number])
+    )
+
+
+def words_of(line: str) -> List[str]:
+    """The words of a command, with numbers as they are."""
+    return [str(int(word)) if word.lstrip("-").isdigit() else word for word in line.split()]
 
 
 def is_larger_quota(line: str, other: str) -> bool:
@@ -167,6 +186,7 @@ VERDICTS: Dict[str, str] = {
     "lost": "2 commands were not played; 1 trajectory",
     "gone": "1 command was not played; 1 trajectory; 2 new connections",
     "loaded_again": "6 commands were not played; 1 trajectory; 1 new connection",
+    "unread": "0 commands were not played; 1 trajectory",
 }
 
 
@@ -177,13 +197,14 @@ def test_a_true_record(folder: pathlib.Path, tmp_path: pathlib.Path, name: str) 
 
 
 def held(folder: pathlib.Path, path: pathlib.Path, name: str, kind: str) -> None:
-    """Holds that each forgery of a kind is refused, or that something else is told of it."""
+    """Holds that each forgery of a kind is refused, or that something else is told of it, and more than the sum of the commands."""
     text = true_text(name, folder)
-    true, lines = judged(path, text), text.splitlines()
+    (*true, commands), lines = judged_with_sum(path, text), text.splitlines()
     unseen = []
     for number, forged in edits(lines, kind):
-        told = judged(path, "".join(f"{line}\n" for line in forged))
-        if told == true and not is_exempt(lines, number, forged):
+        *told, other = judged_with_sum(path, "".join(f"{line}\n" for line in forged))
+        is_seen = told != true or (other != commands and is_of_commands(lines, number, forged))
+        if not is_seen and not is_exempt(lines, number, forged):
             unseen.append((number + 1, lines[number], forged[number : number + 1]))
     assert unseen == []
 
@@ -195,7 +216,7 @@ def test_lines_that_are_changed_dropped_or_moved(folder: pathlib.Path, tmp_path:
 
 
 @pytest.mark.parametrize("kind", PUT_IN)
-@pytest.mark.parametrize("name", ["branched", "gone"])
+@pytest.mark.parametrize("name", NAMES)
 def test_lines_that_are_put_in(folder: pathlib.Path, tmp_path: pathlib.Path, name: str, kind: str) -> None:
     held(folder, tmp_path / "run.lj", name, kind)
 

@@ -303,7 +303,7 @@ def test_a_record_that_continues_another(user: Any, path: Any, tmp_path: pathlib
         assert without_checks(following)[2].startswith("continues ")
         status, told, faults = verified("--quiet", following)
         assert (status, faults) == (0, [])
-        assert f"; the file says that it continues {wanted}; SHA-256 " in told[-1]
+        assert f"; the file says that it continues {wanted}; its commands have the SHA-256 " in told[-1]
 
 
 def test_what_no_record_continues(user: Any, path: Any, tmp_path: pathlib.Path) -> None:

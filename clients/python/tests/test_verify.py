@@ -25,8 +25,10 @@ ENDS = [number + (LINES[number][:1] == "+") for number, line in enumerate(LINES,
 
 LOADED = DIMER_TEXT[DIMER_TEXT.index("> LOAD") : DIMER_TEXT.index("> ADVANCE")]
 MOVED = "moved\n" + LOADED
-# What the verdict on a record says that is all played, and of one session; and the sum of the dimer's.
+# What the verdict on a record says that is all played, and of one session; and the sums of the dimer's.
 PLAIN = "0 commands were not played; 1 trajectory"
+SENT = "".join(f"{line[2:]}\n" for line in LINES if line[:2] in ("> ", ": "))
+RUN = f"its commands have the SHA-256 {hashlib.sha256(SENT.encode()).hexdigest()}"
 WHOLE = hashlib.sha256(DIMER_TEXT.encode()).hexdigest()
 # What is told of the load, which is all that --quiet tells but the verdict.
 BODY = f"loaded - line 4: {COMMANDS[0]}, with a body of SHA-256 {hashlib.sha256(DIMER.encode()).hexdigest()}"
@@ -66,14 +68,14 @@ def test_a_line_for_each_command(path: Any) -> None:
     assert heading.startswith(f"the file says: {said}; played over ")
     wanted = [f"same {sums(DIMER_TEXT)[end - 1]} line {begin}: {line}" for end, begin, line in zip(ENDS, BEGINS, COMMANDS)]
     assert told == [wanted[0], BODY, *wanted[1:]]
-    assert verdict == f"{path}: all {len(COMMANDS)} replies are the same; {PLAIN}; SHA-256 {WHOLE}"
+    assert verdict == f"{path}: all {len(COMMANDS)} replies are the same; {PLAIN}; {RUN}; SHA-256 {WHOLE}"
     assert verified("--quiet", path) == (0, [BODY, verdict], [])
 
 
 def test_another_implementation(path: Any) -> None:
     status, told, faults = verified(path, "--program", TOP / "conformance" / "reference.py", "--quiet")
     assert (status, faults) == (0, [])
-    assert told == [BODY, f"{path}: all {len(COMMANDS)} replies are the same; {PLAIN}; SHA-256 {WHOLE}"]
+    assert told == [BODY, f"{path}: all {len(COMMANDS)} replies are the same; {PLAIN}; {RUN}; SHA-256 {WHOLE}"]
 
 
 ACTS: Tuple[Callable[[Any, Any], object], ...] = (
@@ -134,7 +136,7 @@ def test_a_program_that_replies_otherwise(path: Any, tmp_path: pathlib.Path, wan
     command = COMMANDS[BEGINS.index(line)]
     assert faults == [f"ljclient: {path}, line {line}: `{command}` was answered {here}"]
     assert f"differs - line {line}: {command}" in told
-    assert told[-1] == f"{path}: 1 of {len(COMMANDS)} replies differs, the first at line {line}; {PLAIN}; SHA-256 {WHOLE}"
+    assert told[-1] == f"{path}: 1 of {len(COMMANDS)} replies differs, the first at line {line}; {PLAIN}; {RUN}; SHA-256 {WHOLE}"
     assert [each.split()[1] for each in told[1:-1] if each != BODY][BEGINS.index(line) :] == ["-"] * (len(BEGINS) - BEGINS.index(line))
 
 
@@ -144,7 +146,7 @@ def test_commands_that_were_edited_with_their_checks(path: Any) -> None:
     status, told, faults = verified(path)
     assert status == 1
     assert faults[0].startswith(f"ljclient: {path}, line 12: `SHOW a 0` was answered `OK SHOW a 1 0 589 0 0`, and `OK SHOW a 1 0 ")
-    assert told[-1].startswith(f"{path}: 2 of {len(COMMANDS)} replies differ, the first at line 12; {PLAIN}; SHA-256 ")
+    assert told[-1].startswith(f"{path}: 2 of {len(COMMANDS)} replies differ, the first at line 12; {PLAIN}; its commands have ")
 
 
 @pytest.mark.parametrize(
@@ -217,7 +219,7 @@ def test_a_file_that_is_cut_short_is_played_up_to_there(path: Any) -> None:
     data = path.read_bytes()
     path.write_bytes(data[:-3])
     status, told, (fault,) = verified(path)
-    assert (status, told[-1].split("; SHA")[0]) == (3, f"{path}: all {len(COMMANDS)} replies are the same; {PLAIN}; it has no end")
+    assert (status, told[-1].split("; SHA")[0]) == (3, f"{path}: all {len(COMMANDS)} replies are the same; {PLAIN}; it has no end; {RUN}")
     assert fault.startswith(f"ljclient: {path}, line {len(LINES)}: the file is cut short here")
     path.write_bytes(data[: -len("0123abcd end\n")])
     status, told, (fault,) = verified(path)
@@ -235,7 +237,7 @@ def test_a_reply_that_differs_in_a_file_that_is_cut_short(path: Any) -> None:
 
 
 def test_the_sum_that_a_paper_prints(path: Any) -> None:
-    said = f"{path}: all {len(COMMANDS)} replies are the same; {PLAIN}; SHA-256 {WHOLE}"
+    said = f"{path}: all {len(COMMANDS)} replies are the same; {PLAIN}; {RUN}; SHA-256 {WHOLE}"
     for word in (WHOLE, WHOLE.upper()):
         assert verified("--quiet", path, "--sha256", word) == (0, [BODY, said], [])
     why = f"ljclient: {path} has the SHA-256 {WHOLE}, so it is another record than the one that is wanted"
@@ -247,7 +249,7 @@ def test_a_record_of_the_first_format(path: Any) -> None:
     old = DIMER_TEXT.replace("ljserve record 2", "ljserve record 1")
     edited(path, old)
     whole = hashlib.sha256(old.encode()).hexdigest()
-    said = f"{path}: all {len(COMMANDS)} replies are the same; {PLAIN}; its format is 1; SHA-256 {whole}"
+    said = f"{path}: all {len(COMMANDS)} replies are the same; {PLAIN}; its format is 1; {RUN}; SHA-256 {whole}"
     assert verified("--quiet", path) == (0, [BODY, said], [])
     edited(path, old.replace("< ERR 12 NO_BRANCH", "! ERR 12 NO_BRANCH"))
     assert verified("--quiet", path)[0] == 2

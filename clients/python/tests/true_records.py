@@ -13,6 +13,7 @@ from ljclient import ClientError, Refused, recording, refusals, run, user as use
 from record_texts import with_checks, without_checks
 from support import PROGRAM, Server, dimer, joined, process_of
 
+SUM_OF_COMMANDS = re.compile(r"; its commands have the SHA-256 \w+")
 MIX: Dict[str, Any] = {"edge": 256, "species": ("Na", "Cl"), "classes": [(1, 131072, 256), (1, 262144, 512), (1, 131072, 256)]}
 
 
@@ -130,7 +131,21 @@ def gone(path: Any) -> None:
                 a.measure()
 
 
-RUNS: Dict[str, Callable[[Any], None]] = {each.__name__: each for each in (plain, branched, sorted_in_space, moved, mixed, lost, gone)}
+def unread(path: Any) -> None:
+    """What its last commands have changed is not read."""
+    with run(PROGRAM) as user:
+        a = dimer(user, record=path)
+        a.branch("k")
+        a.tug(0, (5, 0, -7))
+        a.restore("k")
+        a.advance(1)
+        a.tug(1, (0, 3, 0))
+        a.reverse()
+
+
+RUNS: Dict[str, Callable[[Any], None]] = {
+    each.__name__: each for each in (plain, branched, sorted_in_space, moved, mixed, lost, gone, unread)
+}
 
 
 def loaded_again(folder: pathlib.Path) -> str:
@@ -156,10 +171,17 @@ NAMES = [*RUNS, "loaded_again"]
 
 
 def judged(path: pathlib.Path, text: str) -> Tuple[int, List[str]]:
-    """The status, and what is told of a record, without its path, its sum and the numbers of its lines."""
+    """The status, and what is told of a record, without its path, its sums and the numbers of its lines."""
+    status, told, _ = judged_with_sum(path, text)
+    return status, told
+
+
+def judged_with_sum(path: pathlib.Path, text: str) -> Tuple[int, List[str], List[str]]:
+    """Beside what `judged` has, the sum of the commands that were played, if it came to that."""
     path.write_text(with_checks(text))
     told = io.StringIO()
     with contextlib.redirect_stdout(told), contextlib.redirect_stderr(io.StringIO()):
         status = verify.main(["--quiet", str(path), "--program", PROGRAM])
-    lines = [line.replace(str(path), "") for line in told.getvalue().splitlines()]
-    return status, [re.sub(r"; SHA-256 \w+$|(?<=line )\d+", "", line) for line in lines]
+    text = told.getvalue().replace(str(path), "")
+    without = SUM_OF_COMMANDS.sub("", text)
+    return status, re.sub(r"; SHA-256 \w+$|(?<=line )\d+", "", without, flags=re.MULTILINE).splitlines(), SUM_OF_COMMANDS.findall(text)
