@@ -196,7 +196,7 @@ def build(log: str) -> int:
     rt = usable("build", "the libraries are built in turn by `rt lib`")
     os.dup2(os.open(log, os.O_WRONLY | os.O_APPEND | os.O_CREAT), sys.stdout.fileno())
     if rt is None:
-        return subprocess.run(["rt", "lib"], cwd=TOP / "crates" / "lj_serve").returncode
+        return subprocess.run(["rt", "lib"], cwd=TOP / "crates" / "lj_program").returncode
     rt.rtlib.guarded()
     crates = rt.rtlib.crates_below(os.getcwd())
     libraries = Libraries(

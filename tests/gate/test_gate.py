@@ -109,18 +109,18 @@ def test_the_gate_is_judged_by_the_kit(tmp_path: pathlib.Path) -> None:
 def test_libraries_are_built_in_turn_where_a_function_is_missing(tmp_path: pathlib.Path) -> None:
     put(tmp_path, GATE)
     status, out, error = begun(tmp_path, "build", str(tmp_path / "log"))
-    assert (status, out, (tmp_path / "log").read_text()) == (7, "", "crates/lj_serve lib\n")
+    assert (status, out, (tmp_path / "log").read_text()) == (7, "", "crates/lj_program lib\n")
     assert error.startswith("build: warning: this kit has no need(crate), rtlib.guarded()") and error.count("\n") == 1
 
 
-@pytest.mark.parametrize("words", [["planted", "lj_pool"], ["compile", "x86-64-v3", "out"]])
+@pytest.mark.parametrize("words", [["planted", "lj_end"], ["compile", "x86-64-v3", "out"]])
 def test_nothing_is_done_where_a_function_is_missing(tmp_path: pathlib.Path, words: List[str]) -> None:
     put(tmp_path, GATE + EDITS + MUST_FAIL)
     status, out, error = begun(tmp_path, *words)
     assert (status, out, error.count("\n")) == (69, "", 1) and error.startswith(f"{words[0]}: warning: this kit has no ")
 
 
-@pytest.mark.parametrize("words", [["gate"], ["build", "/dev/null"], ["planted", "lj_pool"], ["compile", "x86-64-v3", "out"]])
+@pytest.mark.parametrize("words", [["gate"], ["build", "/dev/null"], ["planted", "lj_end"], ["compile", "x86-64-v3", "out"]])
 def test_without_a_kit(tmp_path: pathlib.Path, words: List[str]) -> None:
     line = f"{words[0]}: the Rattle toolchain (the command rt) is not on the PATH\n"
     assert begun(tmp_path, *words) == (69, "", line)
@@ -129,7 +129,7 @@ def test_without_a_kit(tmp_path: pathlib.Path, words: List[str]) -> None:
 def test_the_highest_library_is_the_one_that_all_others_are_below() -> None:
     """The one whose `rt lib` builds all others of the program."""
     (line,) = [line for line in (TOP / "crates.txt").read_text().splitlines() if line.startswith("ljserve:")]
-    assert line.split()[1] == "lj_serve"
+    assert line.split()[1] == "lj_program"
 
 
 class Kit:

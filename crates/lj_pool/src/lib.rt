@@ -1,25 +1,9 @@
-//! Pools that compute tasks, and the engine that serves a stream of commands over any pool.
+//! Pools that compute tasks, and the engine that serves a stream of commands over any pool, under one name for those who use them.
 #![tactic(auto)]
 
-mod account;
-mod engine;
-mod inline;
-mod lock;
-mod locking;
-mod pool;
-mod share;
-mod task_list;
-mod waking;
-
-pub use account::Account;
-pub use engine::{Served, serve, serve_lines};
-pub use inline::InlinePool;
-pub use lock::{Gate, LockEnd, LockPool, MAX_ENDS, gather, work};
-pub use locking::lock_soon;
-pub use pool::{MAX_AHEAD, MAX_OWED, MAX_POSTS, MAX_STRAYS, NotPosted, Pool, Refused};
-pub use share::{Share, merged, shares_of};
-pub use task_list::TaskList;
-pub use waking::{
-    IdleWorkers, LOOKS, TASKS_AT_ONCE, UnsignalledPosts, WAIT_QUEUES, WaitQueues, wait_queue_of,
-    wake,
+pub use lj_end::{
+    Account, Gate, InlinePool, MAX_AHEAD, MAX_ENDS, MAX_OWED, MAX_POSTS, MAX_STRAYS, NotPosted,
+    Pool, Refused, Share, TaskList,
 };
+pub use lj_engine::{Served, serve, serve_lines};
+pub use lj_lock::{LockEnd, LockPool, gather, work};

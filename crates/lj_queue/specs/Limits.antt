@@ -1,9 +1,8 @@
 -- The limits of a pool with a queue: its open tasks, the results that it keeps, and its ends.
 use Rattle.std.specs.Prelude.{◌≡◌, refl}
 use Rattle.lj_book.specs.declared.book_entry.TheConstants.{MAX_ENTRIES}
-use Rattle.lj_pool.specs.declared.lock.lock_pool.TheConstants.{MAX_ENDS}
-use Rattle.lj_pool.specs.declared.pool.TheConstants.{MAX_OWED}
-use Rattle.lj_pool.specs.declared.waking.TheConstants.{WAIT_QUEUES}
+use Rattle.lj_end.specs.declared.pool.TheConstants.{MAX_ENDS, MAX_OWED}
+use Rattle.lj_end.specs.declared.waking.TheConstants.{WAIT_QUEUES}
 use Rattle.lj_queue.specs.declared.mailboxes.TheConstants.{USERS}
 use Rattle.lj_queue.specs.declared.result_list.TheConstants.{MAX_RESULTS}
 use Rattle.lj_queue.specs.declared.queue_pool.TheConstants.{CONNECTIONS, MAX_OPEN_TASKS}

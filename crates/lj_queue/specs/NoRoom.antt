@@ -1,8 +1,8 @@
 -- Why a task was not posted to a pool with a queue.
 use Rattle.std.specs.Prelude.{◌≡◌, ◌-◌, ◌^◌, ⊤, ℕ, Option, cond, is_some}
 use Rattle.lj_tile.specs.Task.{Task}
-use Rattle.lj_pool.specs.declared.pool.NotPosted.{NotPosted}
-use Rattle.lj_pool.specs.declared.pool.NotPosted.TheVariants.{Closed, Full}
+use Rattle.lj_end.specs.declared.pool.NotPosted.{NotPosted}
+use Rattle.lj_end.specs.declared.pool.NotPosted.TheVariants.{Closed, Full}
 use Rattle.lj_queue.specs.declared.no_room.FullCause.{FullCause}
 use Rattle.lj_queue.specs.declared.no_room.FullCause.TheVariants.{NoBox, PassSpent, QueueFull}
 use Rattle.lj_queue.specs.declared.no_room.PostFault.{PostFault}

@@ -5,7 +5,7 @@ use Rattle.atomic_table.specs.Seated.{TableId}
 use Rattle.crossbeam_queue.specs.Passes.{Pass, view}
 use Rattle.lj_tile.specs.Task.{Task}
 use Rattle.lj_tile.specs.declared.task_name.TaskName.{TaskName}
-use Rattle.lj_pool.specs.Seen.{Seen}
+use Rattle.lj_end.specs.Seen.{Seen}
 use Rattle.lj_queue.specs.declared.open_task.OpenTask.{OpenTask}
 use Rattle.lj_queue.specs.declared.kept_boxes.TheConstants.{MAX_SPARE_BOXES}
 use Rattle.lj_queue.specs.declared.rule.PassHistory.{PassHistory}

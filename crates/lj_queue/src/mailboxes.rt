@@ -8,7 +8,7 @@ ghost use Rattle.lj_queue.specs.declared.mailboxes.TheConstants.{USERS};
 use crate::result_list::{MAX_RESULTS, ResultList};
 use crate::spares::Spares;
 use lj_book::DoneBox;
-use lj_pool::{Share, WAIT_QUEUES, WaitQueues};
+use lj_end::{Share, WAIT_QUEUES, WaitQueues};
 use std::alloc::{AllocError, Global};
 use std::marker::Model;
 use std::mem;

@@ -3,7 +3,7 @@ ghost use Rattle.std.specs.Prelude.{◌≡◌};
 ghost use Rattle.lj_queue.specs.NoRoom.{reason_of};
 
 use crate::pass::RefusedPush;
-use lj_pool::NotPosted;
+use lj_end::NotPosted;
 
 /// Why there was no room for a task.
 #[derive(Clone, Copy)]

@@ -1,8 +1,8 @@
 //! One connection's end of a pool with a queue.
 ghost use Rattle.std.specs.Prelude.{◌≡◌, ◌+◌, ◌<◌, ◌≤◌, ◌↔◌, [], ◌∷◌, true, false, length, IfErr, IsTrue, OnErr, OnOk, ⊤};
-ghost use Rattle.lj_pool.specs.declared.pool.NotPosted.TheVariants.{Closed};
-ghost use Rattle.lj_pool.specs.Accounts.{IsKnownByName};
-ghost use Rattle.lj_pool.specs.Seen.{IsHandedOut, IsPosted, SameOwed, StaysClosed, nothing_seen};
+ghost use Rattle.lj_end.specs.declared.pool.NotPosted.TheVariants.{Closed};
+ghost use Rattle.lj_end.specs.Accounts.{IsKnownByName};
+ghost use Rattle.lj_end.specs.Seen.{IsHandedOut, IsPosted, SameOwed, StaysClosed, nothing_seen};
 ghost use Rattle.lj_queue.specs.declared.no_room.PostFault.TheVariants.{Closed as PoolClosed};
 ghost use Rattle.lj_queue.specs.NoRoom.{IsCauseOf};
 ghost use Rattle.lj_queue.specs.PoolPass.{HasPushed, HasPushedNothing, IsSameEnd};
@@ -13,7 +13,7 @@ use crate::pass::{PassBoxes, PoolIdentity, PoolPass};
 use crate::poster::Poster;
 use crate::queue_pool::QueuePool;
 use lj_book::TaskBox;
-use lj_pool::{Account, MAX_OWED, NotPosted, Pool, TASKS_AT_ONCE, UnsignalledPosts};
+use lj_end::{Account, MAX_OWED, NotPosted, Pool, TASKS_AT_ONCE, UnsignalledPosts};
 use lj_tile::{DoneRef, SharedFrame, TaskRef};
 use std::marker::Model;
 use std::mem;
@@ -112,7 +112,7 @@ impl<'p, L: PoolIdentity, R: Wait> QueueEnd<'p, L, R> {
 }
 
 impl<'p, L: PoolIdentity, R: Wait> Pool for QueueEnd<'p, L, R> {
-    ghost use Rattle.lj_pool.specs.declared.pool.TheConstants.{MAX_OWED};
+    ghost use Rattle.lj_end.specs.declared.pool.TheConstants.{MAX_OWED};
 
     ghost seen = { λ end. end.seen };
 

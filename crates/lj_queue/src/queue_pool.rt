@@ -1,7 +1,7 @@
 //! A pool whose open tasks lie in a queue that no lock guards, and whose results lie under a lock.
 ghost use Rattle.std.specs.Prelude.{◌≡◌, ◌+◌, ◌≤◌, ◌<◌, None, Some, true, false, length, vec_len, IfErr, IfNone, IfOk, IfSome, IsSomeAnd, OnErr, OnOk};
 ghost use Rattle.std.specs.List.{All};
-ghost use Rattle.lj_pool.specs.Seen.{nothing_seen};
+ghost use Rattle.lj_end.specs.Seen.{nothing_seen};
 ghost use Rattle.lj_queue.specs.declared.no_room.PostFault.TheVariants.{Closed};
 ghost use Rattle.lj_queue.specs.NoRoom.{IsCause, IsCauseOf, boxes_in};
 ghost use Rattle.lj_queue.specs.ResultList.{Fetches, empty_list};
@@ -18,7 +18,7 @@ use crate::root_pass::{RootPass, passes_of};
 use crate::rule::{OpenTasks, TaskPass};
 use crate::spares::Spares;
 use lj_book::{DoneBox, MAX_ENTRIES, TaskBox};
-use lj_pool::{
+use lj_end::{
     IdleWorkers, LOOKS, MAX_ENDS, Share, WAIT_QUEUES, lock_soon, shares_of, wait_queue_of, wake,
 };
 use lj_tile::TaskRef;

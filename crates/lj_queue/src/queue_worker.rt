@@ -5,7 +5,7 @@ ghost use Rattle.lj_queue.specs.PoolPass.{PopsFor, with_push};
 use crate::open_task::OpenTask;
 use crate::pass::{CountedPass, PoolIdentity, PoolPass};
 use crate::queue_pool::QueuePool;
-use lj_pool::{Gate, Share, merged};
+use lj_end::{Gate, Share, merged};
 use lj_table::Table;
 use std::sync::Wait;
 

@@ -3,7 +3,7 @@ ghost use Rattle.std.specs.Prelude.{◌≡◌, ◌<◌, ◌↔◌, [], length, I
 ghost use Rattle.lj_queue.specs.ResultList.{empty_list, with_first, with_last};
 
 use lj_book::DoneBox;
-use lj_pool::MAX_OWED;
+use lj_end::MAX_OWED;
 use lj_tile::DoneRef;
 use std::alloc::{AllocError, Global};
 use std::collections::VecDeque;

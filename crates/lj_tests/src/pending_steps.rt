@@ -1,6 +1,6 @@
 //! Streams that leave sessions with pending steps, which the next stream runs over a pool that may close at any of its calls.
 ghost use Rattle.std.specs.Prelude.{◌≡◌, IsSome};
-ghost use Rattle.lj_pool.specs.Seen.{nothing_seen};
+ghost use Rattle.lj_end.specs.Seen.{nothing_seen};
 
 use arrayvec::ArrayVec;
 use lj_pool::{InlinePool, NotPosted, Pool, Served, serve};
@@ -42,7 +42,7 @@ impl ClosingPool {
 }
 
 impl Pool for ClosingPool {
-    ghost use Rattle.lj_pool.specs.InlinePool.{seen_of};
+    ghost use Rattle.lj_end.specs.InlinePool.{seen_of};
 
     ghost seen = { λ pool. record (seen_of pool.inner) { closed = pool.closed } };
 

@@ -1,7 +1,7 @@
 //! Texts that are read line by line: a schedule that is replayed, and users.
 
 use arrayvec::ArrayVec;
-use lj_serve::{ReplayFault, UsersFault, read_users, replay};
+use lj_program::{ReplayFault, UsersFault, read_users, replay};
 use lj_wire::Writing;
 use std::alloc::AllocGlobal;
 use std::test::Fail;

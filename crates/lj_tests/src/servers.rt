@@ -1,6 +1,6 @@
 //! Servers over loopback sockets, with their clients in the same process.
 
-use lj_serve::{Kept, read_users, serve_on};
+use lj_program::{Kept, read_users, serve_on};
 use log::sink::Discard;
 use log::{LevelFilter, Log, Logged};
 use std::alloc::AllocGlobal;

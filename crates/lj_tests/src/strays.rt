@@ -74,7 +74,7 @@ impl OddPool {
 }
 
 impl Pool for OddPool {
-    ghost use Rattle.lj_pool.specs.InlinePool.{tasks_in};
+    ghost use Rattle.lj_end.specs.InlinePool.{tasks_in};
 
     ghost seen = { λ pool. record {
       owed = tasks_in pool.owed;

@@ -10,10 +10,10 @@ use Rattle.lj_wire.specs.Streams.{AreMarks, Dialogue}
 use Rattle.lj_wire.specs.Texts.{is_memory}
 use Rattle.lj_wire.specs.Told.{item_text, texts, last_user}
 use Rattle.lj_wire.proofs.Progressing.{added, marks-length, texts-length}
-use Rattle.lj_pool.specs.declared.engine.served.Served.{Served}
-use Rattle.lj_pool.specs.declared.engine.served.Served.TheVariants.{End, Bye, Ended, ReadFault, WriteFault, PoolClosed, TooManyStrays}
-use Rattle.lj_pool.specs.Seen.{Seen, nothing_seen}
-use Rattle.lj_pool.specs.Served.{BreaksOff, IsServed}
+use Rattle.lj_engine.specs.declared.served.Served.{Served}
+use Rattle.lj_engine.specs.declared.served.Served.TheVariants.{End, Bye, Ended, ReadFault, WriteFault, PoolClosed, TooManyStrays}
+use Rattle.lj_end.specs.Seen.{Seen, nothing_seen}
+use Rattle.lj_engine.specs.Served.{BreaksOff, IsServed}
 use Rattle.lj_visit.specs.VisitLaws.{Attendance, IsAttendance, IsWhole, IsBroken, AnswersItems, AnswersAll, Follow, NoneFails, all_written}
 
 texts-join : (user : User) (items others : List Item) (marks more : List Bool) → length marks ≡ length items

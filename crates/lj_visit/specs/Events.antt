@@ -3,7 +3,7 @@
 use Rattle.std.specs.Prelude.{◌≡◌, ℕ, List, ◌++◌, Option, Some, None, ⊤}
 use Rattle.lj_session.specs.UserState.{UserState}
 use Rattle.lj_access.specs.Rows.{Ticket}
-use Rattle.lj_pool.specs.Seen.{Seen}
+use Rattle.lj_end.specs.Seen.{Seen}
 use Rattle.lj_visit.specs.declared.backend.Shut.{Shut}
 
 -- A ticket is granted to a name and a token, or denied; it enters, and its user's state is lent to it, or it does not. An end is

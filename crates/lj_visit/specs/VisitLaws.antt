@@ -6,10 +6,10 @@ use Rattle.lj_session.specs.UserState.{UserState, empty_state, user_of}
 use Rattle.lj_wire.specs.declared.item.Item.{Item}
 use Rattle.lj_wire.specs.Streams.{AreMarks, Dialogue}
 use Rattle.lj_wire.specs.Told.{alone}
-use Rattle.lj_pool.specs.declared.engine.served.Served.{Served}
-use Rattle.lj_pool.specs.declared.engine.served.Served.TheVariants.{WriteFault}
-use Rattle.lj_pool.specs.Seen.{Seen, nothing_seen}
-use Rattle.lj_pool.specs.Served.{BreaksOff, IsServed}
+use Rattle.lj_engine.specs.declared.served.Served.{Served}
+use Rattle.lj_engine.specs.declared.served.Served.TheVariants.{WriteFault}
+use Rattle.lj_end.specs.Seen.{Seen, nothing_seen}
+use Rattle.lj_engine.specs.Served.{BreaksOff, IsServed}
 
 -- A visit whose state came home: how it ended, the state that was lent, the bytes read after the first line and written after OK
 -- HELLO, what its end of the pool has seen, and the state that came home.

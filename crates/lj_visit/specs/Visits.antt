@@ -11,10 +11,10 @@ use Rattle.lj_wire.specs.LineReader.{LineReader}
 use Rattle.lj_session.specs.Refusals.{refusal_text}
 use Rattle.lj_wire.specs.Texts.{ended_line, ok_line}
 use Rattle.lj_access.specs.Rows.{Ticket}
-use Rattle.lj_pool.specs.declared.engine.served.Served.{Served}
-use Rattle.lj_pool.specs.declared.engine.served.Served.TheVariants.{ReadFault, TooManyStrays}
-use Rattle.lj_pool.specs.Seen.{Seen, nothing_seen}
-use Rattle.lj_pool.specs.Served.{HandsBack, HasCause, Serves}
+use Rattle.lj_engine.specs.declared.served.Served.{Served}
+use Rattle.lj_engine.specs.declared.served.Served.TheVariants.{ReadFault, TooManyStrays}
+use Rattle.lj_end.specs.Seen.{Seen, nothing_seen}
+use Rattle.lj_engine.specs.Served.{HandsBack, HasCause, Serves}
 use Rattle.lj_visit.specs.declared.backend.Shut.{Shut}
 use Rattle.lj_visit.specs.declared.visiting.Visited.{Visited}
 use Rattle.lj_visit.specs.declared.visiting.Visited.TheVariants.{NoLine, Denied, ShutOut, NotWelcomed, Attended}

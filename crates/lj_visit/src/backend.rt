@@ -1,13 +1,13 @@
 //! The backend of a visit: it lets the user in, and makes the user's end of a pool.
 ghost use Rattle.std.specs.Prelude.{◌≡◌, ◌∷◌, [], ℕ, List, Option, IfOk, IfErr, OnErr};
 ghost use Rattle.lj_session.specs.UserState.{Reached};
-ghost use Rattle.lj_pool.specs.Seen.{nothing_seen};
+ghost use Rattle.lj_end.specs.Seen.{nothing_seen};
 ghost use Rattle.lj_visit.specs.Events.{Event, Happens};
 ghost use Rattle.lj_visit.specs.Events.Event.{granted, denied, entered, shut_out, opened, withdrawn, left, closed};
 
 use lj_access::{Denied, Ticket};
 use lj_base::{Name, Token};
-use lj_pool::Pool;
+use lj_end::Pool;
 use lj_session::UserState;
 
 /// A user's state, lent to a ticket.

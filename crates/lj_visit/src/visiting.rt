@@ -10,7 +10,7 @@ ghost use Rattle.lj_visit.specs.Visits.{IsAdmission, IsServing, IsVisit, Tells, 
 use crate::backend::{Backend, LentState, Shut};
 use lj_access::Ticket;
 use lj_base::Name;
-use lj_pool::{Served, serve_lines};
+use lj_engine::{Served, serve_lines};
 use lj_session::{Refusal, UserState};
 use lj_wire::{
     Hello, Line, LineReader, Sink, Source, WriteFault, put_all, put_refusal_line, put_welcome_line,

@@ -2,9 +2,9 @@
 use Rattle.std.specs.Prelude.{ℕ, Result, Ok, Err}
 use Rattle.clap.specs.declared.error.kind.ErrorKind.{ErrorKind}
 use Rattle.clap.specs.declared.error.kind.ErrorKind.TheVariants.{DisplayHelp, DisplayVersion, OutOfMemory}
-use Rattle.lj_serve.specs.declared.program_fault.ProgramFault.{ProgramFault}
-use Rattle.lj_serve.specs.declared.program_fault.ProgramFault.TheVariants.{Write, Listen, Memory, Unreadable, UsersLine}
-use Rattle.lj_serve.specs.Outcomes.{status_of}
+use Rattle.lj_program.specs.declared.program_fault.ProgramFault.{ProgramFault}
+use Rattle.lj_program.specs.declared.program_fault.ProgramFault.TheVariants.{Write, Listen, Memory, Unreadable, UsersLine}
+use Rattle.lj_program.specs.Outcomes.{status_of}
 
 -- the exit status of the program
 abbrev pub exit_of : Result (Unit {0}) ProgramFault → ℕ

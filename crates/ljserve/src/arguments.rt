@@ -1,14 +1,14 @@
 //! Parsing the command line.
 ghost use Rattle.std.specs.Prelude.{◌≡◌, ◌↔◌, codes, IfOk};
-ghost use Rattle.lj_serve.specs.declared.serve.worker_pool.Kept.TheVariants.{Queue};
+ghost use Rattle.lj_program.specs.declared.serve.worker_pool.Kept.TheVariants.{Queue};
 ghost use Rattle.clap.specs.Values.{kind_of};
 ghost use Rattle.clap.specs.declared.error.kind.ErrorKind.TheVariants.{InvalidValue};
 
 use crate::option_limits::{MAX_ACCEPTED, MAX_WORKERS};
 use clap::error::ErrorKind;
 use clap::{Arg, ArgMatches, Command, Error, value_parser};
+use lj_program::{Kept, MAX_QUOTA_ATOMS, MAX_QUOTA_BRANCHES, MAX_QUOTA_SESSIONS};
 use lj_quota::Quota;
-use lj_serve::{Kept, MAX_QUOTA_ATOMS, MAX_QUOTA_BRANCHES, MAX_QUOTA_SESSIONS};
 use std::alloc::{AllocError, Global};
 
 /// The words that say where open tasks are kept.

@@ -1,6 +1,6 @@
 use Rattle.std.proofs.Common.{◌≡◌, [], ◌∷◌, ◌++◌, ap, ◌∙◌, subst}
-use Rattle.lj_pool.specs.Seen.{Seen}
-use Rattle.lj_pool.specs.Served.{HasCause, Serves}
+use Rattle.lj_end.specs.Seen.{Seen}
+use Rattle.lj_engine.specs.Served.{HasCause, Serves}
 use Rattle.lj_visit.specs.Events.{Happens}
 use Rattle.lj_visit.specs.Events.Event.{opened, withdrawn}
 use Rattle.lj_visit.specs.Visits.{events_closing, events_leaving}

@@ -1,6 +1,6 @@
 use Rattle.std.proofs.Common.{ap, sym, ◌∙◌, subst}
-use Rattle.lj_pool.specs.Accounts.{IsKnownByName}
-use Rattle.lj_pool.specs.Seen.{Seen}
+use Rattle.lj_end.specs.Accounts.{IsKnownByName}
+use Rattle.lj_end.specs.Seen.{Seen}
 use Rattle.lj_queue.proofs.queue_end.QueueEndPool.count_by_name.Goals as goal
 
 pub count_by_name-requires : goal.count_by_name-requires

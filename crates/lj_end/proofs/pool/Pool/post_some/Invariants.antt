@@ -1,0 +1,13 @@
+use Rattle.std.proofs.Common.{◌≡◌, ℕ, take}
+use Rattle.std.specs.List.{All}
+use Rattle.lj_tile.specs.Task.{Task}
+use Rattle.lj_end.specs.Seen.{ArePosted, StaysClosed}
+use Rattle.lj_end.proofs.pool.Pool.post_some.Given as goal
+
+abbrev pub invariant-loop-here : goal.invariant-loop-here
+invariant-loop-here g l = record {
+  posted : ArePosted (take l.here l.tasks) (g.Self.Pool.seen l.initial.self) (g.Self.Pool.seen l.self);
+  stays : StaysClosed (g.Self.Pool.seen l.initial.self) (g.Self.Pool.seen l.self);
+  own : (user : ℕ) → All (λ (task : Task). task.name.label.user ≡ user) l.tasks
+      → g.Self.Pool.for_others l.self user ≡ g.Self.Pool.for_others l.initial.self user;
+}

@@ -1,0 +1,121 @@
+//! A pool without threads: the caller who posts a task computes it.
+ghost use Rattle.std.specs.Prelude.{◌≡◌, ◌↔◌, Some, None, true, false};
+ghost use Rattle.std.specs.Prelude.{IsOk, IsSome, IfErr, OnOk, OnErr};
+ghost use Rattle.lj_end.specs.Seen.{one_more};
+ghost use Rattle.lj_end.specs.InlinePool.{empty_pool, seen_of};
+ghost use Rattle.lj_end.specs.declared.pool.NotPosted.TheVariants.{Full};
+
+use crate::pool::{NotPosted, Pool};
+use lj_table::Table;
+use lj_tile::{Done, DoneRef, TaskRef, compute_into};
+use std::marker::Model;
+
+/// A pool that computes each task as it is posted, in its one slot. It allocates no memory.
+///
+/// Promise: it is a `Pool`, and is never closed.
+#[derive(Drop)]
+pub struct InlinePool {
+    table: Table,
+    slot: Done,
+    /// Whether the result in the slot is still owed.
+    is_owed: bool,
+    expected: u64,
+}
+
+impl Model for InlinePool {
+    ghost use Rattle.std.specs.Prelude.{Some, None, if◌then◌else◌};
+    ghost use Rattle.lj_end.specs.InlinePool.{InlinePool};
+
+    ghost Value = { InlinePool };
+
+    ghost view = { λ pool. record {
+      owed = if pool.is_owed then Some pool.slot else None;
+      expected = pool.expected;
+      last = pool.slot;
+    } };
+}
+
+impl InlinePool {
+    /// Returns a pool that owes no result.
+    pub fn new(table: Table) -> InlinePool
+        ensures { result ≡ empty_pool }
+    {
+        InlinePool {
+            table,
+            slot: Done::blank(),
+            is_owed: false,
+            expected: 0,
+        }
+    }
+}
+
+impl Pool for InlinePool {
+    ghost seen = { seen_of };
+
+    ghost last = { λ pool. pool.last };
+
+    ghost is_uncounted = { λ pool. IsSome pool.owed };
+
+    ghost for_others = { λ _ _. 0 };
+
+    ghost most = { 1 };
+
+    fn post_from(&mut self, task: &TaskRef<'_>, _wait: bool) -> Result<(), NotPosted>
+        ensures free { IsOk result ↔ (self.old.owed ≡ None) }
+        ensures posted { OnOk result (self.new ≡ record self.old { owed = Some task.now; last = task.now }) }
+        ensures full { IfErr result (λ why. why ≡ Full) }
+        ensures unchanged { OnErr result (self.new ≡ self.old) }
+    {
+        if self.is_owed {
+            return Err(NotPosted::Full);
+        }
+        compute_into(task, &self.table, &mut self.slot);
+        self.is_owed = true;
+        Ok(())
+    }
+
+    fn fetch_uncounted(&mut self, _user: u8) -> bool
+        ensures some { result ≡ true ↔ IsSome self.old.owed }
+        ensures owed { result ≡ true → self.old.owed ≡ Some self.new.last }
+        ensures unchanged { self.new ≡ self.old }
+    {
+        self.is_owed
+    }
+
+    fn poll_uncounted(&mut self, user: u8) -> bool
+        ensures some { result ≡ true ↔ IsSome self.old.owed }
+        ensures owed { result ≡ true → self.old.owed ≡ Some self.new.last }
+        ensures unchanged { self.new ≡ self.old }
+    {
+        self.fetch_uncounted(user)
+    }
+
+    fn count(&mut self)
+        requires { IsSome self.old.owed }
+        ensures owed { self.old.owed ≡ Some self.old.last }
+        ensures taken_off { self.new ≡ record self.old { owed = None; expected = one_more self.old.expected } }
+    {
+        self.is_owed = false;
+        self.expected = self.expected.saturating_add(1);
+    }
+
+    fn fetched(&self) -> DoneRef<'_> {
+        self.slot.by_ref()
+    }
+
+    fn owed(&self) -> usize {
+        usize::from(self.is_owed)
+    }
+
+    fn is_full(&self) -> bool
+        ensures { result ≡ true ↔ IsSome self.now.owed }
+    {
+        self.is_owed
+    }
+
+    fn closed(&self) -> bool
+        ensures { result ≡ false }
+    {
+        false
+    }
+}

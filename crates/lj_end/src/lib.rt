@@ -1,0 +1,23 @@
+//! The interface of a pool of workers: an end, to which tasks are owed; a worker's share of the results; and whom to wake.
+#![tactic(auto)]
+
+mod account;
+mod gate;
+mod inline;
+mod locking;
+mod pool;
+mod share;
+mod task_list;
+mod waking;
+
+pub use account::Account;
+pub use gate::Gate;
+pub use inline::InlinePool;
+pub use locking::lock_soon;
+pub use pool::{MAX_AHEAD, MAX_ENDS, MAX_OWED, MAX_POSTS, MAX_STRAYS, NotPosted, Pool, Refused};
+pub use share::{Share, merged, shares_of};
+pub use task_list::TaskList;
+pub use waking::{
+    IdleWorkers, LOOKS, TASKS_AT_ONCE, UnsignalledPosts, WAIT_QUEUES, WaitQueues, wait_queue_of,
+    wake,
+};

@@ -1,0 +1,247 @@
+//! The interface of a pool to a caller who posts tasks: an end that takes tasks and hands out results.
+ghost use Rattle.std.specs.Prelude.{◌≡◌, ◌+◌, ◌<◌, ◌≤◌, ◌↔◌, ℕ, length, take, true, false, [], IfErr, IfNone, IfSome, OnErr, OnOk};
+ghost use Rattle.std.specs.List.{All};
+ghost use Rattle.lj_tile.specs.Task.{Task};
+ghost use Rattle.lj_end.specs.declared.pool.NotPosted.TheVariants.{Closed};
+ghost use Rattle.lj_end.specs.Seen.{Seen, SameOwed, ArePosted, IsPosted, IsHandedOut, StaysClosed};
+ghost use Rattle.lj_end.specs.Accounts.{IsKnownByName};
+ghost use Rattle.lj_end.specs.Refusals.{task_of, IsClosed};
+
+use crate::task_list::TaskList;
+use lj_tile::{Done, DoneRef, Task, TaskRef};
+use thiserror::Error;
+
+/// The most ends at once for which a pool has boxes. With more of them a post may be refused before the book is full.
+pub const MAX_ENDS: usize = 64;
+
+/// The most tasks that may be owed to an end of a pool at once.
+pub const MAX_OWED: usize = 64;
+
+/// The most tasks that one call posts.
+pub const MAX_POSTS: usize = 16;
+
+/// The number of consecutive strays that ends the work for a user.
+pub const MAX_STRAYS: u64 = 4096;
+
+/// The most tasks that may be owed while a connection waits for its next command. 63 waiting connections then leave room for
+/// the last one among the 1,024 entries of a book.
+pub const MAX_AHEAD: usize = 15;
+
+/// Why a task was not posted.
+#[derive(Clone, Copy, PartialEq, Eq, Debug, Error)]
+pub enum NotPosted {
+    /// There is no room for it now.
+    #[error("there is no room for the task now")]
+    Full,
+    /// The pool is closed.
+    #[error("the pool is closed")]
+    Closed,
+}
+
+/// Why a task was not posted, with the task.
+#[derive(Debug, Drop)]
+pub enum Refused {
+    /// There is no room for it now.
+    Full(Task),
+    /// The pool is closed.
+    Closed(Task),
+}
+
+/// An end of a pool. A posted task is owed until its result is handed out. A pool may hand out results that are not owed, the
+/// strays. The end counts both kinds, each up to 2^64 - 1, where the count stays.
+///
+/// Tasks and results are large, so most calls pass them by reference; `post`, `fetch` and `poll` copy them.
+///
+/// Promise: a task that was posted is owed until its result is handed out, and each result that is handed out is
+/// counted, as owed or as a stray, or left to be counted by `count` or `count_by_name`.
+pub trait Pool {
+    ghost seen: { Self → Seen };
+
+    // the task of the result that `fetched` returns
+    ghost last: { Self → Task };
+
+    // the result that `fetched` returns is not counted yet
+    ghost is_uncounted: { Self → Type 0 };
+
+    // how often the end was called for a user other than this one, by a task of another user, or by a fetch or poll for
+    // another, where the pool counts that
+    ghost for_others: { Self → ℕ → ℕ };
+
+    // how many tasks are owed to a full end
+    ghost most: { ℕ };
+
+    /// Posts a task. With `wait` it waits for room, and never refuses the task as `Full`.
+    fn post_from(&mut self, task: &TaskRef<'_>, wait: bool) -> Result<(), NotPosted>
+        requires room { length (seen self.old).owed < MAX_OWED }
+        requires alone { wait ≡ true → (seen self.old).owed ≡ [] }
+        ensures posted { OnOk result (IsPosted task.now (seen self.old) (seen self.new)) }
+        ensures unchanged { OnErr result (SameOwed (seen self.old) (seen self.new)) }
+        ensures full { wait ≡ true → IfErr result (λ why. why ≡ Closed) }
+        ensures closed { IfErr result (λ why. why ≡ Closed → (seen self.new).closed ≡ true) }
+        ensures stays_closed { StaysClosed (seen self.old) (seen self.new) }
+        ensures own { let user = task.now.name.label.user in for_others self.new user
+            ≡ for_others self.old user };
+
+    /// Takes the next result for a user, waits for it if there is none, and leaves it to be counted; `fetched` returns it. False
+    /// only if the pool is closed.
+    fn fetch_uncounted(&mut self, user: u8) -> bool
+        requires { 0 < length (seen self.old).owed }
+        ensures uncounted { result ≡ true → is_uncounted self.new }
+        ensures unchanged { SameOwed (seen self.old) (seen self.new) }
+        ensures closed { result ≡ false → (seen self.new).closed ≡ true }
+        ensures stays_closed { StaysClosed (seen self.old) (seen self.new) }
+        ensures own { for_others self.new user ≡ for_others self.old user };
+
+    /// Takes the next result for a user if one is there now, and leaves it to be counted; `fetched` returns it. It never waits for
+    /// a worker. It may return false at any time.
+    fn poll_uncounted(&mut self, user: u8) -> bool
+        ensures uncounted { result ≡ true → is_uncounted self.new }
+        ensures unchanged { SameOwed (seen self.old) (seen self.new) }
+        ensures stays_closed { StaysClosed (seen self.old) (seen self.new) }
+        ensures own { for_others self.new user ≡ for_others self.old user };
+
+    /// Counts the result that `fetched` returns: as one that was owed, whose task is then owed no more, or as a stray.
+    fn count(&mut self)
+        requires { is_uncounted self.old }
+        ensures last { last self.new ≡ last self.old }
+        ensures handed_out { IsHandedOut (last self.old) (seen self.old) (seen self.new) }
+        ensures stays_closed { StaysClosed (seen self.old) (seen self.new) }
+        ensures own { (user : ℕ) → for_others self.new user ≡ for_others self.old user };
+
+    /// Counts the result that `fetched` returns, as `count` does, where the name of its task is enough to find it among those that
+    /// are owed.
+    fn count_by_name(&mut self)
+        requires uncounted { is_uncounted self.old }
+        requires known { IsKnownByName (seen self.old).owed (last self.old) }
+        ensures last { last self.new ≡ last self.old }
+        ensures handed_out { IsHandedOut (last self.old) (seen self.old) (seen self.new) }
+        ensures stays_closed { StaysClosed (seen self.old) (seen self.new) }
+        ensures own { (user : ℕ) → for_others self.new user ≡ for_others self.old user }
+    {
+        self.count();
+    }
+
+    /// Takes and counts the next result for a user, and waits for it if there is none; `fetched` returns it. False only if the pool
+    /// is closed.
+    fn fetch_counted(&mut self, user: u8) -> bool
+        requires { 0 < length (seen self.old).owed }
+        ensures handed_out { result ≡ true → IsHandedOut (last self.new) (seen self.old) (seen self.new) }
+        ensures unchanged { result ≡ false → SameOwed (seen self.old) (seen self.new) }
+        ensures closed { result ≡ false → (seen self.new).closed ≡ true }
+        ensures stays_closed { StaysClosed (seen self.old) (seen self.new) }
+        ensures own { for_others self.new user ≡ for_others self.old user }
+    {
+        let fetched = self.fetch_uncounted(user);
+        if fetched {
+            self.count();
+        }
+        fetched
+    }
+
+    /// Takes and counts the next result for a user if one is there now; `fetched` returns it. It never waits for a worker. It may
+    /// return false at any time.
+    fn poll_counted(&mut self, user: u8) -> bool
+        ensures handed_out { result ≡ true → IsHandedOut (last self.new) (seen self.old) (seen self.new) }
+        ensures unchanged { result ≡ false → SameOwed (seen self.old) (seen self.new) }
+        ensures stays_closed { StaysClosed (seen self.old) (seen self.new) }
+        ensures own { for_others self.new user ≡ for_others self.old user }
+    {
+        let polled = self.poll_uncounted(user);
+        if polled {
+            self.count();
+        }
+        polled
+    }
+
+    /// Returns the result that was handed out last. The end keeps it until the next post, fetch or poll.
+    fn fetched(&self) -> DoneRef<'_>
+        ensures { result ≡ last self.now };
+
+    /// Posts tasks in order and never waits. Returns how many were posted: the first ones, and no others.
+    fn post_some(&mut self, tasks: &TaskList<'_>) -> usize
+        requires room { length (seen self.old).owed + length tasks.now ≤ MAX_OWED }
+        ensures most { result ≤ length tasks.now }
+        ensures posted { ArePosted (take result tasks.now) (seen self.old) (seen self.new) }
+        ensures stays_closed { StaysClosed (seen self.old) (seen self.new) }
+        ensures own { (user : ℕ) → All (λ task. task.name.label.user ≡ user) tasks.now
+            → for_others self.new user ≡ for_others self.old user }
+    {
+        for here in 0..tasks.len() {
+            if self.post_from(tasks.at(here), false).is_err() {
+                return here;
+            }
+        }
+        tasks.len()
+    }
+
+    /// Posts a task by value. With `wait` it waits for room, and never refuses the task as `Full`.
+    fn post(&mut self, task: Task, wait: bool) -> Result<(), Refused>
+        requires room { length (seen self.old).owed < MAX_OWED }
+        requires alone { wait ≡ true → (seen self.old).owed ≡ [] }
+        ensures posted { OnOk result (IsPosted task (seen self.old) (seen self.new)) }
+        ensures handed_back { IfErr result (λ refused. task_of refused ≡ task) }
+        ensures unchanged { OnErr result (SameOwed (seen self.old) (seen self.new)) }
+        ensures full { wait ≡ true → IfErr result IsClosed }
+        ensures closed { IfErr result (λ refused. IsClosed refused → (seen self.new).closed ≡ true) }
+        ensures stays_closed { StaysClosed (seen self.old) (seen self.new) }
+        ensures own { let user = task.name.label.user in for_others self.new user ≡ for_others self.old user }
+    {
+        match self.post_from(&task.by_ref(), wait) {
+            Ok(()) => Ok(()),
+            Err(NotPosted::Full) => Err(Refused::Full(task)),
+            Err(NotPosted::Closed) => Err(Refused::Closed(task)),
+        }
+    }
+
+    /// Takes and counts the next result for a user, by value. `None` only if the pool is closed.
+    fn fetch(&mut self, user: u8) -> Option<Done>
+        requires { 0 < length (seen self.old).owed }
+        ensures handed_out { IfSome result (λ done. IsHandedOut done (seen self.old) (seen self.new)) }
+        ensures unchanged { IfNone result (SameOwed (seen self.old) (seen self.new)) }
+        ensures closed { IfNone result ((seen self.new).closed ≡ true) }
+        ensures stays_closed { StaysClosed (seen self.old) (seen self.new) }
+        ensures own { for_others self.new user ≡ for_others self.old user }
+    {
+        if !self.fetch_counted(user) {
+            return None;
+        }
+        Some(self.fetched().to_done())
+    }
+
+    /// Takes and counts the next result for a user if one is there now, by value. It never waits for a worker. It may return `None`
+    /// at any time.
+    fn poll(&mut self, user: u8) -> Option<Done>
+        ensures handed_out { IfSome result (λ done. IsHandedOut done (seen self.old) (seen self.new)) }
+        ensures unchanged { IfNone result (SameOwed (seen self.old) (seen self.new)) }
+        ensures stays_closed { StaysClosed (seen self.old) (seen self.new) }
+        ensures own { for_others self.new user ≡ for_others self.old user }
+    {
+        if !self.poll_counted(user) {
+            return None;
+        }
+        Some(self.fetched().to_done())
+    }
+
+    /// Returns the number of tasks that are owed.
+    fn owed(&self) -> usize
+        ensures { result ≡ length (seen self.now).owed };
+
+    /// Returns whether the end is full: as many tasks are owed as may be, and at least one.
+    fn is_full(&self) -> bool
+        ensures most { result ≡ true ↔ (length (seen self.now).owed ≡ most) }
+        ensures room { result ≡ false → length (seen self.now).owed < MAX_OWED }
+        ensures owes { result ≡ true → 0 < length (seen self.now).owed };
+
+    /// Returns for how many tasks there is room now, 0 if the end is full. By default at most 1, for pools that gain nothing by
+    /// more.
+    fn room(&self) -> usize
+        ensures none { result ≡ 0 ↔ (length (seen self.now).owed ≡ most) }
+        ensures within { 0 < result → length (seen self.now).owed + result ≤ MAX_OWED }
+    {
+        usize::from(!self.is_full())
+    }
+
+    /// Returns whether the end has seen the pool closed.
+    fn closed(&self) -> bool
+        ensures { result ≡ (seen self.now).closed };
+}

@@ -1,0 +1,144 @@
+-- States whose steps are begun anew: what is to come of them, and that nothing is owed then where no step is pending.
+use Rattle.std.proofs.Common.{◌≡◌, ℕ, ◌<◌, ◌≤◌, nat_lt, List, [], ◌∷◌, map, Option, Some, None, refl, sym, ap}
+use Rattle.std.proofs.Common.{◌∙◌, subst, arith}
+use Rattle.std.specs.List.{IsDistinct, Contains, filter, sum_by}
+use Rattle.std.specs.Option.{option_map, option_map_or}
+use Rattle.std.specs.Str.{bytes_eq}
+use Rattle.std.proofs.lemmas.Bool.{ltb-true, ltb-false}
+use Rattle.std.proofs.lemmas.List.Sums.{sum_by-cons}
+use Rattle.std.proofs.lemmas.Option.{none-some, same_Some}
+use Rattle.lj_tile.specs.Task.{Task}
+use Rattle.lj_session.specs.UserState.{LiveSession, UserState, IsAtWork, live_session, pending_in, names, with_step_restarted, with_steps_restarted}
+use Rattle.lj_session.specs.Owner.{Owner, owner_of_state, label_of}
+use Rattle.lj_session.proofs.AtWork.{at_work-rested, kind-none}
+use Rattle.lj_session.proofs.Entries.{by_test, named-seen}
+use Rattle.lj_session.proofs.Holding.{pending-of}
+use Rattle.lj_engine.specs.Gathering.{IsGathered, is_of, tasks_posted_of, Gathers, NonePending}
+use Rattle.lj_engine.specs.Counting.{pending_tiles, tiles_pending}
+use Rattle.lj_engine.specs.Coming.{tiles_of_session, tiles_to_come}
+use Rattle.lj_engine.proofs.Sessions.{same_name, sum-below}
+use Rattle.lj_engine.proofs.Gathered.{Opened, owed_wanted, taken_open}
+use Rattle.lj_engine.proofs.Tiles.{rest-tiles, rest-pending, rest-more, rest-gathered, rest-posted, closed-part, closed-posted}
+
+-- sums over the sessions of a state begun anew
+rested-sum : (f g : LiveSession → ℕ) → ((held : LiveSession) → f (with_step_restarted held) ≡ g held) → (es : List (List ℕ × LiveSession))
+    → sum_by (λ (e : List ℕ × LiveSession). f e.1) (map (λ (e : List ℕ × LiveSession). (e.0, with_step_restarted e.1)) es)
+    ≡ sum_by (λ (e : List ℕ × LiveSession). g e.1) es
+rested-sum f g same [] = refl
+rested-sum f g same (e ∷ es) =
+    let new = sum_by-cons (λ (e : List ℕ × LiveSession). f e.1) (e.0, with_step_restarted e.1) (map (λ (e : List ℕ × LiveSession). (e.0, with_step_restarted e.1)) es) in
+    let old = sum_by-cons (λ (e : List ℕ × LiveSession). g e.1) e es in
+    let head = same e.1 in
+    let tail = rested-sum f g same es in
+    omega (arith, new, old, head, tail)
+
+pub rested-tiles : (state : UserState) → tiles_to_come (with_steps_restarted state) ≡ tiles_pending state
+rested-tiles state = rested-sum tiles_of_session pending_tiles rest-tiles state.sessions
+
+rested-pending_tiles : (state : UserState) → tiles_pending (with_steps_restarted state) ≡ tiles_pending state
+rested-pending_tiles state = rested-sum pending_tiles pending_tiles rest-pending state.sessions
+
+rested-there : (state : UserState) (name : List ℕ) → live_session (with_steps_restarted state) name ≡ option_map with_step_restarted (live_session state name)
+rested-there state name = named-seen with_step_restarted name state.sessions
+
+-- as many steps are pending in each session
+rest-count : (held : LiveSession) → (with_step_restarted held).pending ≡ held.pending
+rest-count held = by_test (nat_lt 0 held.pending) (λ t. rw t refl) (λ t. rw t refl)
+
+pub rested-pending : (state : UserState) (name : List ℕ) → pending_in (with_steps_restarted state) name ≡ pending_in state name
+rested-pending state name = ap (λ o. option_map_or (λ (h : LiveSession). h.pending) o 0) (rested-there state name) ∙ by (live_session state name)
+  where
+    by : (o : Option LiveSession) → option_map_or (λ (h : LiveSession). h.pending) (option_map with_step_restarted o) 0 ≡ option_map_or (λ (h : LiveSession). h.pending) o 0
+    by None = refl
+    by (Some held) = rest-count held
+
+-- no more is to come of a state than of the same begun anew
+pub rested-few : (owner : Owner) (owed : List Task) → Gathers owner owed → owner.waiting ≡ None
+    → tiles_to_come owner.state ≤ tiles_pending (with_steps_restarted owner.state)
+rested-few owner owed t idle =
+    let below = sum-below tiles_of_session owner.state.sessions (with_steps_restarted owner.state).sessions t.distinct more in
+    let all = rested-tiles owner.state in
+    let same = rested-pending_tiles owner.state in
+    omega (arith, below, all, same)
+  where
+    work : IsAtWork None owner.state
+    work = subst (λ w. IsAtWork w owner.state) idle t.at_work
+
+    more : (name : List ℕ) (held : LiveSession) → live_session owner.state name ≡ Some held
+        → tiles_of_session held ≤ option_map_or tiles_of_session (live_session (with_steps_restarted owner.state) name) 0
+    more name held found =
+        let there = ap (λ o. option_map_or tiles_of_session o 0) (rested-there owner.state name ∙ ap (option_map with_step_restarted) found) in
+        let is = rest-tiles held in
+        let few = rest-more held (t.gathered name held found) (work name held found) in
+        omega (arith, there, is, few)
+
+-- an owner that has just been given a state is owed nothing
+pub gathers-entered : (state : UserState) (number : ℕ) → IsDistinct bytes_eq (names (with_steps_restarted state)) → Gathers (owner_of_state state number) []
+gathers-entered state number distinct = record {
+  at_work = at_work-rested state;
+  waits = tt;
+  distinct = distinct;
+  gathered = λ name held found. by name held found (live_session state name) refl;
+  each = λ name. sym (posted name (live_session state name) refl);
+}
+  where
+    by : (name : List ℕ) (held : LiveSession) → live_session (with_steps_restarted state) name ≡ Some held → (o : Option LiveSession) → live_session state name ≡ o
+        → IsGathered held
+    by name held found None e = absurd (none-some held (sym (rested-there state name ∙ ap (option_map with_step_restarted) e) ∙ found))
+    by name held found (Some was) e =
+        subst IsGathered
+        (same_Some (with_step_restarted was) held (sym (rested-there state name ∙ ap (option_map with_step_restarted) e) ∙ found)) (rest-gathered was)
+
+    posted : (name : List ℕ) (o : Option LiveSession) → live_session state name ≡ o
+        → tasks_posted_of (label_of (owner_of_state state number) name) (live_session (with_steps_restarted state) name) ≡ []
+    posted name None e = ap (tasks_posted_of (label_of (owner_of_state state number) name)) (rested-there state name ∙ ap (option_map with_step_restarted) e)
+    posted name (Some was) e =
+        ap (tasks_posted_of (label_of (owner_of_state state number) name)) (rested-there state name ∙ ap (option_map with_step_restarted) e)
+        ∙ rest-posted was (label_of (owner_of_state state number) name)
+
+-- nothing waits, and these tasks are owed
+module _ (owner : Owner) (owed : List Task) (t : Gathers owner owed) (idle : owner.waiting ≡ None) where
+  work : IsAtWork None owner.state
+  work = subst (λ w. IsAtWork w owner.state) idle t.at_work
+
+  none_posted : (name : List ℕ) → pending_in owner.state name ≡ 0 → (o : Option LiveSession) → live_session owner.state name ≡ o
+      → tasks_posted_of (label_of owner name) (live_session owner.state name) ≡ []
+  none_posted name none None e = ap (tasks_posted_of (label_of owner name)) e
+  none_posted name none (Some held) e =
+      ap (tasks_posted_of (label_of owner name)) e
+      ∙ closed-posted held (label_of owner name) (closed-part held.live.part
+      (work name held e ∙ kind-none None name held (pending-of owner.state name held e none) refl))
+
+  -- the session of a task has a pending step
+  not_none : (w : Task) (ws : List Task) → owed ≡ w ∷ ws → pending_in owner.state w.name.label.session ≡ 0 → ⊥
+  not_none w ws e none =
+      let name = w.name.label.session in
+      let empty : filter (is_of name) (w ∷ ws) ≡ [] =
+      ap (filter (is_of name)) (sym e) ∙ t.each name ∙ none_posted name none (live_session owner.state name) refl in
+      let here = same_name name in
+      absurd (let k = rw here at empty in cc)
+
+  -- where the sessions have no pending steps, the pool owes nothing
+  pub none-owed : NonePending (with_steps_restarted owner.state) → owed ≡ []
+  none-owed none = by owed refl
+    where
+      by : (ws : List Task) → owed ≡ ws → owed ≡ []
+      by [] e = e
+      by (w ∷ ws) e =
+          absurd (not_none w ws e (sym (rested-pending owner.state w.name.label.session) ∙ none w.name.label.session))
+
+  -- the session of each task that it owes has a pending step
+  pub owed-pending : (task : Task) → Contains owed task → 0 < pending_in owner.state task.name.label.session
+  owed-pending task there =
+      by_test (nat_lt 0 (pending_in owner.state name)) (λ yes. ltb-true 0 (pending_in owner.state name) yes)
+      (λ no. absurd (let none = ltb-false 0 (pending_in owner.state name) no in closed (omega (arith, none))))
+    where
+      name : List ℕ
+      name = task.name.label.session
+
+      opened : Opened owner owed t name
+      opened = taken_open owner owed t task (owed_wanted owner owed t task there)
+
+      closed : pending_in owner.state name ≡ 0 → ⊥
+      closed none = none-some opened.step (sym (closed-part opened.held.live.part (work name opened.held opened.there
+          ∙ kind-none None name opened.held (pending-of owner.state name opened.held opened.there none) refl)) ∙ opened.is_open)

@@ -1,0 +1,23 @@
+use Rattle.std.proofs.Common.{◌+◌, [], ◌∷◌, length, ap, sym, subst, arith}
+use Rattle.std.proofs.lemmas.List.{length-append}
+use Rattle.lj_session.specs.Cursors.{IsPostedTo}
+use Rattle.lj_engine.specs.Posting.{AreNext, after_posts}
+use Rattle.lj_engine.proofs.Posts.{after_more, next_more}
+use Rattle.lj_engine.proofs.running.add_next.Goals as goal
+
+pub loop-here-preserved : goal.loop-here-preserved
+loop-here-preserved c =
+    let owner = c.args.owner.now in
+    let here = c.loop-here._here in
+    let tasks = c.loop-here.tasks in
+    let before = c.loop-here.invariant in
+    let some = c.in-Some.ensures.task (after_posts here owner) before.at in
+    let grown = ap length c.push.ensures in
+    let longer = length-append tasks (c.in-Some.task ∷ []) in
+    record {
+      count = omega (arith, grown, longer, before.count);
+      next = subst (λ list. AreNext (here + 1) list owner) (sym c.push.ensures)
+          (next_more owner tasks here c.in-Some.task before.count before.next some);
+      at = subst (λ later. IsPostedTo c.args.cursor.now c.in-Some.next owner later) (sym (after_more here owner))
+          (c.in-Some.ensures.moved (after_posts here owner) before.at);
+    }

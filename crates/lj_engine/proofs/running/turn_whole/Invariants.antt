@@ -1,0 +1,12 @@
+use Rattle.std.proofs.Common.{◌≡◌}
+use Rattle.lj_engine.specs.Coming.{GoesOn, turns_coming}
+use Rattle.lj_engine.proofs.running.turn_whole.Given as goal
+
+abbrev pub invariant-loop-name : goal.invariant-loop-name
+invariant-loop-name g l = record {
+  goes : GoesOn l.initial.owner (g.P.Pool.seen l.initial.pool) l.owner (g.P.Pool.seen l.pool);
+  own : g.P.Pool.for_others l.pool l.initial.owner.number ≡ g.P.Pool.for_others l.initial.pool l.initial.owner.number;
+}
+
+abbrev pub decreases-loop-name : goal.decreases-loop-name
+decreases-loop-name g l = turns_coming l.owner

@@ -1,0 +1,214 @@
+use Rattle.std.proofs.Common.{◌≡◌, refl, sym, ap, ◌∙◌, subst}
+use Rattle.lj_session.specs.Owner.{Owner}
+use Rattle.lj_wire.specs.Ends.{Rises}
+use Rattle.lj_engine.specs.declared.served.Served.TheVariants as served
+use Rattle.lj_engine.specs.Served.{HasCause, Serves}
+use Rattle.lj_engine.proofs.Dialogues.{serving-ceases, serving-fails, serving-stops, serving-halts, serving-breaks}
+use Rattle.lj_engine.proofs.Dialogues.{serving-more, serving-ends, ceases_open, fails_open}
+use Rattle.lj_engine.proofs.Ending.{halted_on}
+use Rattle.lj_engine.proofs.Handing.{entered_serving, entered_gathers, ahead_idle, ahead_serving, ahead_pending, back_few, given, hands_back}
+use Rattle.lj_engine.proofs.ItemEnds.{halt_cause, has_cause, item_cause, no_item_ends}
+use Rattle.lj_engine.proofs.serving.serve_lines.Goals as goal
+
+pub items-init : goal.items-init
+items-init g c = record {
+  serving =
+      entered_serving c.args.state c.args.user c.new-owner.result c.new-owner.ensures.value c.args.lines.now
+      (g.W.Sink.contents c.args.writer.now) (g.P.Pool.seen c.args.pool.now) c.requires.fresh c.requires.at_work;
+  gathers =
+      entered_gathers c.args.state c.args.user c.new-owner.result c.new-owner.ensures.value (g.P.Pool.seen c.args.pool.now)
+      c.requires.none_owed c.new-owner.ensures.distinct;
+  idle = ap (λ (o : Owner). o.waiting) c.new-owner.ensures.value;
+  number = ap (λ (o : Owner). o.number) c.new-owner.ensures.value;
+  faults = refl;
+  own = refl;
+  quota = ap (λ (o : Owner). o.state.quota) c.new-owner.ensures.value;
+}
+
+pub returns-in-Err-clause-dialogue : goal.returns-in-Err-clause-dialogue
+returns-in-Err-clause-dialogue g c =
+    let s = ahead_serving c.items.invariant.idle c.work_ahead.ensures.goes_on c.items.invariant.serving in
+    given (λ kind state. Serves kind c.args.state c.args.lines.now.left c.items.lines.left (g.W.Sink.contents c.args.writer.now)
+    (g.W.Sink.contents c.items.writer) (g.P.Pool.seen c.args.pool.now) (g.P.Pool.seen c.work_ahead.new.pool) state)
+    c.in-Err.halt c.given_up.result c.given_up.ensures.none c.given_up.ensures.served
+    (serving-stops c.args.state c.args.lines.now c.items.lines (g.W.Sink.contents c.args.writer.now)
+    (g.W.Sink.contents c.items.writer) (g.P.Pool.seen c.args.pool.now) (g.P.Pool.seen c.work_ahead.new.pool)
+    c.work_ahead.new.owner.state s c.in-Err.halt (g.P.Pool.seen c.work_ahead.new.pool) c.in-Err.ensures.many
+    (ahead_pending c.items.invariant.idle c.work_ahead.ensures.goes_on))
+
+pub returns-in-Err-clause-cause : goal.returns-in-Err-clause-cause
+returns-in-Err-clause-cause g c =
+    subst (λ kind. HasCause kind c.items.lines.left c.args.lines.now.errors c.items.lines.errors
+    (g.W.Sink.faults c.args.writer.now) (g.W.Sink.faults c.items.writer) (g.P.Pool.seen c.args.pool.now)
+    (g.P.Pool.seen c.work_ahead.new.pool)) (sym c.given_up.ensures.served)
+    (halt_cause c.items.lines.left c.args.lines.now.errors c.items.lines.errors (g.W.Sink.faults c.args.writer.now)
+    (g.W.Sink.faults c.items.writer) (g.P.Pool.seen c.args.pool.now) (g.P.Pool.seen c.work_ahead.new.pool) c.in-Err.halt
+    (halted_on c.in-Err.halt (g.P.Pool.seen c.args.pool.now) (g.P.Pool.seen c.items.pool)
+    (g.P.Pool.seen c.work_ahead.new.pool) c.items.invariant.serving.counted c.in-Err.ensures.halted))
+
+pub returns-in-Ok-false-clause-dialogue : goal.returns-in-Ok-false-clause-dialogue
+returns-in-Ok-false-clause-dialogue g c =
+    let none = c.in-Ok-false.ensures.none c.in-Ok-false.field-0-test in
+    let s = ahead_serving c.items.invariant.idle c.work_ahead.ensures.goes_on c.items.invariant.serving in
+    let idle = ahead_idle c.items.invariant.idle c.work_ahead.ensures.goes_on in
+    serving-ceases c.args.state c.args.lines.now c.items.lines (g.W.Sink.contents c.args.writer.now)
+    (g.W.Sink.contents c.items.writer) (g.P.Pool.seen c.args.pool.now) (g.P.Pool.seen c.work_ahead.new.pool)
+    c.work_ahead.new.owner.state s c.into_state.result c.into_state.ensures.user
+    (back_few c.work_ahead.new.owner (g.P.Pool.seen c.work_ahead.new.pool) c.work_ahead.ensures.goes_on.gathers idle
+    c.into_state.result c.into_state.ensures.state)
+    c.next_into.new.self (ceases_open c.items.lines c.next_into.new.self s.phase none)
+
+pub returns-in-Ok-false-clause-cause : goal.returns-in-Ok-false-clause-cause
+returns-in-Ok-false-clause-cause g c =
+    let none = c.in-Ok-false.ensures.none c.in-Ok-false.field-0-test in
+    has_cause c.next_into.new.self.left c.args.lines.now.errors c.next_into.new.self.errors (g.W.Sink.faults c.args.writer.now)
+    (g.W.Sink.faults c.items.writer) (g.P.Pool.seen c.args.pool.now) (g.P.Pool.seen c.work_ahead.new.pool) served.End
+    (ceases_open c.items.lines c.next_into.new.self c.items.invariant.serving.phase none).at_end
+
+pub returns-in-Ok-false-clause-handed_back : goal.returns-in-Ok-false-clause-handed_back
+returns-in-Ok-false-clause-handed_back g c =
+    hands_back c.work_ahead.new.owner (g.P.Pool.seen c.work_ahead.new.pool) c.work_ahead.ensures.goes_on.gathers
+    (ahead_idle c.items.invariant.idle c.work_ahead.ensures.goes_on)
+    c.into_state.result c.into_state.ensures.state
+    c.args.state (c.work_ahead.ensures.goes_on.quota ∙ c.items.invariant.quota)
+
+pub returns-in-Err-next_into-clause-dialogue : goal.returns-in-Err-next_into-clause-dialogue
+returns-in-Err-next_into-clause-dialogue g c =
+    let s = ahead_serving c.items.invariant.idle c.work_ahead.ensures.goes_on c.items.invariant.serving in
+    let idle = ahead_idle c.items.invariant.idle c.work_ahead.ensures.goes_on in
+    serving-fails c.args.state c.args.lines.now c.items.lines (g.W.Sink.contents c.args.writer.now)
+    (g.W.Sink.contents c.items.writer) (g.P.Pool.seen c.args.pool.now) (g.P.Pool.seen c.work_ahead.new.pool)
+    c.work_ahead.new.owner.state s c.into_state-in-Err-next_into.result c.into_state-in-Err-next_into.ensures.user
+    (back_few c.work_ahead.new.owner (g.P.Pool.seen c.work_ahead.new.pool) c.work_ahead.ensures.goes_on.gathers idle
+    c.into_state-in-Err-next_into.result c.into_state-in-Err-next_into.ensures.state)
+    c.next_into.new.self (fails_open c.items.lines c.next_into.new.self s.phase c.in-Err-next_into.ensures.fault)
+
+pub returns-in-Err-next_into-clause-cause : goal.returns-in-Err-next_into-clause-cause
+returns-in-Err-next_into-clause-cause g c =
+    let fails = fails_open c.items.lines c.next_into.new.self c.items.invariant.serving.phase c.in-Err-next_into.ensures.fault in
+    has_cause c.next_into.new.self.left c.args.lines.now.errors c.next_into.new.self.errors (g.W.Sink.faults c.args.writer.now)
+    (g.W.Sink.faults c.items.writer) (g.P.Pool.seen c.args.pool.now) (g.P.Pool.seen c.work_ahead.new.pool) served.ReadFault
+    (subst (λ errors. Rises errors c.next_into.new.self.errors) c.items.invariant.serving.errors fails.errors_rise)
+
+pub returns-in-Err-next_into-clause-handed_back : goal.returns-in-Err-next_into-clause-handed_back
+returns-in-Err-next_into-clause-handed_back g c =
+    hands_back c.work_ahead.new.owner (g.P.Pool.seen c.work_ahead.new.pool) c.work_ahead.ensures.goes_on.gathers
+    (ahead_idle c.items.invariant.idle c.work_ahead.ensures.goes_on)
+    c.into_state-in-Err-next_into.result c.into_state-in-Err-next_into.ensures.state
+    c.args.state (c.work_ahead.ensures.goes_on.quota ∙ c.items.invariant.quota)
+
+pub returns-in-Err-answer-clause-dialogue : goal.returns-in-Err-answer-clause-dialogue
+returns-in-Err-answer-clause-dialogue g c =
+    let item = c.in-Ok-true.ensures.item c.in-Ok-true.field-0-test in
+    let s = ahead_serving c.items.invariant.idle c.work_ahead.ensures.goes_on c.items.invariant.serving in
+    given (λ kind state. Serves kind c.args.state c.args.lines.now.left c.next_into.new.self.left
+    (g.W.Sink.contents c.args.writer.now) (g.W.Sink.contents c.items.writer) (g.P.Pool.seen c.args.pool.now)
+    (g.P.Pool.seen c.answer.new.pool) state)
+    c.in-Err-answer.halt c.given_up-in-Err-answer.result c.given_up-in-Err-answer.ensures.none
+    c.given_up-in-Err-answer.ensures.served
+    (serving-halts c.args.state c.args.lines.now c.items.lines (g.W.Sink.contents c.args.writer.now)
+    (g.W.Sink.contents c.items.writer) (g.P.Pool.seen c.args.pool.now) (g.P.Pool.seen c.work_ahead.new.pool)
+    c.work_ahead.new.owner.state s c.next_into.new.self c.next_into.new.item item
+    c.in-Err-answer.halt (g.P.Pool.seen c.answer.new.pool) c.in-Err-answer.ensures.unanswered.waits
+    c.in-Err-answer.ensures.unanswered.missing)
+
+pub returns-in-Err-answer-clause-cause : goal.returns-in-Err-answer-clause-cause
+returns-in-Err-answer-clause-cause g c =
+    let s = ahead_serving c.items.invariant.idle c.work_ahead.ensures.goes_on c.items.invariant.serving in
+    subst (λ kind. HasCause kind c.next_into.new.self.left c.args.lines.now.errors c.next_into.new.self.errors
+    (g.W.Sink.faults c.args.writer.now) (g.W.Sink.faults c.items.writer) (g.P.Pool.seen c.args.pool.now)
+    (g.P.Pool.seen c.answer.new.pool)) (sym c.given_up-in-Err-answer.ensures.served)
+    (halt_cause c.next_into.new.self.left c.args.lines.now.errors c.next_into.new.self.errors
+    (g.W.Sink.faults c.args.writer.now) (g.W.Sink.faults c.items.writer) (g.P.Pool.seen c.args.pool.now)
+    (g.P.Pool.seen c.answer.new.pool) c.in-Err-answer.halt
+    (halted_on c.in-Err-answer.halt (g.P.Pool.seen c.args.pool.now) (g.P.Pool.seen c.work_ahead.new.pool)
+    (g.P.Pool.seen c.answer.new.pool) s.counted c.in-Err-answer.ensures.halted))
+
+pub returns-in-Err-put_reply-clause-dialogue : goal.returns-in-Err-put_reply-clause-dialogue
+returns-in-Err-put_reply-clause-dialogue g c =
+    let item = c.in-Ok-true.ensures.item c.in-Ok-true.field-0-test in
+    let begun = rw c.state.ensures at c.in-Err-put_reply.ensures.begun in
+    let s = ahead_serving c.items.invariant.idle c.work_ahead.ensures.goes_on c.items.invariant.serving in
+    serving-breaks c.args.state c.args.lines.now c.items.lines (g.W.Sink.contents c.args.writer.now)
+    (g.W.Sink.contents c.items.writer) (g.P.Pool.seen c.args.pool.now) (g.P.Pool.seen c.work_ahead.new.pool)
+    c.work_ahead.new.owner.state s c.next_into.new.self c.next_into.new.item item
+    c.in-Ok-answer.reply c.answer.new.owner.state c.in-Ok-answer.ensures.answered.answered begun.0
+    (g.W.Sink.contents c.put_reply.new.writer) (g.P.Pool.seen c.answer.new.pool) c.into_state-in-Err-put_reply.result
+    c.into_state-in-Err-put_reply.ensures.user begun.1 begun.2
+
+pub returns-in-Err-put_reply-clause-cause : goal.returns-in-Err-put_reply-clause-cause
+returns-in-Err-put_reply-clause-cause g c =
+    has_cause c.next_into.new.self.left c.args.lines.now.errors c.next_into.new.self.errors (g.W.Sink.faults c.args.writer.now)
+    (g.W.Sink.faults c.put_reply.new.writer) (g.P.Pool.seen c.args.pool.now) (g.P.Pool.seen c.answer.new.pool)
+    served.WriteFault
+    (subst (λ faults. Rises faults (g.W.Sink.faults c.put_reply.new.writer)) c.items.invariant.faults
+    c.in-Err-put_reply.ensures.risen)
+
+pub returns-in-Err-put_reply-clause-handed_back : goal.returns-in-Err-put_reply-clause-handed_back
+returns-in-Err-put_reply-clause-handed_back g c =
+    let finished = c.in-Ok-answer.ensures.answered.finished in
+    hands_back c.answer.new.owner (g.P.Pool.seen c.answer.new.pool) finished.gathers finished.idle
+    c.into_state-in-Err-put_reply.result c.into_state-in-Err-put_reply.ensures.state
+    c.args.state (c.answer.ensures.same.quota ∙ c.work_ahead.ensures.goes_on.quota ∙ c.items.invariant.quota)
+
+pub returns-in-Some-clause-dialogue : goal.returns-in-Some-clause-dialogue
+returns-in-Some-clause-dialogue g c =
+    let item = c.in-Ok-true.ensures.item c.in-Ok-true.field-0-test in
+    let written = rw c.state.ensures at c.in_default-put_reply.ensures.written in
+    let s = ahead_serving c.items.invariant.idle c.work_ahead.ensures.goes_on c.items.invariant.serving in
+    let finished = c.in-Ok-answer.ensures.answered.finished in
+    serving-ends c.args.state c.args.lines.now c.items.lines (g.W.Sink.contents c.args.writer.now)
+    (g.W.Sink.contents c.items.writer) (g.P.Pool.seen c.args.pool.now) (g.P.Pool.seen c.work_ahead.new.pool)
+    c.work_ahead.new.owner.state s c.next_into.new.self c.next_into.new.item item
+    c.in-Ok-answer.reply c.answer.new.owner.state c.in-Ok-answer.ensures.answered.answered
+    (g.W.Sink.contents c.put_reply.new.writer) written (g.P.Pool.seen c.answer.new.pool) finished.counted finished.handed
+    c.into_state-in-Some.result c.into_state-in-Some.ensures.user
+    (back_few c.answer.new.owner (g.P.Pool.seen c.answer.new.pool) finished.gathers finished.idle
+    c.into_state-in-Some.result c.into_state-in-Some.ensures.state)
+    c.in-Some.served (sym c.ending_of-ending.ensures ∙ c.in-Some.is)
+
+pub returns-in-Some-clause-cause : goal.returns-in-Some-clause-cause
+returns-in-Some-clause-cause g c =
+    item_cause c.next_into.new.self.left c.args.lines.now.errors c.next_into.new.self.errors (g.W.Sink.faults c.args.writer.now)
+    (g.W.Sink.faults c.put_reply.new.writer) (g.P.Pool.seen c.args.pool.now) (g.P.Pool.seen c.answer.new.pool)
+    c.next_into.new.item c.in-Some.served (sym c.ending_of-ending.ensures ∙ c.in-Some.is)
+
+pub returns-in-Some-clause-all_read : goal.returns-in-Some-clause-all_read
+returns-in-Some-clause-all_read g c is =
+    no_item_ends c.next_into.new.item c.in-Some.served served.ReadFault (sym c.ending_of-ending.ensures ∙ c.in-Some.is) refl is
+
+pub returns-in-Some-clause-handed_back : goal.returns-in-Some-clause-handed_back
+returns-in-Some-clause-handed_back g c =
+    let finished = c.in-Ok-answer.ensures.answered.finished in
+    hands_back c.answer.new.owner (g.P.Pool.seen c.answer.new.pool) finished.gathers finished.idle
+    c.into_state-in-Some.result c.into_state-in-Some.ensures.state
+    c.args.state (c.answer.ensures.same.quota ∙ c.work_ahead.ensures.goes_on.quota ∙ c.items.invariant.quota)
+
+pub items-preserved : goal.items-preserved
+items-preserved g c =
+    let item = c.in-Ok-true.ensures.item c.in-Ok-true.field-0-test in
+    let written = rw c.state.ensures at c.in_default-put_reply.ensures.written in
+    let s = ahead_serving c.items.invariant.idle c.work_ahead.ensures.goes_on c.items.invariant.serving in
+    let answered = c.in-Ok-answer.ensures.answered in
+    record {
+      serving =
+          serving-more c.args.state c.args.lines.now c.items.lines (g.W.Sink.contents c.args.writer.now)
+          (g.W.Sink.contents c.items.writer) (g.P.Pool.seen c.args.pool.now) (g.P.Pool.seen c.work_ahead.new.pool)
+          c.work_ahead.new.owner.state s c.next_into.new.self c.next_into.new.item item
+          c.in-Ok-answer.reply c.answer.new.owner.state answered.answered (g.W.Sink.contents c.put_reply.new.writer)
+          written (g.P.Pool.seen c.answer.new.pool) answered.finished.counted answered.finished.handed
+          (sym c.ending_of-ending.ensures ∙ c.in_default-ending.is) answered.pending;
+      gathers = answered.finished.gathers;
+      idle = answered.finished.idle;
+      number = c.answer.ensures.same.number ∙ c.work_ahead.ensures.goes_on.number ∙ c.items.invariant.number;
+      faults = c.in_default-put_reply.ensures.counted ∙ c.items.invariant.faults;
+      own = subst (λ user. g.P.Pool.for_others c.answer.new.pool user ≡ g.P.Pool.for_others c.work_ahead.new.pool user)
+          (c.work_ahead.ensures.goes_on.number ∙ c.items.invariant.number) c.answer.ensures.own
+          ∙ subst (λ user. g.P.Pool.for_others c.work_ahead.new.pool user ≡ g.P.Pool.for_others c.items.pool user)
+          c.items.invariant.number c.work_ahead.ensures.own
+          ∙ c.items.invariant.own;
+      quota = c.answer.ensures.same.quota ∙ c.work_ahead.ensures.goes_on.quota ∙ c.items.invariant.quota;
+    }
+
+pub answer-requires-clause-idle : goal.answer-requires-clause-idle
+answer-requires-clause-idle g c = ahead_idle c.items.invariant.idle c.work_ahead.ensures.goes_on

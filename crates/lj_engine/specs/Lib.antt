@@ -1,0 +1,10 @@
+pub mod Gathering
+pub mod Counting
+pub mod PendingBounds
+pub mod Coming
+pub mod Running
+pub mod Endings
+pub mod Serving
+pub mod Served
+pub mod Writing
+pub mod Posting

@@ -1,0 +1,10 @@
+//! The engine, which serves a stream of commands over any pool.
+#![tactic(auto)]
+
+mod running;
+mod served;
+mod serving;
+mod writing;
+
+pub use served::Served;
+pub use serving::{serve, serve_lines};

@@ -1,0 +1,345 @@
+//! Runs the pending steps of sessions over a pool, while a command waits for them and before the next command is read.
+ghost use Rattle.std.specs.Prelude.{◌≡◌, ◌+◌, ◌<◌, ◌≤◌, length, ℕ, Bool, true, false, [], Some, None, Ok, IsSome, IfOk, IfErr, IfSome, OnErr};
+ghost use Rattle.lj_session.specs.Cursors.{IsPostedTo};
+ghost use Rattle.lj_session.specs.Owner.{next_task_of, ready_session};
+ghost use Rattle.lj_session.specs.UserState.{next_task};
+ghost use Rattle.lj_engine.specs.declared.running.Halt.TheVariants.{TooManyStrays};
+ghost use Rattle.lj_end.specs.Seen.{IsStray, SameOwed};
+ghost use Rattle.lj_engine.specs.Gathering.{Gathers};
+ghost use Rattle.lj_engine.specs.Counting.{FallsShort, StraysRise};
+ghost use Rattle.lj_engine.specs.Coming.{GoesOn, posts_coming, tiles_coming};
+ghost use Rattle.lj_engine.specs.Posting.{AreNext, after_posts};
+ghost use Rattle.lj_engine.specs.Running.{AnswersNext, AnswersPending, FetchesStray, IsHalted, IsSameUser, LeavesUnanswered};
+
+use lj_end::{MAX_AHEAD, MAX_POSTS, MAX_STRAYS, NotPosted, Pool, TaskList};
+use lj_session::{Begin, Owner, Refusal, Reply, TileCursor};
+use lj_wire::Item;
+
+/// Why the work was aborted.
+#[derive(Clone, Copy, PartialEq, Eq, Debug)]
+pub(crate) enum Halt {
+    PoolClosed,
+    TooManyStrays,
+}
+
+/// Answers an item: a command once the steps that it waits for are done. Afterwards the value of `item` is unspecified.
+pub(crate) fn answer<P: Pool>(
+    owner: &mut Owner,
+    pool: &mut P,
+    item: &mut Item,
+) -> Result<Reply, Halt>
+    requires idle { owner.old.waiting ≡ None }
+    requires gathers { Gathers owner.old (P.seen pool.old).owed }
+    ensures answered { IfOk result (λ reply.
+        AnswersNext owner.old item.old (P.seen pool.old) reply owner.new (P.seen pool.new)) }
+    ensures unanswered { OnErr result
+        (LeavesUnanswered owner.old item.old (P.seen pool.old) (P.seen pool.new)) }
+    ensures halted { IfErr result (λ halt. IsHalted halt (P.seen pool.old) (P.seen pool.new)) }
+    ensures same { IsSameUser owner.old owner.new }
+    ensures own { let user = owner.old.number in P.for_others pool.new user ≡ P.for_others pool.old user }
+{
+    match item {
+        Item::Command(command) => match owner.begin_from(command) {
+            Begin::Answered(reply) => Ok(reply),
+            Begin::Running => run(owner, pool),
+        },
+        Item::Bad(fault) | Item::Last(fault) => Ok(Reply::Refused(Refusal::from(*fault))),
+    }
+}
+
+/// Runs the steps of all sessions until the waiting command is answered.
+fn run<P: Pool>(owner: &mut Owner, pool: &mut P) -> Result<Reply, Halt>
+    requires waits { IsSome owner.old.waiting }
+    requires gathers { Gathers owner.old (P.seen pool.old).owed }
+    ensures answered { IfOk result (λ reply.
+        AnswersPending owner.old (P.seen pool.old) reply owner.new (P.seen pool.new)) }
+    ensures missing { OnErr result (FallsShort (tiles_coming owner.old) (P.seen pool.old) (P.seen pool.new)) }
+    ensures halted { IfErr result (λ halt. IsHalted halt (P.seen pool.old) (P.seen pool.new)) }
+    ensures same { IsSameUser owner.old owner.new }
+    ensures own { let user = owner.old.number in P.for_others pool.new user ≡ P.for_others pool.old user }
+{
+    let mut strays = 0;
+    loop {
+        if let Some(name) = owner.ready_session() {
+            if let Some(reply) = owner.turn_session(&name) {
+                return Ok(reply);
+            }
+            poll_next(owner, pool);
+            post_next(owner, pool, false)?;
+            strays = 0;
+        } else if !post_or_wait(owner, pool)? {
+            strays = strays_after(strays, fetch_next(owner, pool)?)?;
+            if poll_and_post(owner, pool) {
+                strays = 0;
+            }
+        }
+    }
+}
+
+/// Runs pending steps, if there may be some, before the next command is read: takes in the results that are there, turns whole
+/// steps, posts tasks while there is room, and fetches until few tasks are owed. The last poll wakes the workers for the posted
+/// tasks. Returns whether steps are still pending.
+pub(crate) fn work_ahead<P: Pool>(
+    owner: &mut Owner,
+    pool: &mut P,
+    has_pending: bool,
+) -> Result<bool, Halt>
+    requires idle { owner.old.waiting ≡ None }
+    requires gathers { Gathers owner.old (P.seen pool.old).owed }
+    ensures goes_on { GoesOn owner.old (P.seen pool.old) owner.new (P.seen pool.new) }
+    ensures many { OnErr result (MAX_AHEAD < length (P.seen pool.new).owed) }
+    ensures halted { IfErr result (λ halt. IsHalted halt (P.seen pool.old) (P.seen pool.new)) }
+    ensures own { let user = owner.old.number in P.for_others pool.new user ≡ P.for_others pool.old user }
+{
+    if !has_pending {
+        return Ok(false);
+    }
+    poll_all(owner, pool);
+    turn_whole(owner, pool);
+    post_all(owner, pool);
+    fetch_down(owner, pool)?;
+    poll_all(owner, pool);
+    Ok(owner.is_busy())
+}
+
+/// Takes in the results that are there now. Returns whether one of them was of an awaited tile.
+fn poll_all<P: Pool>(owner: &mut Owner, pool: &mut P) -> bool
+    requires gathers { Gathers owner.old (P.seen pool.old).owed }
+    ensures goes_on { GoesOn owner.old (P.seen pool.old) owner.new (P.seen pool.new) }
+    ensures fewer { result ≡ true → tiles_coming owner.new < tiles_coming owner.old }
+    ensures own { let user = owner.old.number in P.for_others pool.new user ≡ P.for_others pool.old user }
+{
+    let mut some = false;
+    for _ in 0..pool.owed() {
+        let Some(taken) = poll_next(owner, pool) else {
+            break;
+        };
+        some = some || taken;
+    }
+    some
+}
+
+/// Turns sessions until none is whole. Between two turns it takes in a result and posts a task, so that a session whose steps
+/// have no tiles does not hold the others up.
+fn turn_whole<P: Pool>(owner: &mut Owner, pool: &mut P)
+    requires idle { owner.old.waiting ≡ None }
+    requires gathers { Gathers owner.old (P.seen pool.old).owed }
+    ensures goes_on { GoesOn owner.old (P.seen pool.old) owner.new (P.seen pool.new) }
+    ensures own { let user = owner.old.number in P.for_others pool.new user ≡ P.for_others pool.old user }
+{
+    while let Some(name) = owner.ready_session() {
+        let _none = owner.turn_session(&name);
+        poll_next(owner, pool);
+        let _posted = post_next(owner, pool, false);
+    }
+}
+
+/// Posts tasks while there is room, several at once if the pool has room for several.
+fn post_all<P: Pool>(owner: &mut Owner, pool: &mut P)
+    requires gathers { Gathers owner.old (P.seen pool.old).owed }
+    ensures goes_on { GoesOn owner.old (P.seen pool.old) owner.new (P.seen pool.new) }
+    ensures own { let user = owner.old.number in P.for_others pool.new user ≡ P.for_others pool.old user }
+{
+    while post_some(owner, pool) {}
+}
+
+/// Posts the next tasks together, as many as there is room for. Returns false if there was none, or if not all were posted.
+fn post_some<P: Pool>(owner: &mut Owner, pool: &mut P) -> bool
+    requires gathers { Gathers owner.old (P.seen pool.old).owed }
+    ensures goes_on { GoesOn owner.old (P.seen pool.old) owner.new (P.seen pool.new) }
+    ensures fewer { result ≡ true → posts_coming owner.new < posts_coming owner.old }
+    ensures own { let user = owner.old.number in P.for_others pool.new user ≡ P.for_others pool.old user }
+{
+    let Some(cursor) = owner.first_tile() else {
+        return false;
+    };
+    let (count, posted) = {
+        let mut tasks = TaskList::new();
+        add_next(owner, &cursor, pool.room().min(MAX_POSTS), &mut tasks);
+        let count = tasks.len();
+        if count == 0 {
+            return false;
+        }
+        (count, pool.post_some(&tasks))
+    };
+    note_posted(owner, posted);
+    posted == count
+}
+
+/// Adds the next tasks of the cursor's session, from the cursor at the first of them on, to a list without tasks: `most` of them,
+/// or all if there are fewer. It posts none.
+fn add_next<'a>(owner: &'a Owner, cursor: &'a TileCursor, most: usize, tasks: &mut TaskList<'a>)
+    requires first { IsPostedTo cursor.now cursor.now.from owner.now owner.now }
+    requires few { most ≤ MAX_POSTS }
+    requires empty { tasks.old ≡ [] }
+    ensures most { length tasks.new ≤ most }
+    ensures next { AreNext (length tasks.new) tasks.new owner.now }
+    ensures all { length tasks.new < most
+        → next_task (after_posts (length tasks.new) owner.now).state cursor.now.label ≡ None }
+{
+    let mut from = cursor.from();
+    for _here in 0..most {
+        let Some((task, next)) = owner.task_from(cursor, from) else {
+            return;
+        };
+        tasks.push(task);
+        from = next;
+    }
+}
+
+/// Records the next `posted` tasks as posted.
+#[tactic(auto, using(crate::proofs::Posts::after_more))]
+fn note_posted(owner: &mut Owner, posted: usize)
+    requires { (k : ℕ) → k < posted → IsSome (next_task_of (after_posts k owner.old)) }
+    ensures { owner.new ≡ after_posts posted owner.old }
+{
+    for _done in 0..posted {
+        owner.posted();
+    }
+}
+
+/// Fetches results until few tasks are owed.
+fn fetch_down<P: Pool>(owner: &mut Owner, pool: &mut P) -> Result<(), Halt>
+    requires gathers { Gathers owner.old (P.seen pool.old).owed }
+    ensures goes_on { GoesOn owner.old (P.seen pool.old) owner.new (P.seen pool.new) }
+    ensures many { OnErr result (MAX_AHEAD < length (P.seen pool.new).owed) }
+    ensures halted { IfErr result (λ halt. IsHalted halt (P.seen pool.old) (P.seen pool.new)) }
+    ensures own { let user = owner.old.number in P.for_others pool.new user ≡ P.for_others pool.old user }
+{
+    let mut strays = 0;
+    while pool.owed() > MAX_AHEAD {
+        strays = strays_after(strays, fetch_next(owner, pool)?)?;
+    }
+    Ok(())
+}
+
+/// Posts the next task, and waits for room only if nothing is owed. Returns false if there is no task or no room; then something
+/// is owed.
+fn post_or_wait<P: Pool>(owner: &mut Owner, pool: &mut P) -> Result<bool, Halt>
+    requires waits { IsSome owner.old.waiting }
+    requires none_ready { ready_session owner.old ≡ None }
+    requires gathers { Gathers owner.old (P.seen pool.old).owed }
+    ensures goes_on { GoesOn owner.old (P.seen pool.old) owner.new (P.seen pool.new) }
+    ensures fewer { IfOk result (λ posted. posted ≡ true → posts_coming owner.new < posts_coming owner.old) }
+    ensures owes { IfOk result (λ posted. posted ≡ false → 0 < length (P.seen pool.new).owed) }
+    ensures awaits { OnErr result (0 < tiles_coming owner.new) }
+    ensures halted { IfErr result (λ halt. IsHalted halt (P.seen pool.old) (P.seen pool.new)) }
+    ensures own { let user = owner.old.number in P.for_others pool.new user ≡ P.for_others pool.old user }
+{
+    let wait = pool.owed() == 0;
+    post_next(owner, pool, wait)
+}
+
+/// Posts the next task. Returns false if there is none, or if the pool has no room now.
+fn post_next<P: Pool>(owner: &mut Owner, pool: &mut P, wait: bool) -> Result<bool, Halt>
+    requires gathers { Gathers owner.old (P.seen pool.old).owed }
+    requires alone { wait ≡ true → (P.seen pool.old).owed ≡ [] }
+    ensures goes_on { GoesOn owner.old (P.seen pool.old) owner.new (P.seen pool.new) }
+    ensures fewer { IfOk result (λ posted. posted ≡ true → posts_coming owner.new < posts_coming owner.old) }
+    ensures owes { (wait ≡ false → 0 < length (P.seen pool.old).owed) → IsSome owner.old.waiting
+        → ready_session owner.old ≡ None
+        → IfOk result (λ posted. posted ≡ false → 0 < length (P.seen pool.new).owed) }
+    ensures awaits { OnErr result (0 < tiles_coming owner.new) }
+    ensures halted { IfErr result (λ halt. IsHalted halt (P.seen pool.old) (P.seen pool.new)) }
+    ensures own { let user = owner.old.number in P.for_others pool.new user ≡ P.for_others pool.old user }
+{
+    if pool.is_full() {
+        return Ok(false);
+    }
+    let Some(cursor) = owner.first_tile() else {
+        return Ok(false);
+    };
+    let Some(task) = owner.first_task(&cursor) else {
+        return Ok(false);
+    };
+    match pool.post_from(&task, wait) {
+        Ok(()) => {
+            owner.posted();
+            Ok(true)
+        }
+        Err(NotPosted::Full) => Ok(false),
+        Err(NotPosted::Closed) => Err(Halt::PoolClosed),
+    }
+}
+
+/// Takes in the results that are there now, and then posts tasks while there is room, so that the workers get many at once.
+/// Returns whether one of the results was of an awaited tile.
+fn poll_and_post<P: Pool>(owner: &mut Owner, pool: &mut P) -> bool
+    requires gathers { Gathers owner.old (P.seen pool.old).owed }
+    ensures goes_on { GoesOn owner.old (P.seen pool.old) owner.new (P.seen pool.new) }
+    ensures fewer { result ≡ true → tiles_coming owner.new < tiles_coming owner.old }
+    ensures own { let user = owner.old.number in P.for_others pool.new user ≡ P.for_others pool.old user }
+{
+    let taken = poll_all(owner, pool);
+    post_all(owner, pool);
+    taken
+}
+
+/// Fetches a result and takes it in. Returns false, and drops it, if it is of no awaited tile.
+fn fetch_next<P: Pool>(owner: &mut Owner, pool: &mut P) -> Result<bool, Halt>
+    requires gathers { Gathers owner.old (P.seen pool.old).owed }
+    requires owes { 0 < length (P.seen pool.old).owed }
+    ensures goes_on { GoesOn owner.old (P.seen pool.old) owner.new (P.seen pool.new) }
+    ensures fewer { IfOk result (λ taken. taken ≡ true → tiles_coming owner.new < tiles_coming owner.old) }
+    ensures stray { IfOk result (λ taken. taken ≡ false
+        → FetchesStray owner.new (P.seen pool.old) (P.seen pool.new)) }
+    ensures unchanged { OnErr result (SameOwed (P.seen pool.old) (P.seen pool.new)) }
+    ensures awaits_still { OnErr result (0 < tiles_coming owner.new) }
+    ensures halted { IfErr result (λ halt. IsHalted halt (P.seen pool.old) (P.seen pool.new)) }
+    ensures own { let user = owner.old.number in P.for_others pool.new user ≡ P.for_others pool.old user }
+{
+    if !pool.fetch_uncounted(owner.user()) {
+        return Err(Halt::PoolClosed);
+    }
+    Ok(accept_and_count(owner, pool))
+}
+
+/// Takes in a result that is there now. Returns `Some(false)`, and drops it, if it is of no awaited tile; `None` if there is no
+/// result.
+fn poll_next<P: Pool>(owner: &mut Owner, pool: &mut P) -> Option<bool>
+    requires gathers { Gathers owner.old (P.seen pool.old).owed }
+    ensures goes_on { GoesOn owner.old (P.seen pool.old) owner.new (P.seen pool.new) }
+    ensures fewer { IfSome result (λ taken. taken ≡ true → tiles_coming owner.new < tiles_coming owner.old) }
+    ensures stray { IfSome result (λ taken. taken ≡ false → StraysRise 1 (P.seen pool.old) (P.seen pool.new)) }
+    ensures own { let user = owner.old.number in P.for_others pool.new user ≡ P.for_others pool.old user }
+{
+    if !pool.poll_uncounted(owner.user()) {
+        return None;
+    }
+    Some(accept_and_count(owner, pool))
+}
+
+/// Takes in the result that the pool shows, and has the pool count it. Returns false if it is of no awaited tile. The task of an
+/// awaited tile was compared as it was taken in, so the pool finds it by its name.
+fn accept_and_count<P: Pool>(owner: &mut Owner, pool: &mut P) -> bool
+    requires gathers { Gathers owner.old (P.seen pool.old).owed }
+    requires uncounted { P.is_uncounted pool.old }
+    ensures goes_on { GoesOn owner.old (P.seen pool.old) owner.new (P.seen pool.new) }
+    ensures fewer { result ≡ true → tiles_coming owner.new < tiles_coming owner.old }
+    ensures stray { result ≡ false → IsStray (P.last pool.old) (P.seen pool.old) (P.seen pool.new) }
+    ensures own { (user : ℕ) → P.for_others pool.new user ≡ P.for_others pool.old user }
+{
+    if owner.accept_from(&pool.fetched()).is_err() {
+        pool.count();
+        return false;
+    }
+    pool.count_by_name();
+    true
+}
+
+/// Returns the number of consecutive strays after one more result.
+fn strays_after(strays: u64, taken: bool) -> Result<u64, Halt>
+    requires { strays < MAX_STRAYS }
+    ensures taken { taken ≡ true → result ≡ Ok 0 }
+    ensures stray { taken ≡ false → IfOk result (λ row. (row ≡ strays + 1) × (row < MAX_STRAYS)) }
+    ensures many { OnErr result ((taken ≡ false) × (strays + 1 ≡ MAX_STRAYS)) }
+    ensures halt { IfErr result (λ halt. halt ≡ TooManyStrays) }
+{
+    if taken {
+        return Ok(0);
+    }
+    if strays + 1 == MAX_STRAYS {
+        return Err(Halt::TooManyStrays);
+    }
+    Ok(strays + 1)
+}

@@ -1,0 +1,101 @@
+//! A stream of commands served over a pool.
+ghost use Rattle.std.specs.Prelude.{◌≡◌, [], None, IfSome};
+ghost use Rattle.lj_wire.specs.declared.reader.phase.Phase.TheVariants.{Open};
+ghost use Rattle.lj_engine.specs.declared.served.Served.TheVariants as served;
+ghost use Rattle.lj_engine.specs.Endings.{served_of};
+ghost use Rattle.lj_engine.specs.Served.{HandsBack, HasCause, Serves};
+
+use crate::running::{Halt, answer, work_ahead};
+use crate::served::{Served, ending_of};
+use crate::writing::put_reply;
+use lj_end::Pool;
+use lj_session::{Command, Owner, UserState};
+use lj_wire::{Fault, Item, Line, LineReader, ReadFault, Sink, Source, WriteFault};
+use std::alloc::Global;
+
+/// Serves a stream of commands from a user's state on, over a pool that owes nothing, and writes the replies to what it reads.
+/// Returns the state, with the pending steps of its sessions, unless the pool was given up; how serving ended; and the reader.
+/// The pool is asked for no other user.
+///
+/// Promise: over any pool, what is written is the dialogue of what is read, or a front of it where a write failed, and the state
+/// handed back is that after the items answered. Where the pool is given up, the replies before that are written, and no state is
+/// handed back.
+pub fn serve<R: Source, W: Sink, P: Pool>(
+    alloc: Global,
+    state: UserState,
+    user: u8,
+    reader: R,
+    writer: &mut W,
+    pool: &mut P,
+) -> (Option<UserState>, Served, R)
+    requires none_owed { (P.seen pool.old).owed ≡ [] }
+    ensures dialogue { Serves result.1 state (R.remaining reader) (R.remaining result.2)
+        (W.contents writer.old) (W.contents writer.new) (P.seen pool.old) (P.seen pool.new) result.0 }
+    ensures cause { HasCause result.1 (R.remaining result.2) (R.errors reader) (R.errors result.2)
+        (W.faults writer.old) (W.faults writer.new) (P.seen pool.old) (P.seen pool.new) }
+    ensures handed_back { IfSome result.0 (HandsBack state (P.seen pool.new)) }
+    ensures own { P.for_others pool.new user ≡ P.for_others pool.old user }
+{
+    let mut lines = LineReader::new(alloc, reader);
+    let (state, served) = serve_lines(state, user, &mut lines, writer, pool);
+    (state, served, lines.into_source())
+}
+
+/// Answers the items of a reader that has handed out none, over a pool that owes nothing, from a user's state on. Returns the
+/// state, unless the pool was given up. Flushes the writer before it waits for more input, and not after the last reply.
+pub fn serve_lines<R: Source, W: Sink, P: Pool>(
+    state: UserState,
+    user: u8,
+    lines: &mut LineReader<R>,
+    writer: &mut W,
+    pool: &mut P,
+) -> (Option<UserState>, Served)
+    requires fresh { lines.old.items ≡ 0 }
+    requires at_work { lines.old.phase ≡ Open }
+    requires none_owed { (P.seen pool.old).owed ≡ [] }
+    ensures dialogue { Serves result.1 state lines.old.left lines.new.left
+        (W.contents writer.old) (W.contents writer.new) (P.seen pool.old) (P.seen pool.new) result.0 }
+    ensures cause { HasCause result.1 lines.new.left lines.old.errors lines.new.errors
+        (W.faults writer.old) (W.faults writer.new) (P.seen pool.old) (P.seen pool.new) }
+    ensures all_read { result.1 ≡ served.ReadFault → lines.new.held ≡ [] }
+    ensures handed_back { IfSome result.0 (HandsBack state (P.seen pool.new)) }
+    ensures own { P.for_others pool.new user ≡ P.for_others pool.old user }
+{
+    let mut owner = Owner::new(state, user);
+    let mut line = Line::new();
+    let mut item = Item::Bad(Fault::Syntax);
+    let mut has_pending = true;
+    'items: loop {
+        has_pending = match work_ahead(&mut owner, pool, has_pending) {
+            Ok(has_pending) => has_pending,
+            Err(halt) => return given_up(owner, halt),
+        };
+        match lines.next_into(&mut item) {
+            Ok(true) => {}
+            Ok(false) => return (Some(owner.into_state()), Served::End),
+            Err(ReadFault) => return (Some(owner.into_state()), Served::ReadFault),
+        }
+        let ending = ending_of(&item);
+        has_pending = has_pending || matches!(&item, Item::Command(Command::Start { .. }));
+        let reply = match answer(&mut owner, pool, &mut item) {
+            Ok(reply) => reply,
+            Err(halt) => return given_up(owner, halt),
+        };
+        let flushes = ending.is_none() && !lines.holds_item();
+        if let Err(WriteFault) = put_reply(writer, &mut line, owner.state(), &reply, flushes) {
+            return (Some(owner.into_state()), Served::WriteFault);
+        }
+        if let Some(served) = ending {
+            return (Some(owner.into_state()), served);
+        }
+    }
+}
+
+/// Returns how serving ends where the pool is given up, without the state.
+fn given_up(owner: Owner, halt: Halt) -> (Option<UserState>, Served)
+    ensures none { result.0 ≡ None }
+    ensures served { result.1 ≡ served_of halt }
+{
+    owner.abandon();
+    (None, Served::from(halt))
+}

@@ -1,0 +1,2 @@
+pub mod EndBoxLemmas
+pub mod CopyLemmas

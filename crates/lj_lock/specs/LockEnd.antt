@@ -1,0 +1,11 @@
+-- One connection's end of a pool behind a lock.
+use Rattle.std.specs.Prelude.{ℕ, List}
+use Rattle.lj_tile.specs.Task.{Task}
+use Rattle.lj_end.specs.Seen.{Seen}
+
+-- what the end has seen, the task of the result handed out last, those of the results in hand, and the number of spare boxes
+pub record LockEnd : Type 0 where
+  pub seen : Seen
+  pub last : Task
+  pub hand : List Task
+  pub spare : ℕ

@@ -1,0 +1,12 @@
+//! A pool behind a lock, whose workers run in threads of their own.
+#![tactic(auto)]
+
+mod end_boxes;
+mod lock_end;
+mod lock_pool;
+mod pool_state;
+mod working;
+
+pub use lock_end::LockEnd;
+pub use lock_pool::LockPool;
+pub use working::{gather, work};

@@ -1,9 +1,0 @@
-use Rattle.lj_pool.specs.EndBoxes.{SameResults}
-use Rattle.lj_pool.proofs.lock.lock_pool.LockPool.fetch.Given as goal
-
-abbrev pub invariant-loop : goal.invariant-loop
-invariant-loop g l = record {
-  next : (goal.iterator-loop g).can_next l.iterator';
-  finite : (goal.iterator-loop g).is_finite l.iterator';
-  results : SameResults l.fn.own l.own;
-}

@@ -1,6 +1,0 @@
-use Rattle.std.specs.Prelude.{◌≤◌}
-use Rattle.lj_pool.proofs.lock.working.work.Given as goal
-
-abbrev pub invariant-loop : goal.invariant-loop
-invariant-loop g l =
-    (goal.iterator-loop g).can_next l.iterator' × (goal.iterator-loop g).is_finite l.iterator' × (l.fn.share ≤ l.share)

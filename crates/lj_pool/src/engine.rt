@@ -1,8 +1,0 @@
-//! The engine, which serves a stream of commands over any pool.
-mod running;
-mod served;
-mod serving;
-mod writing;
-
-pub use served::Served;
-pub use serving::{serve, serve_lines};

@@ -1,0 +1,139 @@
+//! A pool behind a lock, as the worker pool of a server.
+ghost use Rattle.std.specs.Prelude.{◌≡◌, ◌∷◌, [], None, IfOk, sum};
+ghost use Rattle.lj_visit.specs.Events.{Happens};
+ghost use Rattle.lj_visit.specs.Events.Event.{withdrawn};
+
+use crate::serve::visitor::Visitor;
+use crate::serve::worker_pool::WorkerPool;
+use lj_access::{Denied, Ticket};
+use lj_base::{Name, OutOfMemory, Token};
+use lj_book::Counts;
+use lj_end::Share;
+use lj_lock::{LockEnd, LockPool, gather, work};
+use lj_table::Table;
+use lj_visit::{Backend, LentState, Shut, UserEnd, Visited, visit};
+use lj_wire::{LineReader, Sink, Source};
+use log::{Log, info};
+use std::alloc::{AllocError, Global};
+use std::rt::Clock;
+use std::sync::Wait;
+use std::sync::ledger::{Blank, Ledger};
+
+/// A pool behind a lock.
+#[derive(Drop)]
+pub struct LockWorkers<L: Ledger> {
+    pool: LockPool<L>,
+}
+
+impl<L: Ledger> LockWorkers<L> {
+    /// Makes an empty pool, with the state of each worker.
+    ///
+    /// # Errors
+    /// Out of memory.
+    pub fn new(
+        alloc: Global,
+        blank: Blank,
+        workers: usize,
+    ) -> Result<(LockWorkers<L>, Vec<Share<L>>), AllocError>
+        requires name { blank.name ≡ L.name }
+        requires parts { blank.parts ≡ L.parts }
+        requires one_each { blank.parts ≡ workers }
+    {
+        let (pool, shares) = LockPool::new(alloc, blank, workers)?;
+        Ok((LockWorkers { pool }, shares))
+    }
+
+    /// Returns the number of results given to the pool: the sum of the shares of all its workers. Logs the counts of the tasks.
+    ///
+    /// # Errors
+    /// Out of memory if some shares are lost, since a worker had no thread.
+    pub fn gather<R: Wait + Log>(
+        self,
+        rt: &R,
+        workers: usize,
+        states: Vec<Share<L>>,
+    ) -> Result<u64, OutOfMemory>
+        requires { workers ≡ L.parts }
+        ensures { IfOk result (λ total. total ≡ sum states.items) }
+    {
+        if states.len() != workers {
+            return Err(OutOfMemory);
+        }
+        let Counts {
+            posted,
+            fetched,
+            withdrawn,
+            ..
+        } = self.pool.counts(rt);
+        info!(rt; "the book: {posted} tasks posted, {fetched} fetched, {withdrawn} withdrawn");
+        Ok(gather(rt, &self.pool, states))
+    }
+}
+
+/// The backend of a visit over a pool behind a lock.
+#[derive(Drop)]
+struct LockBackend<'v, 's, L: Ledger, R> {
+    visitor: &'v mut Visitor<'s, R>,
+    pool: &'s LockPool<L>,
+}
+
+impl<'s, L: Ledger, R: Wait + Clock + Log> Backend for LockBackend<'_, 's, L, R> {
+    type End = LockEnd<'s, L, R>;
+
+    ghost events = { λ _. None };
+
+    fn hello(&mut self, name: &Name, token: &Token) -> Result<Ticket, Denied> {
+        self.visitor.hello(name, token)
+    }
+
+    fn enter(&mut self, ticket: Ticket, held: bool) -> Result<LentState, Shut> {
+        self.visitor.enter(ticket, held)
+    }
+
+    fn open(&mut self, user: u8) -> UserEnd<LockEnd<'s, L, R>> {
+        self.visitor.note_entry();
+        let pool = self.pool.end(self.visitor.rt);
+        UserEnd { pool, user }
+    }
+
+    fn finish(&mut self, end: UserEnd<LockEnd<'s, L, R>>)
+        ensures { Happens None None (withdrawn end.entry.user end.entry.pool.seen 0 ∷ []) }
+    {
+        self.pool.withdraw(self.visitor.rt, end.user);
+        end.pool.finish();
+    }
+
+    fn leave(&mut self, lent: LentState) {
+        self.visitor.leave(lent);
+    }
+
+    fn close(&mut self) {
+        self.pool.close(self.visitor.rt);
+        self.visitor.directory.close(self.visitor.rt);
+    }
+}
+
+impl<L: Ledger + Send> WorkerPool for LockWorkers<L> {
+    type WorkerState = Share<L>;
+
+    fn visit<'s, R: Wait + Clock + Log, S: Source, W: Sink>(
+        &'s self,
+        visitor: &mut Visitor<'s, R>,
+        lines: &mut LineReader<S>,
+        writer: &mut W,
+    ) -> Visited {
+        let mut backend = LockBackend {
+            visitor,
+            pool: &self.pool,
+        };
+        visit(&mut backend, lines, writer)
+    }
+
+    fn work<R: Wait>(&self, rt: &R, state: Share<L>, table: &Table) -> Share<L> {
+        work(rt, &self.pool, state, &(), table)
+    }
+
+    fn close<R: Wait>(&self, rt: &R) {
+        self.pool.close(rt);
+    }
+}

@@ -1,0 +1,167 @@
+//! A server: threads of workers, and one thread for each connection.
+ghost use Rattle.std.specs.Prelude.{◌≡◌, ◌+◌, ◌≤◌, length};
+ghost use Rattle.lj_program.specs.Named.{AreUsers};
+
+use crate::serve::connection_limit::MAX_OPEN_CONNECTIONS;
+use crate::serve::lock_workers::LockWorkers;
+use crate::serve::queue_workers::QueueWorkers;
+use crate::serve::socket_connection::Server;
+use crate::serve::worker_pool::{Kept, WorkerPool};
+use lj_access::{Directory, User};
+use lj_base::OutOfMemory;
+use lj_queue::{CONNECTIONS, PoolIdentity, QueueBlank};
+use log::{Log, info};
+use std::alloc::Global;
+use std::marker::Brand;
+use std::net::TcpListener;
+use std::rt::Clock;
+use std::sync::Wait;
+use std::sync::ledger::{Blank, Ledger};
+use std::thread;
+use std::thread::Threads;
+use std::time::Duration;
+
+/// The milliseconds that the server waits after a connection could not be accepted, so that descriptors or memory may become
+/// free.
+const PAUSE_MILLIS: u64 = 100;
+
+/// Serves these users on a listener, with this many workers, and keeps open tasks as `kept` says. Each connection is served in a
+/// thread of its own, at most 64 at once; one more is closed without a byte. Accepts `connections` in all, with those that are
+/// closed so. Returns the number of tiles computed for them, once all have ended.
+///
+/// # Errors
+/// Out of memory before anything is accepted, or no thread for a worker.
+pub fn serve_on<R: Threads + Wait + Clock + Log + Sync>(
+    rt: &R,
+    alloc: Global,
+    listener: &TcpListener,
+    users: Vec<User>,
+    workers: usize,
+    connections: u64,
+    kept: Kept,
+) -> Result<u64, OutOfMemory>
+    requires users { AreUsers users.items }
+    requires some { 1 ≤ length users.items }
+{
+    let directory = Directory::new(alloc, users)?;
+    let listening = Listening {
+        listener,
+        connections,
+    };
+    match kept {
+        Kept::Lock => {
+            let blank = Blank::new(workers as u64);
+            serve_by_lock::<Brand, R>(rt, alloc, blank, directory, workers, listening)
+        }
+        Kept::Queue => {
+            let blank = QueueBlank::new(alloc, workers as u64)?;
+            serve_by_queue::<Brand, R>(rt, alloc, blank, directory, workers, listening)
+        }
+    }
+}
+
+/// The listener for connections, and how many of them are accepted.
+#[derive(Clone, Copy)]
+struct Listening<'a> {
+    listener: &'a TcpListener,
+    connections: u64,
+}
+
+fn serve_by_lock<L: Ledger + Send + Sync, R: Threads + Wait + Clock + Log + Sync>(
+    rt: &R,
+    alloc: Global,
+    blank: Blank,
+    directory: Directory,
+    workers: usize,
+    listening: Listening<'_>,
+) -> Result<u64, OutOfMemory>
+    requires name { blank.name ≡ L.name }
+    requires parts { blank.parts ≡ L.parts }
+    requires one_each { blank.parts ≡ workers }
+{
+    let (pool, states) = LockWorkers::<L>::new(alloc, blank, workers)?;
+    let server = Server::new(alloc, directory, pool);
+    let states = run_workers(rt, &server, states, listening)?;
+    server.pool.gather(rt, workers, states)
+}
+
+fn serve_by_queue<L: PoolIdentity + Send + Sync, R: Threads + Wait + Clock + Log + Sync>(
+    rt: &R,
+    alloc: Global,
+    blank: QueueBlank,
+    directory: Directory,
+    workers: usize,
+    listening: Listening<'_>,
+) -> Result<u64, OutOfMemory>
+    requires name { blank.name ≡ L.name }
+    requires parts { blank.parts ≡ L.parts }
+    requires one_each { blank.parts ≡ workers }
+    requires table { blank.table ≡ L.table }
+    requires passes { workers + CONNECTIONS ≡ L.passes }
+{
+    let (pool, states) = QueueWorkers::<L>::new(alloc, blank, workers)?;
+    let server = Server::new(alloc, directory, pool);
+    let states = run_workers(rt, &server, states, listening)?;
+    server.pool.gather(rt, workers, states)
+}
+
+/// Answers connections while workers compute, and then closes the pool. Returns the workers' states; if a worker has
+/// no thread, nothing is accepted, and its state is lost.
+fn run_workers<'a, P: WorkerPool + Sync, R: Threads + Wait + Clock + Log + Sync>(
+    rt: &'a R,
+    server: &'a Server<P>,
+    states: Vec<P::WorkerState>,
+    listening: Listening<'a>,
+) -> Result<Vec<P::WorkerState>, OutOfMemory> {
+    let count = states.len();
+    let mut threads = Vec::with_capacity(server.alloc, count)?;
+    let mut done = Vec::with_capacity(server.alloc, count)?;
+    Ok(thread::scope(thread::scope_env(), rt, move |scope| {
+        for state in states {
+            if let Ok(worker) = scope.spawn(move || server.pool.work(rt, state, &server.table)) {
+                let _ = threads.push(worker);
+            }
+        }
+        if threads.len() == count {
+            answer_all(rt, server, listening);
+        }
+        server.close(rt);
+        for worker in threads {
+            let _ = done.push(worker.join(rt));
+        }
+        done
+    }))
+}
+
+/// Accepts this many connections, and returns when all of them have ended.
+fn answer_all<'a, P: WorkerPool + Sync, R: Threads + Wait + Clock + Log + Sync>(
+    rt: &'a R,
+    server: &'a Server<P>,
+    listening: Listening<'a>,
+) {
+    let Listening {
+        listener,
+        connections,
+    } = listening;
+    thread::scope(thread::scope_env(), rt, move |scope| {
+        for number in 0..connections {
+            let Ok((stream, from)) = listener.accept() else {
+                info!(rt; "connection {number}: not accepted");
+                thread::sleep(rt, Duration::from_millis(PAUSE_MILLIS));
+                continue;
+            };
+            let Some(permit) = server.limit.permit() else {
+                info!(rt; "connection {number}: closed, since {MAX_OPEN_CONNECTIONS} others are open");
+                continue;
+            };
+            info!(rt; "connection {number}: from {from}");
+            let served = scope.spawn(move || {
+                server.serve_connection(rt, number, &stream);
+                drop(permit);
+            });
+            if served.is_err() {
+                info!(rt; "connection {number}: closed, since it has no thread");
+            }
+        }
+    });
+}
