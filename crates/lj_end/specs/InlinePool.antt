@@ -1,19 +1,20 @@
 -- A pool without threads: its state, and what its end has seen.
-use Rattle.std.specs.Prelude.{ℕ, false, List, [], ◌∷◌, Option, Some, None}
+use Rattle.std.specs.Prelude.{ℕ, Bool, false, List, [], ◌∷◌, Option, Some, None}
 use Rattle.lj_tile.specs.Blank.{blank_task}
 use Rattle.lj_tile.specs.Task.{Task}
 use Rattle.lj_end.specs.Seen.{Seen}
 
--- the task of the result that is owed, if there is one; the number of results handed out, saturating; and the task of the result in its
--- slot, owed or handed out
+-- the task of the result that is owed, if there is one; whether it was taken, and is not counted yet; the number of results counted,
+-- saturating; and the task of the result in its slot, owed or handed out
 pub record InlinePool : Type 0 where
   pub owed : Option Task
+  pub taken : Bool
   pub expected : ℕ
   pub last : Task
 
--- no result is owed, none is counted, and the task in its slot is blank
+-- no result is owed or taken, none is counted, and the task in its slot is blank
 abbrev pub empty_pool : InlinePool
-empty_pool = record { owed = None; expected = 0; last = blank_task }
+empty_pool = record { owed = None; taken = false; expected = 0; last = blank_task }
 
 -- the task that is there, if there is one
 abbrev pub tasks_in : Option Task → List Task

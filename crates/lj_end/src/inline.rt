@@ -19,20 +19,25 @@ pub struct InlinePool {
     slot: Done,
     /// Whether the result in the slot is still owed.
     is_owed: bool,
+    /// Whether it was taken, and is not counted yet.
+    is_taken: bool,
     expected: u64,
 }
 
 impl Model for InlinePool {
-    ghost use Rattle.std.specs.Prelude.{Some, None, if◌then◌else◌};
+    ghost use Rattle.std.specs.Prelude.{◌≡◌, Some, None, true, if◌then◌else◌};
     ghost use Rattle.lj_end.specs.InlinePool.{InlinePool};
 
     ghost Value = { InlinePool };
 
     ghost view = { λ pool. record {
       owed = if pool.is_owed then Some pool.slot else None;
+      taken = pool.is_taken;
       expected = pool.expected;
       last = pool.slot;
     } };
+
+    ghost invariant = { λ pool. pool.is_taken ≡ true → pool.is_owed ≡ true };
 }
 
 impl InlinePool {
@@ -44,6 +49,7 @@ impl InlinePool {
             table,
             slot: Done::blank(),
             is_owed: false,
+            is_taken: false,
             expected: 0,
         }
     }
@@ -54,7 +60,7 @@ impl Pool for InlinePool {
 
     ghost last = { λ pool. pool.last };
 
-    ghost is_uncounted = { λ pool. IsSome pool.owed };
+    ghost uncounted = { λ pool. pool.taken };
 
     ghost for_others = { λ _ _. 0 };
 
@@ -65,6 +71,7 @@ impl Pool for InlinePool {
         ensures posted { OnOk result (self.new ≡ record self.old { owed = Some task.now; last = task.now }) }
         ensures full { IfErr result (λ why. why ≡ Full) }
         ensures unchanged { OnErr result (self.new ≡ self.old) }
+        ensures shown { self.old.taken ≡ true → self.new.last ≡ self.old.last }
     {
         if self.is_owed {
             return Err(NotPosted::Full);
@@ -77,25 +84,29 @@ impl Pool for InlinePool {
     fn fetch_uncounted(&mut self, _user: u8) -> bool
         ensures some { result ≡ true ↔ IsSome self.old.owed }
         ensures owed { result ≡ true → self.old.owed ≡ Some self.new.last }
-        ensures unchanged { self.new ≡ self.old }
+        ensures taken { self.new ≡ record self.old { taken = result } }
+        ensures none_taken { result ≡ false → self.old.taken ≡ false }
     {
-        self.is_owed
+        self.is_taken = self.is_owed;
+        self.is_taken
     }
 
     fn poll_uncounted(&mut self, user: u8) -> bool
         ensures some { result ≡ true ↔ IsSome self.old.owed }
         ensures owed { result ≡ true → self.old.owed ≡ Some self.new.last }
-        ensures unchanged { self.new ≡ self.old }
+        ensures taken { self.new ≡ record self.old { taken = result } }
+        ensures none_taken { result ≡ false → self.old.taken ≡ false }
     {
         self.fetch_uncounted(user)
     }
 
     fn count(&mut self)
-        requires { IsSome self.old.owed }
+        requires { self.old.taken ≡ true }
         ensures owed { self.old.owed ≡ Some self.old.last }
-        ensures taken_off { self.new ≡ record self.old { owed = None; expected = one_more self.old.expected } }
+        ensures taken_off { self.new ≡ record self.old { owed = None; taken = false; expected = one_more self.old.expected } }
     {
         self.is_owed = false;
+        self.is_taken = false;
         self.expected = self.expected.saturating_add(1);
     }
 

@@ -1,5 +1,5 @@
 //! The interface of a pool to a caller who posts tasks: an end that takes tasks and hands out results.
-ghost use Rattle.std.specs.Prelude.{◌≡◌, ◌+◌, ◌<◌, ◌≤◌, ◌↔◌, ℕ, length, take, true, false, [], IfErr, IfNone, IfSome, OnErr, OnOk};
+ghost use Rattle.std.specs.Prelude.{◌≡◌, ◌+◌, ◌<◌, ◌≤◌, ◌↔◌, ℕ, Bool, length, take, true, false, [], IfErr, IfNone, IfSome, OnErr, OnOk, OnSome};
 ghost use Rattle.std.specs.List.{All};
 ghost use Rattle.lj_tile.specs.Task.{Task};
 ghost use Rattle.lj_end.specs.declared.pool.NotPosted.TheVariants.{Closed};
@@ -53,15 +53,15 @@ pub enum Refused {
 /// Tasks and results are large, so most calls pass them by reference; `post`, `fetch` and `poll` copy them.
 ///
 /// Promise: a task that was posted is owed until its result is handed out, and each result that is handed out is
-/// counted, as owed or as a stray, or left to be counted by `count` or `count_by_name`.
+/// counted, as owed or as a stray, or is the next one again until it is counted.
 pub trait Pool {
     ghost seen: { Self → Seen };
 
     // the task of the result that `fetched` returns
     ghost last: { Self → Task };
 
-    // the result that `fetched` returns is not counted yet
-    ghost is_uncounted: { Self → Type 0 };
+    // whether the result that `fetched` returns was taken, and is not counted yet
+    ghost uncounted: { Self → Bool };
 
     // how often the end was called for a user other than this one, by a task of another user, or by a fetch or poll for
     // another, where the pool counts that
@@ -79,30 +79,39 @@ pub trait Pool {
         ensures full { wait ≡ true → IfErr result (λ why. why ≡ Closed) }
         ensures closed { IfErr result (λ why. why ≡ Closed → (seen self.new).closed ≡ true) }
         ensures stays_closed { StaysClosed (seen self.old) (seen self.new) }
+        ensures kept { uncounted self.new ≡ uncounted self.old }
+        ensures shown { uncounted self.old ≡ true → last self.new ≡ last self.old }
         ensures own { let user = task.now.name.label.user in for_others self.new user
             ≡ for_others self.old user };
 
-    /// Takes the next result for a user, waits for it if there is none, and leaves it to be counted; `fetched` returns it. False
-    /// only if the pool is closed.
+    /// Takes the next result for a user, waits for it if there is none, and leaves it to be counted; `fetched` returns it. One that
+    /// is not counted yet is the next one again, so none is lost. False only if the pool is closed.
     fn fetch_uncounted(&mut self, user: u8) -> bool
         requires { 0 < length (seen self.old).owed }
-        ensures uncounted { result ≡ true → is_uncounted self.new }
+        ensures uncounted { result ≡ true → uncounted self.new ≡ true }
+        ensures as_before { result ≡ false → uncounted self.new ≡ uncounted self.old }
+        ensures again { uncounted self.old ≡ true → last self.new ≡ last self.old }
+        ensures last { result ≡ false → last self.new ≡ last self.old }
         ensures unchanged { SameOwed (seen self.old) (seen self.new) }
         ensures closed { result ≡ false → (seen self.new).closed ≡ true }
         ensures stays_closed { StaysClosed (seen self.old) (seen self.new) }
         ensures own { for_others self.new user ≡ for_others self.old user };
 
-    /// Takes the next result for a user if one is there now, and leaves it to be counted; `fetched` returns it. It never waits for
-    /// a worker. It may return false at any time.
+    /// Takes the next result for a user if one is there now, and leaves it to be counted; `fetched` returns it. One that is not
+    /// counted yet is the next one again. It never waits for a worker. It may return false at any time.
     fn poll_uncounted(&mut self, user: u8) -> bool
-        ensures uncounted { result ≡ true → is_uncounted self.new }
+        ensures uncounted { result ≡ true → uncounted self.new ≡ true }
+        ensures as_before { result ≡ false → uncounted self.new ≡ uncounted self.old }
+        ensures again { uncounted self.old ≡ true → last self.new ≡ last self.old }
+        ensures last { result ≡ false → last self.new ≡ last self.old }
         ensures unchanged { SameOwed (seen self.old) (seen self.new) }
         ensures stays_closed { StaysClosed (seen self.old) (seen self.new) }
         ensures own { for_others self.new user ≡ for_others self.old user };
 
     /// Counts the result that `fetched` returns: as one that was owed, whose task is then owed no more, or as a stray.
     fn count(&mut self)
-        requires { is_uncounted self.old }
+        requires { uncounted self.old ≡ true }
+        ensures counted { uncounted self.new ≡ false }
         ensures last { last self.new ≡ last self.old }
         ensures handed_out { IsHandedOut (last self.old) (seen self.old) (seen self.new) }
         ensures stays_closed { StaysClosed (seen self.old) (seen self.new) }
@@ -111,8 +120,9 @@ pub trait Pool {
     /// Counts the result that `fetched` returns, as `count` does, where the name of its task is enough to find it among those that
     /// are owed.
     fn count_by_name(&mut self)
-        requires uncounted { is_uncounted self.old }
+        requires uncounted { uncounted self.old ≡ true }
         requires known { IsKnownByName (seen self.old).owed (last self.old) }
+        ensures counted { uncounted self.new ≡ false }
         ensures last { last self.new ≡ last self.old }
         ensures handed_out { IsHandedOut (last self.old) (seen self.old) (seen self.new) }
         ensures stays_closed { StaysClosed (seen self.old) (seen self.new) }
@@ -129,6 +139,9 @@ pub trait Pool {
         ensures unchanged { result ≡ false → SameOwed (seen self.old) (seen self.new) }
         ensures closed { result ≡ false → (seen self.new).closed ≡ true }
         ensures stays_closed { StaysClosed (seen self.old) (seen self.new) }
+        ensures counted { result ≡ true → uncounted self.new ≡ false }
+        ensures as_before { result ≡ false → uncounted self.new ≡ uncounted self.old }
+        ensures last { result ≡ false → last self.new ≡ last self.old }
         ensures own { for_others self.new user ≡ for_others self.old user }
     {
         let fetched = self.fetch_uncounted(user);
@@ -144,6 +157,9 @@ pub trait Pool {
         ensures handed_out { result ≡ true → IsHandedOut (last self.new) (seen self.old) (seen self.new) }
         ensures unchanged { result ≡ false → SameOwed (seen self.old) (seen self.new) }
         ensures stays_closed { StaysClosed (seen self.old) (seen self.new) }
+        ensures counted { result ≡ true → uncounted self.new ≡ false }
+        ensures as_before { result ≡ false → uncounted self.new ≡ uncounted self.old }
+        ensures last { result ≡ false → last self.new ≡ last self.old }
         ensures own { for_others self.new user ≡ for_others self.old user }
     {
         let polled = self.poll_uncounted(user);
@@ -153,7 +169,7 @@ pub trait Pool {
         polled
     }
 
-    /// Returns the result that was handed out last. The end keeps it until the next post, fetch or poll.
+    /// Returns the result that was handed out last. The end keeps it until the next post, fetch or poll, and until it is counted.
     fn fetched(&self) -> DoneRef<'_>
         ensures { result ≡ last self.now };
 
@@ -163,6 +179,8 @@ pub trait Pool {
         ensures most { result ≤ length tasks.now }
         ensures posted { ArePosted (take result tasks.now) (seen self.old) (seen self.new) }
         ensures stays_closed { StaysClosed (seen self.old) (seen self.new) }
+        ensures kept { uncounted self.new ≡ uncounted self.old }
+        ensures shown { uncounted self.old ≡ true → last self.new ≡ last self.old }
         ensures own { (user : ℕ) → All (λ task. task.name.label.user ≡ user) tasks.now
             → for_others self.new user ≡ for_others self.old user }
     {
@@ -184,6 +202,8 @@ pub trait Pool {
         ensures full { wait ≡ true → IfErr result IsClosed }
         ensures closed { IfErr result (λ refused. IsClosed refused → (seen self.new).closed ≡ true) }
         ensures stays_closed { StaysClosed (seen self.old) (seen self.new) }
+        ensures kept { uncounted self.new ≡ uncounted self.old }
+        ensures shown { uncounted self.old ≡ true → last self.new ≡ last self.old }
         ensures own { let user = task.name.label.user in for_others self.new user ≡ for_others self.old user }
     {
         match self.post_from(&task.by_ref(), wait) {
@@ -200,6 +220,8 @@ pub trait Pool {
         ensures unchanged { IfNone result (SameOwed (seen self.old) (seen self.new)) }
         ensures closed { IfNone result ((seen self.new).closed ≡ true) }
         ensures stays_closed { StaysClosed (seen self.old) (seen self.new) }
+        ensures counted { OnSome result (uncounted self.new ≡ false) }
+        ensures as_before { IfNone result (uncounted self.new ≡ uncounted self.old) }
         ensures own { for_others self.new user ≡ for_others self.old user }
     {
         if !self.fetch_counted(user) {
@@ -214,6 +236,8 @@ pub trait Pool {
         ensures handed_out { IfSome result (λ done. IsHandedOut done (seen self.old) (seen self.new)) }
         ensures unchanged { IfNone result (SameOwed (seen self.old) (seen self.new)) }
         ensures stays_closed { StaysClosed (seen self.old) (seen self.new) }
+        ensures counted { OnSome result (uncounted self.new ≡ false) }
+        ensures as_before { IfNone result (uncounted self.new ≡ uncounted self.old) }
         ensures own { for_others self.new user ≡ for_others self.old user }
     {
         if !self.poll_counted(user) {

@@ -36,6 +36,7 @@ pub(crate) fn answer<P: Pool>(
         (LeavesUnanswered owner.old item.old (P.seen pool.old) (P.seen pool.new)) }
     ensures halted { IfErr result (λ halt. IsHalted halt (P.seen pool.old) (P.seen pool.new)) }
     ensures same { IsSameUser owner.old owner.new }
+    ensures counted { P.uncounted pool.old ≡ false → P.uncounted pool.new ≡ false }
     ensures own { let user = owner.old.number in P.for_others pool.new user ≡ P.for_others pool.old user }
 {
     match item {
@@ -56,6 +57,7 @@ fn run<P: Pool>(owner: &mut Owner, pool: &mut P) -> Result<Reply, Halt>
     ensures missing { OnErr result (FallsShort (tiles_coming owner.old) (P.seen pool.old) (P.seen pool.new)) }
     ensures halted { IfErr result (λ halt. IsHalted halt (P.seen pool.old) (P.seen pool.new)) }
     ensures same { IsSameUser owner.old owner.new }
+    ensures counted { P.uncounted pool.old ≡ false → P.uncounted pool.new ≡ false }
     ensures own { let user = owner.old.number in P.for_others pool.new user ≡ P.for_others pool.old user }
 {
     let mut strays = 0;
@@ -89,6 +91,7 @@ pub(crate) fn work_ahead<P: Pool>(
     ensures goes_on { GoesOn owner.old (P.seen pool.old) owner.new (P.seen pool.new) }
     ensures many { OnErr result (MAX_AHEAD < length (P.seen pool.new).owed) }
     ensures halted { IfErr result (λ halt. IsHalted halt (P.seen pool.old) (P.seen pool.new)) }
+    ensures counted { P.uncounted pool.old ≡ false → P.uncounted pool.new ≡ false }
     ensures own { let user = owner.old.number in P.for_others pool.new user ≡ P.for_others pool.old user }
 {
     if !has_pending {
@@ -107,6 +110,7 @@ fn poll_all<P: Pool>(owner: &mut Owner, pool: &mut P) -> bool
     requires gathers { Gathers owner.old (P.seen pool.old).owed }
     ensures goes_on { GoesOn owner.old (P.seen pool.old) owner.new (P.seen pool.new) }
     ensures fewer { result ≡ true → tiles_coming owner.new < tiles_coming owner.old }
+    ensures counted { P.uncounted pool.old ≡ false → P.uncounted pool.new ≡ false }
     ensures own { let user = owner.old.number in P.for_others pool.new user ≡ P.for_others pool.old user }
 {
     let mut some = false;
@@ -125,6 +129,7 @@ fn turn_whole<P: Pool>(owner: &mut Owner, pool: &mut P)
     requires idle { owner.old.waiting ≡ None }
     requires gathers { Gathers owner.old (P.seen pool.old).owed }
     ensures goes_on { GoesOn owner.old (P.seen pool.old) owner.new (P.seen pool.new) }
+    ensures counted { P.uncounted pool.old ≡ false → P.uncounted pool.new ≡ false }
     ensures own { let user = owner.old.number in P.for_others pool.new user ≡ P.for_others pool.old user }
 {
     while let Some(name) = owner.ready_session() {
@@ -138,6 +143,7 @@ fn turn_whole<P: Pool>(owner: &mut Owner, pool: &mut P)
 fn post_all<P: Pool>(owner: &mut Owner, pool: &mut P)
     requires gathers { Gathers owner.old (P.seen pool.old).owed }
     ensures goes_on { GoesOn owner.old (P.seen pool.old) owner.new (P.seen pool.new) }
+    ensures counted { P.uncounted pool.old ≡ false → P.uncounted pool.new ≡ false }
     ensures own { let user = owner.old.number in P.for_others pool.new user ≡ P.for_others pool.old user }
 {
     while post_some(owner, pool) {}
@@ -148,6 +154,7 @@ fn post_some<P: Pool>(owner: &mut Owner, pool: &mut P) -> bool
     requires gathers { Gathers owner.old (P.seen pool.old).owed }
     ensures goes_on { GoesOn owner.old (P.seen pool.old) owner.new (P.seen pool.new) }
     ensures fewer { result ≡ true → posts_coming owner.new < posts_coming owner.old }
+    ensures counted { P.uncounted pool.old ≡ false → P.uncounted pool.new ≡ false }
     ensures own { let user = owner.old.number in P.for_others pool.new user ≡ P.for_others pool.old user }
 {
     let Some(cursor) = owner.first_tile() else {
@@ -204,6 +211,7 @@ fn fetch_down<P: Pool>(owner: &mut Owner, pool: &mut P) -> Result<(), Halt>
     ensures goes_on { GoesOn owner.old (P.seen pool.old) owner.new (P.seen pool.new) }
     ensures many { OnErr result (MAX_AHEAD < length (P.seen pool.new).owed) }
     ensures halted { IfErr result (λ halt. IsHalted halt (P.seen pool.old) (P.seen pool.new)) }
+    ensures counted { P.uncounted pool.old ≡ false → P.uncounted pool.new ≡ false }
     ensures own { let user = owner.old.number in P.for_others pool.new user ≡ P.for_others pool.old user }
 {
     let mut strays = 0;
@@ -224,6 +232,7 @@ fn post_or_wait<P: Pool>(owner: &mut Owner, pool: &mut P) -> Result<bool, Halt>
     ensures owes { IfOk result (λ posted. posted ≡ false → 0 < length (P.seen pool.new).owed) }
     ensures awaits { OnErr result (0 < tiles_coming owner.new) }
     ensures halted { IfErr result (λ halt. IsHalted halt (P.seen pool.old) (P.seen pool.new)) }
+    ensures counted { P.uncounted pool.old ≡ false → P.uncounted pool.new ≡ false }
     ensures own { let user = owner.old.number in P.for_others pool.new user ≡ P.for_others pool.old user }
 {
     let wait = pool.owed() == 0;
@@ -241,6 +250,7 @@ fn post_next<P: Pool>(owner: &mut Owner, pool: &mut P, wait: bool) -> Result<boo
         → IfOk result (λ posted. posted ≡ false → 0 < length (P.seen pool.new).owed) }
     ensures awaits { OnErr result (0 < tiles_coming owner.new) }
     ensures halted { IfErr result (λ halt. IsHalted halt (P.seen pool.old) (P.seen pool.new)) }
+    ensures counted { P.uncounted pool.old ≡ false → P.uncounted pool.new ≡ false }
     ensures own { let user = owner.old.number in P.for_others pool.new user ≡ P.for_others pool.old user }
 {
     if pool.is_full() {
@@ -268,6 +278,7 @@ fn poll_and_post<P: Pool>(owner: &mut Owner, pool: &mut P) -> bool
     requires gathers { Gathers owner.old (P.seen pool.old).owed }
     ensures goes_on { GoesOn owner.old (P.seen pool.old) owner.new (P.seen pool.new) }
     ensures fewer { result ≡ true → tiles_coming owner.new < tiles_coming owner.old }
+    ensures counted { P.uncounted pool.old ≡ false → P.uncounted pool.new ≡ false }
     ensures own { let user = owner.old.number in P.for_others pool.new user ≡ P.for_others pool.old user }
 {
     let taken = poll_all(owner, pool);
@@ -286,6 +297,7 @@ fn fetch_next<P: Pool>(owner: &mut Owner, pool: &mut P) -> Result<bool, Halt>
     ensures unchanged { OnErr result (SameOwed (P.seen pool.old) (P.seen pool.new)) }
     ensures awaits_still { OnErr result (0 < tiles_coming owner.new) }
     ensures halted { IfErr result (λ halt. IsHalted halt (P.seen pool.old) (P.seen pool.new)) }
+    ensures counted { P.uncounted pool.old ≡ false → P.uncounted pool.new ≡ false }
     ensures own { let user = owner.old.number in P.for_others pool.new user ≡ P.for_others pool.old user }
 {
     if !pool.fetch_uncounted(owner.user()) {
@@ -301,6 +313,7 @@ fn poll_next<P: Pool>(owner: &mut Owner, pool: &mut P) -> Option<bool>
     ensures goes_on { GoesOn owner.old (P.seen pool.old) owner.new (P.seen pool.new) }
     ensures fewer { IfSome result (λ taken. taken ≡ true → tiles_coming owner.new < tiles_coming owner.old) }
     ensures stray { IfSome result (λ taken. taken ≡ false → StraysRise 1 (P.seen pool.old) (P.seen pool.new)) }
+    ensures counted { P.uncounted pool.old ≡ false → P.uncounted pool.new ≡ false }
     ensures own { let user = owner.old.number in P.for_others pool.new user ≡ P.for_others pool.old user }
 {
     if !pool.poll_uncounted(owner.user()) {
@@ -313,10 +326,11 @@ fn poll_next<P: Pool>(owner: &mut Owner, pool: &mut P) -> Option<bool>
 /// awaited tile was compared as it was taken in, so the pool finds it by its name.
 fn accept_and_count<P: Pool>(owner: &mut Owner, pool: &mut P) -> bool
     requires gathers { Gathers owner.old (P.seen pool.old).owed }
-    requires uncounted { P.is_uncounted pool.old }
+    requires uncounted { P.uncounted pool.old ≡ true }
     ensures goes_on { GoesOn owner.old (P.seen pool.old) owner.new (P.seen pool.new) }
     ensures fewer { result ≡ true → tiles_coming owner.new < tiles_coming owner.old }
     ensures stray { result ≡ false → IsStray (P.last pool.old) (P.seen pool.old) (P.seen pool.new) }
+    ensures counted { P.uncounted pool.new ≡ false }
     ensures own { (user : ℕ) → P.for_others pool.new user ≡ P.for_others pool.old user }
 {
     if owner.accept_from(&pool.fetched()).is_err() {

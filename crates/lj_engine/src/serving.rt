@@ -1,5 +1,5 @@
 //! A stream of commands served over a pool.
-ghost use Rattle.std.specs.Prelude.{◌≡◌, [], None, IfSome};
+ghost use Rattle.std.specs.Prelude.{◌≡◌, [], false, None, IfSome};
 ghost use Rattle.lj_wire.specs.declared.reader.phase.Phase.TheVariants.{Open};
 ghost use Rattle.lj_engine.specs.declared.served.Served.TheVariants as served;
 ghost use Rattle.lj_engine.specs.Endings.{served_of};
@@ -34,6 +34,7 @@ pub fn serve<R: Source, W: Sink, P: Pool>(
     ensures cause { HasCause result.1 (R.remaining result.2) (R.errors reader) (R.errors result.2)
         (W.faults writer.old) (W.faults writer.new) (P.seen pool.old) (P.seen pool.new) }
     ensures handed_back { IfSome result.0 (HandsBack state (P.seen pool.new)) }
+    ensures counted { P.uncounted pool.old ≡ false → P.uncounted pool.new ≡ false }
     ensures own { P.for_others pool.new user ≡ P.for_others pool.old user }
 {
     let mut lines = LineReader::new(alloc, reader);
@@ -59,6 +60,7 @@ pub fn serve_lines<R: Source, W: Sink, P: Pool>(
         (W.faults writer.old) (W.faults writer.new) (P.seen pool.old) (P.seen pool.new) }
     ensures all_read { result.1 ≡ served.ReadFault → lines.new.held ≡ [] }
     ensures handed_back { IfSome result.0 (HandsBack state (P.seen pool.new)) }
+    ensures counted { P.uncounted pool.old ≡ false → P.uncounted pool.new ≡ false }
     ensures own { P.for_others pool.new user ≡ P.for_others pool.old user }
 {
     let mut owner = Owner::new(state, user);

@@ -48,12 +48,14 @@ pub record HandsOut (user : ℕ) (old new : EndBoxes) : Type 0 where
   pub hand : new.hand ≡ remove old.hand here
   pub spare : new.spare ≡ old.spare + cond (is_some old.last) 1 0
 
--- Results of this user were fetched: the first is handed out, the others are in hand behind those that were there.
+-- Results of this user were fetched: the first is handed out, the others are in hand behind those that were there, and the box of the
+-- result handed out before is spare.
 pub record TakesInHand (user : ℕ) (old new : EndBoxes) : Type 0 where
   pub first : Task
   pub others : List Task
   pub last : new.last ≡ Some first
   pub hand : new.hand ≡ old.hand ++ others
+  pub freed : cond (is_some old.last) 1 0 ≤ new.spare
   pub whose : user_of first ≡ user
   pub whose_others : All (λ done. user_of done ≡ user) others
 

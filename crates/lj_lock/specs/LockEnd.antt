@@ -1,11 +1,14 @@
 -- One connection's end of a pool behind a lock.
-use Rattle.std.specs.Prelude.{ℕ, List}
+use Rattle.std.specs.Prelude.{ℕ, Bool, List}
 use Rattle.lj_tile.specs.Task.{Task}
 use Rattle.lj_end.specs.Seen.{Seen}
 
--- what the end has seen, the task of the result handed out last, those of the results in hand, and the number of spare boxes
+-- what the end has seen, the task of the result handed out last, whether one was handed out at all and whether it is not counted yet,
+-- the tasks of the results in hand, and the number of spare boxes
 pub record LockEnd : Type 0 where
   pub seen : Seen
   pub last : Task
+  pub shown : Bool
+  pub uncounted : Bool
   pub hand : List Task
   pub spare : ℕ

@@ -1,5 +1,5 @@
 //! One connection's end of a pool behind a lock.
-ghost use Rattle.std.specs.Prelude.{◌≡◌, ◌+◌, ◌<◌, ◌≤◌, ◌↔◌, [], true, false, length, take, IfErr, OnErr, OnOk, ⊤};
+ghost use Rattle.std.specs.Prelude.{◌≡◌, ◌+◌, ◌<◌, ◌≤◌, ◌↔◌, [], true, false, cond, length, take, IfErr, OnErr, OnOk};
 ghost use Rattle.lj_tile.specs.Blank.{blank_task};
 ghost use Rattle.lj_end.specs.declared.pool.NotPosted.TheVariants.{Closed};
 ghost use Rattle.lj_end.specs.Accounts.{IsKnownByName};
@@ -25,10 +25,12 @@ pub struct LockEnd<'p, L: Ledger, R: Wait> {
     account: Account,
     /// The result that was handed out last, the results that are handed out next, and spare boxes.
     boxes: EndBoxes,
+    /// Whether that result was taken, and is not counted yet.
+    is_uncounted: bool,
 }
 
 impl<'p, L: Ledger, R: Wait> Model for LockEnd<'p, L, R> {
-    ghost use Rattle.std.specs.Prelude.{unwrap_or};
+    ghost use Rattle.std.specs.Prelude.{is_some, unwrap_or};
     ghost use Rattle.lj_tile.specs.Blank.{blank_task};
     ghost use Rattle.lj_lock.specs.LockEnd.{LockEnd};
 
@@ -37,6 +39,8 @@ impl<'p, L: Ledger, R: Wait> Model for LockEnd<'p, L, R> {
     ghost view = { λ end. record {
       seen = end.account;
       last = unwrap_or end.boxes.last blank_task;
+      shown = is_some end.boxes.last;
+      uncounted = end.is_uncounted;
       hand = end.boxes.hand;
       spare = end.boxes.spare;
     } };
@@ -47,6 +51,7 @@ impl<'p, L: Ledger, R: Wait> LockEnd<'p, L, R> {
     pub(crate) fn new(rt: &'p R, pool: &'p LockPool<L>) -> LockEnd<'p, L, R>
         ensures seen { result.seen ≡ nothing_seen }
         ensures last { result.last ≡ blank_task }
+        ensures counted { result.uncounted ≡ false }
         ensures empty_handed { result.hand ≡ [] }
     {
         LockEnd {
@@ -54,6 +59,7 @@ impl<'p, L: Ledger, R: Wait> LockEnd<'p, L, R> {
             pool,
             account: Account::new(),
             boxes: EndBoxes::new(),
+            is_uncounted: false,
         }
     }
 
@@ -76,7 +82,7 @@ impl<'p, L: Ledger, R: Wait> Pool for LockEnd<'p, L, R> {
 
     ghost last = { λ end. end.last };
 
-    ghost is_uncounted = { λ _. ⊤ };
+    ghost uncounted = { λ end. end.uncounted };
 
     ghost for_others = { λ _ _. 0 };
 
@@ -85,6 +91,7 @@ impl<'p, L: Ledger, R: Wait> Pool for LockEnd<'p, L, R> {
     fn post_from(&mut self, task: &TaskRef<'_>, wait: bool) -> Result<(), NotPosted>
         requires room { length self.old.seen.owed < MAX_OWED }
         ensures last { self.new.last ≡ self.old.last }
+        ensures kept { self.new.uncounted ≡ self.old.uncounted }
         ensures hand { self.new.hand ≡ self.old.hand }
         ensures box_kept { OnErr result (self.new.spare ≡ self.old.spare) }
         ensures posted { OnOk result (IsPosted task.now self.old.seen self.new.seen) }
@@ -106,6 +113,7 @@ impl<'p, L: Ledger, R: Wait> Pool for LockEnd<'p, L, R> {
     fn post_some(&mut self, tasks: &TaskList<'_>) -> usize
         requires room { length self.old.seen.owed + length tasks.now ≤ MAX_OWED }
         ensures last { self.new.last ≡ self.old.last }
+        ensures kept { self.new.uncounted ≡ self.old.uncounted }
         ensures hand { self.new.hand ≡ self.old.hand }
         ensures boxes_kept { self.old.spare ≤ self.new.spare + result }
         ensures most { result ≤ length tasks.now }
@@ -125,51 +133,67 @@ impl<'p, L: Ledger, R: Wait> Pool for LockEnd<'p, L, R> {
     }
 
     fn fetch_uncounted(&mut self, user: u8) -> bool
-        ensures whose { result ≡ true → self.new.last.name.label.user ≡ user }
-        ensures next { result ≡ true → IsNext user self.old.hand self.new.last self.new.hand }
+        ensures uncounted { result ≡ true → self.new.uncounted ≡ true }
+        ensures as_before { result ≡ false → self.new.uncounted ≡ self.old.uncounted }
+        ensures again { self.old.uncounted ≡ true → self.new.last ≡ self.old.last }
+        ensures whose { self.old.uncounted ≡ false → result ≡ true → self.new.last.name.label.user ≡ user }
+        ensures next { self.old.uncounted ≡ false → result ≡ true
+            → IsNext user self.old.hand self.new.last self.new.hand }
+        ensures box_freed { self.old.uncounted ≡ false → result ≡ true → cond self.old.shown 1 0 ≤ self.new.spare }
         ensures last { result ≡ false → self.new.last ≡ self.old.last }
         ensures hand { result ≡ false → self.new.hand ≡ self.old.hand }
         ensures unchanged { SameOwed self.old.seen self.new.seen }
         ensures closed { result ≡ false → self.new.seen.closed ≡ true }
         ensures stays_closed { StaysClosed self.old.seen self.new.seen }
     {
+        if self.is_uncounted {
+            return true;
+        }
         let owed = self.account.owed().saturating_sub(self.boxes.in_hand());
-        let fetched = self.pool.fetch(self.rt, user, owed, &mut self.boxes);
-        if !fetched {
+        self.is_uncounted = self.pool.fetch(self.rt, user, owed, &mut self.boxes);
+        if !self.is_uncounted {
             self.account.close();
         }
-        fetched
+        self.is_uncounted
     }
 
     fn poll_uncounted(&mut self, user: u8) -> bool
-        ensures whose { result ≡ true → self.new.last.name.label.user ≡ user }
-        ensures next { result ≡ true → IsNext user self.old.hand self.new.last self.new.hand }
+        ensures uncounted { result ≡ true → self.new.uncounted ≡ true }
+        ensures as_before { result ≡ false → self.new.uncounted ≡ self.old.uncounted }
+        ensures again { self.old.uncounted ≡ true → self.new.last ≡ self.old.last }
+        ensures whose { self.old.uncounted ≡ false → result ≡ true → self.new.last.name.label.user ≡ user }
+        ensures next { self.old.uncounted ≡ false → result ≡ true
+            → IsNext user self.old.hand self.new.last self.new.hand }
+        ensures box_freed { self.old.uncounted ≡ false → result ≡ true → cond self.old.shown 1 0 ≤ self.new.spare }
         ensures last { result ≡ false → self.new.last ≡ self.old.last }
         ensures hand { result ≡ false → self.new.hand ≡ self.old.hand }
         ensures seen { self.new.seen ≡ self.old.seen }
         ensures unchanged { SameOwed self.old.seen self.new.seen }
         ensures stays_closed { StaysClosed self.old.seen self.new.seen }
     {
-        self.pool.poll(self.rt, user, &mut self.boxes)
+        self.is_uncounted = self.is_uncounted || self.pool.poll(self.rt, user, &mut self.boxes);
+        self.is_uncounted
     }
 
     fn count(&mut self)
-        ensures boxes { self.new ≡ record self.old { seen = self.new.seen } }
+        ensures boxes { self.new ≡ record self.old { seen = self.new.seen; uncounted = false } }
         ensures handed_out { IsHandedOut self.old.last self.old.seen self.new.seen }
         ensures closed { self.new.seen.closed ≡ self.old.seen.closed }
         ensures stays_closed { StaysClosed self.old.seen self.new.seen }
     {
+        self.is_uncounted = false;
         let last = self.boxes.last_or(self.pool.blank());
         self.account.count(last.task());
     }
 
     fn count_by_name(&mut self)
         requires { IsKnownByName self.old.seen.owed self.old.last }
-        ensures boxes { self.new ≡ record self.old { seen = self.new.seen } }
+        ensures boxes { self.new ≡ record self.old { seen = self.new.seen; uncounted = false } }
         ensures handed_out { IsHandedOut self.old.last self.old.seen self.new.seen }
         ensures closed { self.new.seen.closed ≡ self.old.seen.closed }
         ensures stays_closed { StaysClosed self.old.seen self.new.seen }
     {
+        self.is_uncounted = false;
         let last = self.boxes.last_or(self.pool.blank());
         self.account.count_by_name(last.task());
     }

@@ -1,5 +1,5 @@
 //! A pool behind a lock, whose workers run in threads of their own.
-ghost use Rattle.std.specs.Prelude.{◌≡◌, ◌+◌, ◌≤◌, None, true, false, length, vec_len, IfErr, IfOk, IsSomeAnd, OnErr, OnOk};
+ghost use Rattle.std.specs.Prelude.{◌≡◌, ◌+◌, ◌≤◌, None, true, false, cond, is_some, length, vec_len, IfErr, IfOk, IsSomeAnd, OnErr, OnOk};
 ghost use Rattle.std.specs.List.{All};
 ghost use Rattle.std.specs.Option.{ForSome};
 ghost use Rattle.lj_end.specs.declared.pool.NotPosted.TheVariants.{Closed};
@@ -79,6 +79,7 @@ impl<L: Ledger> LockPool<L> {
     pub fn end<'p, R: Wait>(&'p self, rt: &'p R) -> LockEnd<'p, L, R>
         ensures seen { result.seen ≡ nothing_seen }
         ensures last { result.last ≡ blank_task }
+        ensures counted { result.uncounted ≡ false }
     {
         LockEnd::new(rt, self)
     }
@@ -184,6 +185,7 @@ impl<L: Ledger> LockPool<L> {
     pub(crate) fn fetch<R: Wait>(&self, rt: &R, user: u8, owed: usize, own: &mut EndBoxes) -> bool
         ensures next { result ≡ true
             → IsSomeAnd own.new.last (λ done. IsNext user own.old.hand done own.new.hand) }
+        ensures freed { result ≡ true → cond (is_some own.old.last) 1 0 ≤ own.new.spare }
         ensures same_results { result ≡ false → SameResults own.old own.new }
     {
         if self.is_closed() {
@@ -211,6 +213,7 @@ impl<L: Ledger> LockPool<L> {
     pub(crate) fn poll<R: Wait>(&self, rt: &R, user: u8, own: &mut EndBoxes) -> bool
         ensures next { result ≡ true
             → IsSomeAnd own.new.last (λ done. IsNext user own.old.hand done own.new.hand) }
+        ensures freed { result ≡ true → cond (is_some own.old.last) 1 0 ≤ own.new.spare }
         ensures same_results { result ≡ false → SameResults own.old own.new }
     {
         if self.is_closed() {

@@ -1,5 +1,5 @@
 -- The passes of a pool with a queue, and its ends.
-use Rattle.std.specs.Prelude.{◌≡◌, ℕ, ◌+◌, ◌-◌, ◌<◌, ◌≤◌, ◌^◌, List, [], ◌∷◌, ◌++◌, Option, length, slice_index_or}
+use Rattle.std.specs.Prelude.{◌≡◌, ℕ, ◌+◌, ◌-◌, ◌<◌, ◌≤◌, ◌^◌, Bool, List, [], ◌∷◌, ◌++◌, Option, length, slice_index_or}
 use Rattle.std.specs.List.{All}
 use Rattle.atomic_table.specs.Seated.{TableId}
 use Rattle.crossbeam_queue.specs.Passes.{Pass, view}
@@ -77,14 +77,15 @@ pub record QueueBlank : Type 0 where
   pub parts : ℕ
   pub table : TableId
 
--- an end of a pool: what it has seen, its pass, its number, its user, the task of the result that it shows, those of the
--- results in hand, and the number of boxes that it has for tasks
+-- an end of a pool: what it has seen, its pass, its number, its user, the task of the result that it shows, whether that was taken and
+-- is not counted yet, the tasks of the results in hand, and the number of boxes that it has for tasks
 pub record QueueEnd : Type 0 where
   pub seen : Seen
   pub pass : PoolPass
   pub number : ℕ
   pub user : ℕ
   pub last : Task
+  pub uncounted : Bool
   pub hand : List Task
   pub boxes : ℕ
 

@@ -1,5 +1,5 @@
 //! One connection's end of a pool with a queue.
-ghost use Rattle.std.specs.Prelude.{◌≡◌, ◌+◌, ◌<◌, ◌≤◌, ◌↔◌, [], ◌∷◌, true, false, length, IfErr, IsTrue, OnErr, OnOk, ⊤};
+ghost use Rattle.std.specs.Prelude.{◌≡◌, ◌+◌, ◌<◌, ◌≤◌, ◌↔◌, [], ◌∷◌, true, false, length, IfErr, IsTrue, OnErr, OnOk};
 ghost use Rattle.lj_end.specs.declared.pool.NotPosted.TheVariants.{Closed};
 ghost use Rattle.lj_end.specs.Accounts.{IsKnownByName};
 ghost use Rattle.lj_end.specs.Seen.{IsHandedOut, IsPosted, SameOwed, StaysClosed, nothing_seen};
@@ -32,6 +32,8 @@ pub struct QueueEnd<'p, L: PoolIdentity, R: Wait> {
     poster: Poster<L>,
     /// The result that was handed out last, the results that are handed out next, and boxes for the next tasks.
     boxes: PassBoxes,
+    /// Whether the result that was handed out last was taken, and is not counted yet.
+    is_uncounted: bool,
     unsignalled: UnsignalledPosts,
     /// Whether the last fetch took all results that were there, so that the next poll need not ask the pool.
     took_all: bool,
@@ -53,6 +55,7 @@ impl<'p, L: PoolIdentity, R: Wait> Model for QueueEnd<'p, L, R> {
       number = end.poster.end;
       user = end.poster.user;
       last = end.boxes.last;
+      uncounted = end.is_uncounted;
       hand = end.boxes.hand.results;
       boxes = end.boxes.spare + boxes_in end.poster.next;
     } };
@@ -71,6 +74,7 @@ impl<'p, L: PoolIdentity, R: Wait> QueueEnd<'p, L, R> {
         ensures pass { result.pass ≡ pass }
         ensures number { result.number ≡ number }
         ensures user { result.user ≡ user }
+        ensures counted { result.uncounted ≡ false }
         ensures empty_handed { result.hand ≡ [] }
     {
         let (counted, mut boxes) = pass.into_parts();
@@ -86,6 +90,7 @@ impl<'p, L: PoolIdentity, R: Wait> QueueEnd<'p, L, R> {
                 next: None,
             },
             boxes,
+            is_uncounted: false,
             unsignalled: UnsignalledPosts::new(),
             took_all: false,
             older_frame: None,
@@ -122,12 +127,14 @@ impl<'p, L: PoolIdentity, R: Wait> Pool for QueueEnd<'p, L, R> {
 
     ghost last = { λ end. end.last };
 
-    ghost is_uncounted = { λ _. ⊤ };
+    ghost uncounted = { λ end. end.uncounted };
 
     fn post_from(&mut self, task: &TaskRef<'_>, wait: bool) -> Result<(), NotPosted>
         requires room { length self.old.seen.owed < MAX_OWED }
         ensures pushed { OnOk result (HasPushed task.now self.old self.new) }
         ensures nothing { OnErr result (HasPushedNothing self.old self.new) }
+        ensures last { self.new.last ≡ self.old.last }
+        ensures kept { self.new.uncounted ≡ self.old.uncounted }
         ensures posted { OnOk result (IsPosted task.now self.old.seen self.new.seen) }
         ensures unchanged { OnErr result (SameOwed self.old.seen self.new.seen) }
         ensures full { wait ≡ true → IfErr result (λ why. why ≡ Closed) }
@@ -146,14 +153,23 @@ impl<'p, L: PoolIdentity, R: Wait> Pool for QueueEnd<'p, L, R> {
     fn fetch_uncounted(&mut self, _user: u8) -> bool
         ensures pass { self.new.pass ≡ self.old.pass }
         ensures same_end { IsSameEnd self.old self.new }
-        ensures whose { result ≡ true → self.new.last.name.label.user ≡ self.old.user }
+        ensures uncounted { result ≡ true → self.new.uncounted ≡ true }
+        ensures as_before { result ≡ false → self.new.uncounted ≡ self.old.uncounted }
+        ensures again { self.old.uncounted ≡ true → self.new.last ≡ self.old.last }
+        ensures last { result ≡ false → self.new.last ≡ self.old.last }
+        ensures whose { self.old.uncounted ≡ false → result ≡ true → self.new.last.name.label.user ≡ self.old.user }
         ensures boxes { self.old.boxes ≤ self.new.boxes }
-        ensures in_hand { result ≡ true → 0 < length self.old.hand
+        ensures box_freed { self.old.uncounted ≡ false → result ≡ true → self.old.boxes < MAX_SPARE_BOXES
+            → self.new.boxes ≡ self.old.boxes + 1 }
+        ensures in_hand { self.old.uncounted ≡ false → result ≡ true → 0 < length self.old.hand
             → self.old.hand ≡ self.new.last ∷ self.new.hand }
         ensures unchanged { SameOwed self.old.seen self.new.seen }
         ensures closed { result ≡ false → self.new.seen.closed ≡ true }
         ensures stays_closed { StaysClosed self.old.seen self.new.seen }
     {
+        if self.is_uncounted {
+            return true;
+        }
         if self.is_closed() {
             self.account.close();
             return false;
@@ -168,11 +184,11 @@ impl<'p, L: PoolIdentity, R: Wait> Pool for QueueEnd<'p, L, R> {
             );
             self.took_all = true;
         }
-        let fetched = self.hand_out();
-        if !fetched {
+        self.is_uncounted = self.hand_out();
+        if !self.is_uncounted {
             self.account.close();
         }
-        fetched
+        self.is_uncounted
     }
 
     fn poll_uncounted(&mut self, _user: u8) -> bool
@@ -181,34 +197,45 @@ impl<'p, L: PoolIdentity, R: Wait> Pool for QueueEnd<'p, L, R> {
         ensures seen { self.new.seen ≡ self.old.seen }
         ensures unchanged { SameOwed self.old.seen self.new.seen }
         ensures stays_closed { StaysClosed self.old.seen self.new.seen }
-        ensures whose { result ≡ true → self.new.last.name.label.user ≡ self.old.user }
+        ensures uncounted { result ≡ true → self.new.uncounted ≡ true }
+        ensures as_before { result ≡ false → self.new.uncounted ≡ self.old.uncounted }
+        ensures again { self.old.uncounted ≡ true → self.new.last ≡ self.old.last }
+        ensures last { result ≡ false → self.new.last ≡ self.old.last }
+        ensures whose { self.old.uncounted ≡ false → result ≡ true → self.new.last.name.label.user ≡ self.old.user }
         ensures boxes { self.old.boxes ≤ self.new.boxes }
-        ensures in_hand { result ≡ true → 0 < length self.old.hand
+        ensures box_freed { self.old.uncounted ≡ false → result ≡ true → self.old.boxes < MAX_SPARE_BOXES
+            → self.new.boxes ≡ self.old.boxes + 1 }
+        ensures in_hand { self.old.uncounted ≡ false → result ≡ true → 0 < length self.old.hand
             → self.old.hand ≡ self.new.last ∷ self.new.hand }
     {
-        let polled = !self.is_closed() && self.refill_hand() && self.hand_out();
-        if !polled {
+        if self.is_uncounted {
+            return true;
+        }
+        self.is_uncounted = !self.is_closed() && self.refill_hand() && self.hand_out();
+        if !self.is_uncounted {
             self.wake_workers(1);
         }
-        polled
+        self.is_uncounted
     }
 
     fn count(&mut self)
-        ensures unchanged { self.new ≡ record self.old { seen = self.new.seen } }
+        ensures unchanged { self.new ≡ record self.old { seen = self.new.seen; uncounted = false } }
         ensures handed_out { IsHandedOut self.old.last self.old.seen self.new.seen }
         ensures closed { self.new.seen.closed ≡ self.old.seen.closed }
         ensures stays_closed { StaysClosed self.old.seen self.new.seen }
     {
+        self.is_uncounted = false;
         self.account.count(self.boxes.last.done().task());
     }
 
     fn count_by_name(&mut self)
         requires { IsKnownByName self.old.seen.owed self.old.last }
-        ensures unchanged { self.new ≡ record self.old { seen = self.new.seen } }
+        ensures unchanged { self.new ≡ record self.old { seen = self.new.seen; uncounted = false } }
         ensures handed_out { IsHandedOut self.old.last self.old.seen self.new.seen }
         ensures closed { self.new.seen.closed ≡ self.old.seen.closed }
         ensures stays_closed { StaysClosed self.old.seen self.new.seen }
     {
+        self.is_uncounted = false;
         self.account.count_by_name(self.boxes.last.done().task());
     }
 

@@ -48,7 +48,7 @@ impl Pool for ClosingPool {
 
     ghost last = { λ pool. pool.inner.last };
 
-    ghost is_uncounted = { λ pool. IsSome pool.inner.owed };
+    ghost uncounted = { λ pool. pool.inner.taken };
 
     ghost for_others = { λ _ _. 0 };
 

@@ -20,6 +20,8 @@ struct OddPool {
     earlier: Option<Done>,
     /// The result that was handed out last.
     shown: Done,
+    /// Whether it was taken, and is not counted yet.
+    is_uncounted: bool,
     /// How many copies of it are handed out before each result.
     copies: u64,
     /// How many of them are still to come before the next one.
@@ -40,6 +42,7 @@ impl OddPool {
             owed: None,
             earlier: None,
             shown: Done::blank(),
+            is_uncounted: false,
             copies,
             left: copies,
             posts,
@@ -85,7 +88,7 @@ impl Pool for OddPool {
 
     ghost last = { λ pool. pool.shown };
 
-    ghost is_uncounted = { λ _. ⊤ };
+    ghost uncounted = { λ pool. pool.is_uncounted };
 
     ghost for_others = { λ _ _. 0 };
 
@@ -105,6 +108,9 @@ impl Pool for OddPool {
     }
 
     fn fetch_uncounted(&mut self, _user: u8) -> bool {
+        if self.is_uncounted {
+            return true;
+        }
         if self.fetches == 0 {
             self.closed = true;
             return false;
@@ -112,6 +118,7 @@ impl Pool for OddPool {
         if let Some(stray) = self.stray() {
             self.left = self.left.saturating_sub(1);
             self.shown = stray;
+            self.is_uncounted = true;
             return true;
         }
         let Some(owed) = &self.owed else {
@@ -121,6 +128,7 @@ impl Pool for OddPool {
         self.left = self.copies;
         self.earlier = Some(owed.copy());
         self.shown = owed.copy();
+        self.is_uncounted = true;
         true
     }
 
@@ -132,6 +140,7 @@ impl Pool for OddPool {
     }
 
     fn count(&mut self) {
+        self.is_uncounted = false;
         if self.shows_owed() {
             self.owed = None;
             self.expected = self.expected.saturating_add(1);

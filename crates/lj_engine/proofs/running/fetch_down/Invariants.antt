@@ -1,4 +1,4 @@
-use Rattle.std.proofs.Common.{◌≡◌, ◌+◌, ◌-◌, ◌*◌}
+use Rattle.std.proofs.Common.{◌≡◌, ◌+◌, ◌-◌, ◌*◌, false}
 use Rattle.lj_end.specs.declared.pool.TheConstants.{MAX_STRAYS}
 use Rattle.lj_engine.specs.Coming.{tiles_coming}
 use Rattle.lj_engine.proofs.Going.{GoesOnAmong}
@@ -7,6 +7,7 @@ use Rattle.lj_engine.proofs.running.fetch_down.Given as goal
 abbrev pub invariant-loop-owner : goal.invariant-loop-owner
 invariant-loop-owner g l = record {
   among : GoesOnAmong l.strays l.initial.owner (g.P.Pool.seen l.initial.pool) l.owner (g.P.Pool.seen l.pool);
+  counted : g.P.Pool.uncounted l.initial.pool ≡ false → g.P.Pool.uncounted l.pool ≡ false;
   own : g.P.Pool.for_others l.pool l.initial.owner.number ≡ g.P.Pool.for_others l.initial.pool l.initial.owner.number;
 }
 

@@ -1,4 +1,4 @@
-use Rattle.std.proofs.Common.{◌≡◌, ◌<◌, true}
+use Rattle.std.proofs.Common.{◌≡◌, ◌<◌, true, false}
 use Rattle.lj_engine.specs.Coming.{GoesOn, tiles_coming}
 use Rattle.lj_engine.proofs.running.poll_all.Given as goal
 
@@ -6,5 +6,6 @@ abbrev pub invariant-loop : goal.invariant-loop
 invariant-loop g l = record {
   goes : GoesOn l.initial.owner (g.P.Pool.seen l.initial.pool) l.owner (g.P.Pool.seen l.pool);
   fewer : l.some ≡ true → tiles_coming l.owner < tiles_coming l.initial.owner;
+  counted : g.P.Pool.uncounted l.initial.pool ≡ false → g.P.Pool.uncounted l.pool ≡ false;
   own : g.P.Pool.for_others l.pool l.initial.owner.number ≡ g.P.Pool.for_others l.initial.pool l.initial.owner.number;
 }

@@ -46,6 +46,7 @@ loop-name-preserved-in-Some g c =
         in_a_row = strays_none (g.P.Pool.seen c.args.pool.now) (g.P.Pool.seen c.post_next.new.pool) goes.counted;
         few = omega arith;
       };
+      counted = λ none. c.post_next.ensures.counted (c.poll_next.ensures.counted (c.loop-name.invariant.counted none));
       own = search rules;
     }
 

@@ -27,6 +27,7 @@ loop-name-preserved g c = record {
   goes = goes_then c.loop-name.invariant.goes
       (goes_then (turned g (goal.at.loop-name-preserved g c).After-turn_session-none).goes
       (goes_then c.poll_next.ensures.goes_on c.post_next-posted.ensures.goes_on));
+  counted = λ none. c.post_next-posted.ensures.counted (c.poll_next.ensures.counted (c.loop-name.invariant.counted none));
   own = search rules;
 }
 

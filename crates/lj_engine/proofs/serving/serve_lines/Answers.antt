@@ -21,6 +21,7 @@ items-init g c = record {
   idle = ap (λ (o : Owner). o.waiting) c.new-owner.ensures.value;
   number = ap (λ (o : Owner). o.number) c.new-owner.ensures.value;
   faults = refl;
+  counted = λ none. none;
   own = refl;
   quota = ap (λ (o : Owner). o.state.quota) c.new-owner.ensures.value;
 }
@@ -202,6 +203,7 @@ items-preserved g c =
       idle = answered.finished.idle;
       number = c.answer.ensures.same.number ∙ c.work_ahead.ensures.goes_on.number ∙ c.items.invariant.number;
       faults = c.in_default-put_reply.ensures.counted ∙ c.items.invariant.faults;
+      counted = λ none. c.answer.ensures.counted (c.work_ahead.ensures.counted (c.items.invariant.counted none));
       own = subst (λ user. g.P.Pool.for_others c.answer.new.pool user ≡ g.P.Pool.for_others c.work_ahead.new.pool user)
           (c.work_ahead.ensures.goes_on.number ∙ c.items.invariant.number) c.answer.ensures.own
           ∙ subst (λ user. g.P.Pool.for_others c.work_ahead.new.pool user ≡ g.P.Pool.for_others c.items.pool user)

@@ -1,4 +1,4 @@
-use Rattle.std.proofs.Common.{◌≡◌, ◌+◌, ◌-◌, None}
+use Rattle.std.proofs.Common.{◌≡◌, ◌+◌, ◌-◌, None, false}
 use Rattle.lj_wire.specs.declared.line_limits.TheConstants.{MAX_ITEMS}
 use Rattle.lj_engine.specs.Gathering.{Gathers}
 use Rattle.lj_engine.specs.Serving.{Serving}
@@ -13,6 +13,7 @@ invariant-items g l = record {
   idle : l.owner.waiting ≡ None;
   number : l.owner.number ≡ l.user;
   faults : g.W.Sink.faults l.writer ≡ g.W.Sink.faults l.initial.writer;
+  counted : g.P.Pool.uncounted l.initial.pool ≡ false → g.P.Pool.uncounted l.pool ≡ false;
   own : g.P.Pool.for_others l.pool l.user ≡ g.P.Pool.for_others l.initial.pool l.user;
   quota : l.owner.state.quota ≡ l.fn.state.quota;
 }

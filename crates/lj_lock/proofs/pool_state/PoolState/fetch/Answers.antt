@@ -1,4 +1,4 @@
-use Rattle.std.proofs.Common.{ap, subst, ◌++◌, ◌∙◌}
+use Rattle.std.proofs.Common.{ℕ, arith, ap, cond, is_some, subst, ◌++◌, ◌∙◌}
 use Rattle.lj_book.specs.Book.{Fetches}
 use Rattle.lj_lock.specs.EndBoxes.{EndBoxes}
 use Rattle.lj_lock.specs.PoolStates.{PoolState}
@@ -17,6 +17,9 @@ returns-clause-some g c =
         hand = ap (λ (own : EndBoxes). own.hand) more.1
             ∙ ap (λ (own : EndBoxes). own.hand ++ more.0) c.show.ensures
             ∙ ap (λ (own : EndBoxes). own.hand ++ more.0) c.put_spare_by.ensures.own;
+        freed = let spare = ap (λ (own : EndBoxes). own.spare) more.1 ∙ ap (λ (own : EndBoxes). own.spare) c.show.ensures in
+            let same = ap {B = ℕ} (λ (own : EndBoxes). cond (is_some own.last) 1 0) c.put_spare_by.ensures.own in
+            omega (arith, spare, same);
         whose = users_result _ _ _ _ _ first.1.fetches first.2.passes;
         whose_others = more.3;
       };
