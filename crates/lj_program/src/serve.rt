@@ -5,6 +5,7 @@ mod first_line;
 mod lock_workers;
 mod queue_workers;
 mod server;
+mod server_backend;
 mod shared_directory;
 mod socket_connection;
 mod visitor;

@@ -1,17 +1,15 @@
 //! A pool behind a lock, as the worker pool of a server.
-ghost use Rattle.std.specs.Prelude.{◌≡◌, ◌∷◌, [], None, IfOk, sum};
-ghost use Rattle.lj_visit.specs.Events.{Happens};
-ghost use Rattle.lj_visit.specs.Events.Event.{withdrawn};
+ghost use Rattle.std.specs.Prelude.{◌≡◌, IfOk, sum};
 
+use crate::serve::server_backend::{PoolEnds, ServerBackend};
 use crate::serve::visitor::Visitor;
 use crate::serve::worker_pool::WorkerPool;
-use lj_access::{Denied, Ticket};
-use lj_base::{Name, OutOfMemory, Token};
+use lj_base::OutOfMemory;
 use lj_book::Counts;
 use lj_end::Share;
 use lj_lock::{LockEnd, LockPool, gather, work};
 use lj_table::Table;
-use lj_visit::{Backend, LentState, Shut, UserEnd, Visited, visit};
+use lj_visit::{UserEnd, Visited, visit};
 use lj_wire::{LineReader, Sink, Source};
 use log::{Log, info};
 use std::alloc::{AllocError, Global};
@@ -70,46 +68,21 @@ impl<L: Ledger> LockWorkers<L> {
     }
 }
 
-/// The backend of a visit over a pool behind a lock.
-#[derive(Drop)]
-struct LockBackend<'v, 's, L: Ledger, R> {
-    visitor: &'v mut Visitor<'s, R>,
-    pool: &'s LockPool<L>,
-}
-
-impl<'s, L: Ledger, R: Wait + Clock + Log> Backend for LockBackend<'_, 's, L, R> {
+impl<'s, L: Ledger + 's, R: Wait + 's> PoolEnds<'s, R> for LockWorkers<L> {
     type End = LockEnd<'s, L, R>;
 
-    ghost events = { λ _. None };
-
-    fn hello(&mut self, name: &Name, token: &Token) -> Result<Ticket, Denied> {
-        self.visitor.hello(name, token)
-    }
-
-    fn enter(&mut self, ticket: Ticket, held: bool) -> Result<LentState, Shut> {
-        self.visitor.enter(ticket, held)
-    }
-
-    fn open(&mut self, user: u8) -> UserEnd<LockEnd<'s, L, R>> {
-        self.visitor.note_entry();
-        let pool = self.pool.end(self.visitor.rt);
+    fn open_end(&'s self, rt: &'s R, user: u8) -> UserEnd<LockEnd<'s, L, R>> {
+        let pool = self.pool.end(rt);
         UserEnd { pool, user }
     }
 
-    fn finish(&mut self, end: UserEnd<LockEnd<'s, L, R>>)
-        ensures { Happens None None (withdrawn end.entry.user end.entry.pool.seen 0 ∷ []) }
-    {
-        self.pool.withdraw(self.visitor.rt, end.user);
+    fn finish_end(&'s self, rt: &'s R, end: UserEnd<LockEnd<'s, L, R>>) {
+        self.pool.withdraw(rt, end.user);
         end.pool.finish();
     }
 
-    fn leave(&mut self, lent: LentState) {
-        self.visitor.leave(lent);
-    }
-
-    fn close(&mut self) {
-        self.pool.close(self.visitor.rt);
-        self.visitor.directory.close(self.visitor.rt);
+    fn close_pool(&self, rt: &R) {
+        self.pool.close(rt);
     }
 }
 
@@ -122,9 +95,9 @@ impl<L: Ledger + Send> WorkerPool for LockWorkers<L> {
         lines: &mut LineReader<S>,
         writer: &mut W,
     ) -> Visited {
-        let mut backend = LockBackend {
+        let mut backend = ServerBackend {
             visitor,
-            pool: &self.pool,
+            pool: self,
         };
         visit(&mut backend, lines, writer)
     }

@@ -1,20 +1,18 @@
 //! A pool with a queue, as the worker pool of a server.
-ghost use Rattle.std.specs.Prelude.{◌≡◌, ◌+◌, ◌∷◌, [], None, IfOk};
+ghost use Rattle.std.specs.Prelude.{◌≡◌, ◌+◌, IfOk};
 ghost use Rattle.std.specs.List.{sum_by};
-ghost use Rattle.lj_visit.specs.Events.{Happens};
-ghost use Rattle.lj_visit.specs.Events.Event.{withdrawn};
 
+use crate::serve::server_backend::{PoolEnds, ServerBackend};
 use crate::serve::visitor::Visitor;
 use crate::serve::worker_pool::WorkerPool;
-use lj_access::{Denied, Ticket};
-use lj_base::{Name, OutOfMemory, Token};
+use lj_base::OutOfMemory;
 use lj_end::Share;
 use lj_queue::{
     CONNECTIONS, PoolIdentity, PoolPass, QueueBlank, QueueEnd, QueuePool, Settled, gather,
     work_queue,
 };
 use lj_table::Table;
-use lj_visit::{Backend, LentState, Shut, UserEnd, Visited, visit};
+use lj_visit::{UserEnd, Visited, visit};
 use lj_wire::{LineReader, Sink, Source};
 use log::{Log, info};
 use std::alloc::{AllocError, Global};
@@ -127,48 +125,21 @@ impl<L: PoolIdentity> QueueWorkers<L> {
     }
 }
 
-/// The backend of a visit over a pool with a queue.
-#[derive(Drop)]
-struct QueueBackend<'v, 's, L: PoolIdentity, R> {
-    visitor: &'v mut Visitor<'s, R>,
-    workers: &'s QueueWorkers<L>,
-}
-
-impl<'s, L: PoolIdentity, R: Wait + Clock + Log> Backend for QueueBackend<'_, 's, L, R> {
+impl<'s, L: PoolIdentity + 's, R: Wait + 's> PoolEnds<'s, R> for QueueWorkers<L> {
     type End = QueueEnd<'s, L, R>;
 
-    ghost events = { λ _. None };
-
-    fn hello(&mut self, name: &Name, token: &Token) -> Result<Ticket, Denied> {
-        self.visitor.hello(name, token)
-    }
-
-    fn enter(&mut self, ticket: Ticket, held: bool) -> Result<LentState, Shut> {
-        self.visitor.enter(ticket, held)
-    }
-
-    fn open(&mut self, user: u8) -> UserEnd<QueueEnd<'s, L, R>> {
-        self.visitor.note_entry();
-        let rt = self.visitor.rt;
-        let pool = self.workers.pool.end(rt, self.workers.take_pass(rt), user);
+    fn open_end(&'s self, rt: &'s R, user: u8) -> UserEnd<QueueEnd<'s, L, R>> {
+        let pool = self.pool.end(rt, self.take_pass(rt), user);
         UserEnd { pool, user }
     }
 
-    fn finish(&mut self, end: UserEnd<QueueEnd<'s, L, R>>)
-        ensures { Happens None None (withdrawn end.entry.user end.entry.pool.seen 0 ∷ []) }
-    {
-        let rt = self.visitor.rt;
-        self.workers.pool.withdraw(rt, end.user);
-        self.workers.return_pass(rt, end.pool.finish());
+    fn finish_end(&'s self, rt: &'s R, end: UserEnd<QueueEnd<'s, L, R>>) {
+        self.pool.withdraw(rt, end.user);
+        self.return_pass(rt, end.pool.finish());
     }
 
-    fn leave(&mut self, lent: LentState) {
-        self.visitor.leave(lent);
-    }
-
-    fn close(&mut self) {
-        self.workers.pool.close(self.visitor.rt);
-        self.visitor.directory.close(self.visitor.rt);
+    fn close_pool(&self, rt: &R) {
+        self.pool.close(rt);
     }
 }
 
@@ -181,9 +152,9 @@ impl<L: PoolIdentity + Send> WorkerPool for QueueWorkers<L> {
         lines: &mut LineReader<S>,
         writer: &mut W,
     ) -> Visited {
-        let mut backend = QueueBackend {
+        let mut backend = ServerBackend {
             visitor,
-            workers: self,
+            pool: self,
         };
         visit(&mut backend, lines, writer)
     }

@@ -1,0 +1,74 @@
+//! The backend of a visit to a server, over either of its pools.
+ghost use Rattle.std.specs.Prelude.{◌≡◌, ◌∷◌, [], None};
+ghost use Rattle.lj_end.specs.Seen.{nothing_seen};
+ghost use Rattle.lj_visit.specs.Events.{Happens};
+ghost use Rattle.lj_visit.specs.Events.Event.{withdrawn};
+
+use crate::serve::visitor::Visitor;
+use lj_access::{Denied, Ticket};
+use lj_base::{Name, Token};
+use lj_end::Pool;
+use lj_visit::{Backend, LentState, Shut, UserEnd};
+use log::Log;
+use std::rt::Clock;
+use std::sync::Wait;
+
+/// The ends of a pool for the connections of a server, whose threads have this runtime.
+pub trait PoolEnds<'s, R> {
+    /// An end of the pool.
+    type End: Pool;
+
+    /// Makes an end for the user of this number. Nothing is owed to it.
+    fn open_end(&'s self, rt: &'s R, user: u8) -> UserEnd<Self::End>
+        ensures user { result.user ≡ user }
+        ensures seen { Self.End.seen result.pool ≡ nothing_seen }
+        ensures own { Self.End.for_others result.pool user ≡ 0 };
+
+    /// Takes an end back, and drops what the pool has of its user.
+    fn finish_end(&'s self, rt: &'s R, end: UserEnd<Self::End>);
+
+    /// Closes the pool: from now on no task is computed.
+    fn close_pool(&self, rt: &R);
+}
+
+/// The backend of a visit over a pool of this server.
+#[derive(Drop)]
+pub struct ServerBackend<'v, 's, P, R> {
+    pub visitor: &'v mut Visitor<'s, R>,
+    pub pool: &'s P,
+}
+
+impl<'s, P: PoolEnds<'s, R>, R: Wait + Clock + Log> Backend for ServerBackend<'_, 's, P, R> {
+    type End = P::End;
+
+    ghost events = { λ _. None };
+
+    fn hello(&mut self, name: &Name, token: &Token) -> Result<Ticket, Denied> {
+        self.visitor.hello(name, token)
+    }
+
+    fn enter(&mut self, ticket: Ticket, held: bool) -> Result<LentState, Shut> {
+        self.visitor.enter(ticket, held)
+    }
+
+    fn open(&mut self, user: u8) -> UserEnd<P::End> {
+        self.visitor.note_entry();
+        self.pool.open_end(self.visitor.rt, user)
+    }
+
+    fn finish(&mut self, end: UserEnd<P::End>)
+        ensures { Happens None None (withdrawn end.user (P.End.seen end.pool)
+            (P.End.for_others end.pool end.user) ∷ []) }
+    {
+        self.pool.finish_end(self.visitor.rt, end);
+    }
+
+    fn leave(&mut self, lent: LentState) {
+        self.visitor.leave(lent);
+    }
+
+    fn close(&mut self) {
+        self.pool.close_pool(self.visitor.rt);
+        self.visitor.directory.close(self.visitor.rt);
+    }
+}
