@@ -25,8 +25,8 @@ pub const MAX_END_BOXES: usize = MAX_SPARE + 1;
 /// Copies of tasks that are to be posted, in their boxes. The place of a box that was posted is empty.
 pub(crate) type TaskCopies = ArrayVec<Option<TaskBox>, MAX_POSTS>;
 
-/// The result that an end handed out last, those in hand, and spare boxes for tasks. It takes no memory.
-#[derive(Drop)]
+/// The result that an end handed out last, those in hand, and spare boxes for tasks. It takes no memory, and is let go once no box
+/// is in it.
 pub(crate) struct EndBoxes {
     last: Option<DoneBox>,
     hand: ArrayVec<Option<DoneBox>, MAX_IN_HAND>,
@@ -222,6 +222,7 @@ impl EndBoxes {
     pub(crate) fn give_up(&mut self) -> Option<TaskBox>
         ensures some { OnSome result (box_count self.old ≡ box_count self.new + 1) }
         ensures none { IfNone result (box_count self.old ≡ 0) }
+        ensures none_left { IfNone result (box_count self.new ≡ 0) }
     {
         if let Some(spare) = self.pop_spare() {
             return Some(spare);
@@ -231,6 +232,19 @@ impl EndBoxes {
         }
         let last = self.last.take()?;
         Some(last.into_task())
+    }
+
+    /// Lets go of it, with no box in it.
+    pub(crate) fn let_go(self)
+        requires { box_count self ≡ 0 }
+    {
+        let EndBoxes {
+            last: _last,
+            hand: _hand,
+            spare: _spare,
+            took_all: _took_all,
+            older_frame: _older_frame,
+        } = self;
     }
 
     /// Shows that there is a place for each box.

@@ -15,10 +15,9 @@ use std::sync::Wait;
 use std::sync::ledger::Ledger;
 
 /// An end of a pool behind a lock. It keeps a copy of each task that is owed to it, holds boxes of the pool, and allocates no
-/// memory. `finish` returns the boxes.
+/// memory. Its boxes go back to the pool with `finish`, and where it is dropped.
 ///
 /// Promise: it is a `Pool`, for every number of workers, so what is served over it is the same dialogue.
-#[derive(Drop)]
 pub struct LockEnd<'p, L: Ledger, R: Wait> {
     rt: &'p R,
     pool: &'p LockPool<L>,
@@ -65,11 +64,19 @@ impl<'p, L: Ledger, R: Wait> LockEnd<'p, L, R> {
 
     /// Returns all its boxes to the pool. Results that were owed to it may still come for its user.
     pub fn finish(self) {
+        drop(self);
+    }
+}
+
+impl<L: Ledger, R: Wait> Drop for LockEnd<'_, L, R> {
+    /// Returns all its boxes to the pool.
+    fn drop(self) {
         let LockEnd {
             rt,
             pool,
+            account: _account,
             boxes,
-            ..
+            is_uncounted: _is_uncounted,
         } = self;
         pool.put_all_by(rt, boxes);
     }

@@ -298,6 +298,7 @@ impl<L: Ledger> PoolState<L> {
         while let Some(lent) = left.give_up() {
             self.put_by(lent);
         }
+        left.let_go();
     }
 
     /// Notes that a worker waits for a task.
