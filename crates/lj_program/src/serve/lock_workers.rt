@@ -69,7 +69,7 @@ impl<L: Ledger> LockWorkers<L> {
 }
 
 impl<'s, L: Ledger + 's, R: Wait + 's> PoolEnds<'s, R> for LockWorkers<L> {
-    type End = LockEnd<'s, L, R>;
+    type PoolEnd = LockEnd<'s, L, R>;
 
     fn open_end(&'s self, rt: &'s R, user: u8) -> UserEnd<LockEnd<'s, L, R>> {
         let pool = self.pool.end(rt);

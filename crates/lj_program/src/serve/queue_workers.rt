@@ -126,7 +126,7 @@ impl<L: PoolIdentity> QueueWorkers<L> {
 }
 
 impl<'s, L: PoolIdentity + 's, R: Wait + 's> PoolEnds<'s, R> for QueueWorkers<L> {
-    type End = QueueEnd<'s, L, R>;
+    type PoolEnd = QueueEnd<'s, L, R>;
 
     fn open_end(&'s self, rt: &'s R, user: u8) -> UserEnd<QueueEnd<'s, L, R>> {
         let pool = self.pool.end(rt, self.take_pass(rt), user);

@@ -16,16 +16,16 @@ use std::sync::Wait;
 /// The ends of a pool for the connections of a server, whose threads have this runtime.
 pub trait PoolEnds<'s, R> {
     /// An end of the pool.
-    type End: Pool;
+    type PoolEnd: Pool;
 
     /// Makes an end for the user of this number. Nothing is owed to it.
-    fn open_end(&'s self, rt: &'s R, user: u8) -> UserEnd<Self::End>
+    fn open_end(&'s self, rt: &'s R, user: u8) -> UserEnd<Self::PoolEnd>
         ensures user { result.user ≡ user }
-        ensures seen { Self.End.seen result.pool ≡ nothing_seen }
-        ensures own { Self.End.for_others result.pool user ≡ 0 };
+        ensures seen { Self.PoolEnd.seen result.pool ≡ nothing_seen }
+        ensures own { Self.PoolEnd.for_others result.pool user ≡ 0 };
 
     /// Takes an end back, and drops what the pool has of its user.
-    fn finish_end(&'s self, rt: &'s R, end: UserEnd<Self::End>);
+    fn finish_end(&'s self, rt: &'s R, end: UserEnd<Self::PoolEnd>);
 
     /// Closes the pool: from now on no task is computed.
     fn close_pool(&self, rt: &R);
@@ -39,7 +39,7 @@ pub struct ServerBackend<'v, 's, P, R> {
 }
 
 impl<'s, P: PoolEnds<'s, R>, R: Wait + Clock + Log> Backend for ServerBackend<'_, 's, P, R> {
-    type End = P::End;
+    type End = P::PoolEnd;
 
     ghost events = { λ _. None };
 
@@ -51,14 +51,14 @@ impl<'s, P: PoolEnds<'s, R>, R: Wait + Clock + Log> Backend for ServerBackend<'_
         self.visitor.enter(ticket, held)
     }
 
-    fn open(&mut self, user: u8) -> UserEnd<P::End> {
+    fn open(&mut self, user: u8) -> UserEnd<P::PoolEnd> {
         self.visitor.note_entry();
         self.pool.open_end(self.visitor.rt, user)
     }
 
-    fn finish(&mut self, end: UserEnd<P::End>)
-        ensures { Happens None None (withdrawn end.user (P.End.seen end.pool)
-            (P.End.for_others end.pool end.user) ∷ []) }
+    fn finish(&mut self, end: UserEnd<P::PoolEnd>)
+        ensures { Happens None None (withdrawn end.user (P.PoolEnd.seen end.pool)
+            (P.PoolEnd.for_others end.pool end.user) ∷ []) }
     {
         self.pool.finish_end(self.visitor.rt, end);
     }
