@@ -93,7 +93,7 @@ PUSHES = [int_div(24 * 2**56 * (2**25 - n**3), n**7) for n in CENTRES]
 ENERGIES = [int_div(2**50 * (2**24 - n**3), n**6) for n in CENTRES]
 
 
-# Atoms and their motion: lj_ring/specs/Scales and Mixes; lj_tile/specs/Species and Pushes; lj_step/specs/Motion
+# Atoms and their motion: lj_ring/specs/Scales and Mixes; lj_task/specs/Species and Pushes; lj_step/specs/Motion
 
 
 class Class(NamedTuple):
@@ -169,7 +169,7 @@ def stepped(atoms: Composition, sim: Simulation) -> Simulation:
     return Simulation(sim.cur, following, sim.step + sim.dir, sim.dir)
 
 
-# The body of a load: lj_base/specs/Words; lj_xyz/specs/Lines, Atoms and Frames
+# The body of a load: lj_base/specs/Words; lj_xyz/specs/Lines, Atoms and Bodies
 
 
 def words_of(line: bytes) -> Words:
@@ -210,7 +210,7 @@ def frame_at(lines: List[Words], at: int, species: Words, atoms: Optional[int] =
     return rows, at + 2 + count
 
 
-# A user and its commands: lj_session/specs/Users, Loads, Interactions and Answers; lj_wire/specs/Texts
+# A user and its commands: lj_session/specs/Users, Loads, Interactions and Answers; lj_wire/specs/ReplyTexts
 
 
 @dataclass

@@ -88,7 +88,7 @@ def test_each_file_of_definitions_has_its_row() -> None:
 def test_each_crate_stands_on_those_below() -> None:
     found = {name.strip("`"): below for name, _, below in rows(documents.crates())}
     assert set(found) == {path.parent.name for path in TOP.glob("crates/*/src")}
-    assert (found["lj_fixed"], found["lj_tile"]) == ("-", "`lj_base`, `lj_table`")
+    assert (found["lj_fixed"], found["lj_task"]) == ("-", "`lj_base`, `lj_table`")
     assert found["lj_program"] == "`lj_lock`, `lj_queue`, `lj_visit`, `lj_world`"
 
 

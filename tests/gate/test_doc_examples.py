@@ -26,8 +26,8 @@ WITHOUT = [
     "lj_step::motion_laws::steps_are_undone",
     "lj_step::motion_laws::tasks_are_a_cover",
     "lj_step::motion_laws::tasks_are_the_tiles",
-    "lj_tile::results::DoneRef::energy_sum",
-    "lj_tile::results::DoneRef::task",
+    "lj_task::results::DoneRef::energy_sum",
+    "lj_task::results::DoneRef::task",
     "lj_xyz::reading_laws::one_reading",
 ]
 NEEDS_KIT = pytest.mark.skipif(shutil.which("rt") is None, reason="the Rattle toolchain (the command rt) is not on the PATH")

@@ -1,7 +1,8 @@
-"""The names of the crates: each type and each module has one of its own, and none is a figure of speech that was given up."""
+"""The names of the crates: each type, module, file of definitions and definition has one of its own, and none is a word given up."""
 from __future__ import annotations
 
 import re
+import textwrap
 from collections import defaultdict
 from pathlib import Path
 from typing import Callable, Dict, Iterator, List, Tuple
@@ -28,6 +29,9 @@ GIVEN_UP = {
 }
 # Files that each crate may have, which name no module.
 ROOTS = ("lib", "main")
+# Files of definitions that each crate may have, with names for itself: the list of its files, the values of its constants, worked
+# examples, and the texts of its faults.
+OF_EACH_CRATE = ("Lib", "Limits", "Worked", "FaultTexts")
 
 REMARK = re.compile(r'//[^\n]*|b?"(?:\\.|[^"\\])*"')
 DEFINITION_REMARK = re.compile(r"(?m)(?:(?<=\s)|^)--[^\n]*")
@@ -40,6 +44,11 @@ TYPES = [
     re.compile(rf"(?m)^{HEAD}type (\w+)(?:<[^=]*>)? ="),
     re.compile(r"(?m)^ +type (\w+) ?[:;]"),
 ]
+# A declaration begins at the left edge, or at that of the `module` around it.
+DECLARATION = re.compile(r"\n(?=[^\s)}])")
+MODIFIERS = {"pub", "abbrev", "unfoldable", "record", "data"}
+# An operator stands between its arguments, whose types tell whose it is.
+OPERATOR = "◌"
 
 Named = Iterator[Tuple[str, str]]
 
@@ -69,6 +78,36 @@ def type_names(top: Path) -> Named:
         code = code_of(path)
         for found in (one for pattern in TYPES for one in pattern.finditer(code)):
             yield found[1], f"{path.relative_to(top)}:{code.count(chr(10), 0, found.start(1)) + 1}"
+
+
+def declared(code: str, line: int = 1) -> Iterator[Tuple[str, int]]:
+    """Each name that a file of definitions gives a type, with its line."""
+    for part in DECLARATION.split(code):
+        head, _, body = part.partition("\n")
+        if head.startswith("module "):
+            yield from declared(textwrap.dedent(body), line + 1)
+        words = [word for word in re.split(r"\s=\s", part)[0].split() if word not in MODIFIERS]
+        if ":" in words[1:] and words[0] not in ("module", "use") and OPERATOR not in words[0]:
+            yield words[0], line
+        line += part.count("\n") + 1
+
+
+def own_definition_files(top: Path) -> List[Path]:
+    """The files of definitions with names that are held against those of other crates."""
+    return [path for path in definition_files(top) if path.stem not in OF_EACH_CRATE]
+
+
+def definition_names(top: Path) -> Named:
+    """Each definition, with its place."""
+    for path in own_definition_files(top):
+        for name, line in declared(code_of(path)):
+            yield name, f"{path.relative_to(top)}:{line}"
+
+
+def definition_file_names(top: Path) -> Named:
+    """Each file of definitions."""
+    for path in own_definition_files(top):
+        yield path.stem, str(path.relative_to(top))
 
 
 def module_names(top: Path) -> Named:
@@ -113,7 +152,15 @@ def modules_twice(top: Path) -> List[str]:
     return twice("modules", module_names(top))
 
 
-CHECKS = [types_twice, modules_twice, given_up]
+def definitions_twice(top: Path) -> List[str]:
+    return twice("definitions", definition_names(top))
+
+
+def definition_files_twice(top: Path) -> List[str]:
+    return twice("files of definitions", definition_file_names(top))
+
+
+CHECKS = [types_twice, modules_twice, definitions_twice, definition_files_twice, given_up]
 
 
 @pytest.mark.parametrize("check", CHECKS)
@@ -128,9 +175,19 @@ FINE = {
         "/// A struct Wall of bricks.\npub struct Wall {\n    /// How high.\n    outdoor: u8,\n}\n\n"
         "pub trait Maker {\n    type Made: Copy;\n}\n\nimpl Maker for Wall {\n    type Made = Wall;\n}\n"
     ),
-    "crates/one/specs/Walls.antt": "-- a wall has no door -- and no bell\nabbrev pub height : Wall → ℕ\nheight w = w.outdoor\n",
+    "crates/one/specs/Walls.antt": (
+        "-- a wall has no door -- and no bell\nuse Rattle.std.specs.Prelude.{ℕ}\n\nabbrev pub height : Wall → ℕ\nheight w = w.outdoor\n\n"
+        "-- bricks\npub record IsBuilt (w : Wall)\n    (bricks : ℕ) : Type 0 where\n  pub most : height w ≤ bricks\n\n"
+        "module _ {A : Type 0} where\n  -- any\n  pub record Any (a : A) : Type 0 where\n    pub height : ℕ\n\n"
+        "abbrev pub ◌>>=◌ : ℕ → ℕ → ℕ\na >>= b = b\n"
+    ),
+    "crates/one/specs/Limits.antt": "-- a limit\nmost : ℕ\nmost = 8\n",
     "crates/two/src/main.rt": 'fn main() {\n    print("a struct Wall with a door");\n}\n',
     "crates/two/src/roofs.rt": "struct Roof;\n\nimpl Maker for Roof {\n    type Made = Roof;\n}\n",
+    "crates/two/specs/Limits.antt": "-- a limit\nmost : ℕ\nmost = 9\n",
+    "crates/two/specs/Roofs.antt": (
+        "abbrev pub ◌>>=◌ : Roof → Roof → Roof\na >>= b = a\n\nwide : ℕ → ℕ\nwide height =\n    let most : ℕ = 1 in\n    most\n"
+    ),
 }
 
 
@@ -167,6 +224,34 @@ def test_a_module_is_found_that_stands_twice(tmp_path: Path, path: str) -> None:
     (said,) = said_of(tmp_path, {path: "fn up() {}\n"})
     assert said.startswith("walls is the name of 2 modules: ")
     assert {"crates/one/src/walls.rt", path} == set(said.partition(": ")[2].split(", "))
+
+
+@pytest.mark.parametrize(
+    ("name", "line", "text"),
+    [
+        ("height", 4, "abbrev pub height : ℕ\nheight = 3\n"),
+        ("height", 4, "unfoldable pub height :\n    ℕ → ℕ\nheight n = n\n"),
+        ("height", 4, "height : ℕ\nheight = 3\n"),
+        ("IsBuilt", 8, "pub data IsBuilt : Type 0 where\n  Whole : ℕ → IsBuilt\n"),
+        ("IsBuilt", 8, "abbrev pub IsBuilt : (n : ℕ) → Type 0\nIsBuilt n = n ≡ 0\n"),
+        ("Any", 14, "pub record Any : Type 0 where\n  pub any : ℕ\n"),
+        ("Any", 14, "module _ (n : ℕ) where\n  abbrev pub Any : ℕ\n  Any = n\n"),
+    ],
+)
+def test_a_definition_is_found_that_stands_twice(tmp_path: Path, name: str, line: int, text: str) -> None:
+    (said,) = said_of(tmp_path, {"crates/two/specs/Roofs.antt": f"-- so\n{text}"})
+    at = 3 if text.startswith("module") else 2
+    assert said == f"{name} is the name of 2 definitions: crates/one/specs/Walls.antt:{line}, crates/two/specs/Roofs.antt:{at}"
+
+
+def test_a_file_of_definitions_is_found_that_stands_twice(tmp_path: Path) -> None:
+    (said,) = said_of(tmp_path, {"crates/two/specs/Walls.antt": "-- so\nwide : ℕ\nwide = 1\n", "crates/two/specs/Roofs.antt": ""})
+    assert said == "Walls is the name of 2 files of definitions: crates/one/specs/Walls.antt, crates/two/specs/Walls.antt"
+
+
+@pytest.mark.parametrize("file", ["Lib", "Limits", "Worked", "FaultTexts"])
+def test_a_crate_may_name_its_own_limits_and_examples_as_others_do(tmp_path: Path, file: str) -> None:
+    assert said_of(tmp_path, {f"crates/{crate}/specs/{file}.antt": "abbrev pub height : ℕ\nheight = 3\n" for crate in ("one", "two")}) == []
 
 
 @pytest.mark.parametrize("name", ["door", "doors", "DoorOf", "is_door", "door-left", "HALF_DOOR"])

@@ -11,9 +11,9 @@ use Rattle.std.proofs.lemmas.List.Sorted.{IsPermutation-append_left, IsPermutati
 use Rattle.std.proofs.lemmas.List.Sorted.{IsPermutation-remove, IsPermutation-sym, IsPermutation-trans}
 use Rattle.std.proofs.lemmas.Option.{get_or_from_slice_get, slice_get_read, slice_get_within}
 use Rattle.lj_session.specs.UserState.{UserState}
-use Rattle.lj_access.specs.Rows.{UserRow, Ticket, CanEnter, HasEntered, home_of, with_home, with_row_changed, with_row_changed_to, without_home}
+use Rattle.lj_access.specs.UserRows.{UserRow, Ticket, CanEnter, HasEntered, home_of, with_home, with_row_changed, with_row_changed_to, without_home}
 use Rattle.lj_access.proofs.RowLemmas.{place_within}
-use Rattle.lj_access.specs.Passing.{IsNext, PassesOver, passed, passed_over, past_of, tickets_from, tickets_passed}
+use Rattle.lj_access.specs.Passing.{IsNextTicket, PassesOver, passed, passed_over, past_of, tickets_from, tickets_passed}
 
 set-set : (rows : List UserRow) (i : ℕ) (a b : UserRow) → slice_set (slice_set rows i a) i b ≡ slice_set rows i b
 set-set [] i a b = refl
@@ -184,19 +184,19 @@ keeps_all user rows held = record {
 
 -- a ticket that is next is there in the list, also where the list is named otherwise
 pub next_within : (kept items : List Ticket) (at : ℕ) (rows : List UserRow) (user : ℕ) → items ≡ kept
-    → IsSomeAnd (slice_get kept at) (IsNext rows user) → at < length items
+    → IsSomeAnd (slice_get kept at) (IsNextTicket rows user) → at < length items
 next_within kept items at rows user same next =
-    place_within items at (IsNext rows user) (subst (λ others. IsSomeAnd (slice_get others at) (IsNext rows user)) (sym same) next)
+    place_within items at (IsNextTicket rows user) (subst (λ others. IsSomeAnd (slice_get others at) (IsNextTicket rows user)) (sym same) next)
 
 -- the ticket that is read at a place where one is next is that one
 pub read_next : (kept items : List Ticket) (at : ℕ) (rows : List UserRow) (user : ℕ) (ticket : Ticket) → items ≡ kept
-    → IsSomeAnd (slice_get kept at) (IsNext rows user) → ticket ≡ get_or items at ticket
-    → (slice_get kept at ≡ Some ticket) × IsNext rows user ticket
+    → IsSomeAnd (slice_get kept at) (IsNextTicket rows user) → ticket ≡ get_or items at ticket
+    → (slice_get kept at ≡ Some ticket) × IsNextTicket rows user ticket
 read_next kept items at rows user ticket same next read =
     let within = next_within kept items at rows user same next in
     let found : slice_get kept at ≡ Some ticket =
     ap (λ others. slice_get others at) (sym same) ∙ slice_get_read items (length items) at ticket refl within read in
-    (found, subst (λ o. IsSomeAnd o (IsNext rows user)) found next)
+    (found, subst (λ o. IsSomeAnd o (IsNextTicket rows user)) found next)
 
 taken_out : (held kept rest : List Ticket) (at : ℕ) (ticket : Ticket) → at < length kept → ticket ≡ get_or kept at ticket
     → IsPermutation held (kept ++ rest) → IsPermutation held (remove kept at ++ ticket ∷ rest)
@@ -209,7 +209,7 @@ taken_out held kept rest at ticket within read before =
 
 -- one ticket more is taken out and passed over
 pub keeps_less : (user : ℕ) (old between new : List UserRow) (held kept : List Ticket) (at : ℕ) (ticket : Ticket)
-    → Passes user old between held kept → slice_get kept at ≡ Some ticket → IsNext between user ticket
+    → Passes user old between held kept → slice_get kept at ≡ Some ticket → IsNextTicket between user ticket
     → new ≡ with_row_changed user passed_over between → Passes user old new held (remove kept at)
 keeps_less user old between new held kept at ticket before found next over =
     let can : IsSomeAnd (slice_get between user) (CanEnter ticket.number) =

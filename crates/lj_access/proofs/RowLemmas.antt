@@ -7,7 +7,7 @@ use Rattle.std.proofs.Math.Seq.{map-set_same}
 use Rattle.std.proofs.lemmas.List.{length-set, length-map}
 use Rattle.std.proofs.lemmas.Simd.{map-map}
 use Rattle.lj_access.specs.declared.user.User.{User}
-use Rattle.lj_access.specs.Rows.{UserRow, first_row, with_row_changed, with_row_changed_to}
+use Rattle.lj_access.specs.UserRows.{UserRow, first_row, with_row_changed, with_row_changed_to}
 use Rattle.lj_access.specs.Directories.{IsDirectory}
 
 -- a fact of the row that there is holds of the row that is found

@@ -2,7 +2,7 @@
 use Rattle.std.specs.Prelude.{◌≤◌, List, length, map}
 use Rattle.std.specs.List.{IsDistinct}
 use Rattle.std.specs.Str.{bytes_eq}
-use Rattle.lj_access.specs.Rows.{UserRow}
+use Rattle.lj_access.specs.UserRows.{UserRow}
 use Rattle.lj_access.specs.declared.directory.TheConstants.{MAX_USERS}
 
 -- 1 to 64 rows of distinct names

@@ -1,5 +1,5 @@
-pub mod Users
-pub mod Rows
+pub mod UserLists
+pub mod UserRows
 pub mod Directories
 pub mod Limits
 pub mod Passing

@@ -1,7 +1,7 @@
 -- Tickets that are passed over: each enters and leaves at once, and the state is home again, unchanged.
 use Rattle.std.specs.Prelude.{◌≡◌, ℕ, zero, suc, ◌+◌, ◌-◌, List, [], ◌∷◌, IsSomeAnd, slice_get, unwrap_or}
 use Rattle.std.specs.Option.{option_map}
-use Rattle.lj_access.specs.Rows.{UserRow, Ticket, CanEnter, with_row_changed}
+use Rattle.lj_access.specs.UserRows.{UserRow, Ticket, CanEnter, with_row_changed}
 
 -- one more ticket has left
 abbrev pub passed_over : UserRow → UserRow
@@ -16,7 +16,7 @@ abbrev pub PassesOver : ℕ → List UserRow → List UserRow → Type 0
 PassesOver user old new = (count : ℕ) × (new ≡ with_row_changed user (passed count) old)
 
 -- the ticket is one of this user, and may enter now
-pub record IsNext (rows : List UserRow) (user : ℕ) (ticket : Ticket) : Type 0 where
+pub record IsNextTicket (rows : List UserRow) (user : ℕ) (ticket : Ticket) : Type 0 where
   pub own : ticket.user ≡ user
   pub enters : IsSomeAnd (slice_get rows ticket.user) (CanEnter ticket.number)
 

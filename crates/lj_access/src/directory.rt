@@ -4,8 +4,8 @@ ghost use Rattle.std.specs.List.{IsDistinct};
 ghost use Rattle.std.specs.Option.{ForSome, option_map, option_copied};
 ghost use Rattle.std.specs.Str.{bytes_eq};
 ghost use Rattle.lj_session.specs.UserState.{Reached};
-ghost use Rattle.lj_access.specs.Users.{names};
-ghost use Rattle.lj_access.specs.Rows.{first_row, user_with, HasTicketLeft, next_number, home_of, CanEnter, HasEntered, with_ticket, without_home, with_home, with_row_changed};
+ghost use Rattle.lj_access.specs.UserLists.{user_names};
+ghost use Rattle.lj_access.specs.UserRows.{first_row, user_with, HasTicketLeft, next_number, home_of, CanEnter, HasEntered, with_ticket, without_home, with_home, with_row_changed};
 
 use crate::ticket::{Denied, NotEntered, Ticket};
 use crate::user::User;
@@ -27,7 +27,7 @@ pub struct Directory {
 
 impl Model for Directory {
     ghost use Rattle.std.specs.Prelude.{List};
-    ghost use Rattle.lj_access.specs.Rows as known;
+    ghost use Rattle.lj_access.specs.UserRows as known;
     ghost use Rattle.lj_access.specs.Directories.{IsDirectory};
 
     ghost Value = { List known.UserRow };
@@ -45,7 +45,7 @@ impl Directory {
     pub fn new(alloc: Global, users: Vec<User>) -> Result<Directory, AllocError>
         requires some { 1 ≤ length users.items }
         requires most { length users.items ≤ MAX_USERS }
-        requires distinct { IsDistinct bytes_eq (names users.items) }
+        requires distinct { IsDistinct bytes_eq (user_names users.items) }
         ensures { IfOk result (λ directory. directory ≡ map first_row users.items) }
     {
         let rows = opening_rows(alloc, users)?;

@@ -2,8 +2,8 @@
 ghost use Rattle.std.specs.Prelude.{◌≡◌, ◌↔◌, [], ◌∷◌, ◌++◌, IsTrue, IfErr, IfNone, IfSome, IsSomeAnd, OnErr, OnOk, slice_get};
 ghost use Rattle.std.specs.List.{All};
 ghost use Rattle.std.specs.List.Sorted.{IsPermutation};
-ghost use Rattle.lj_access.specs.Passing.{IsNext, PassesOver, passed_over, tickets_passed};
-ghost use Rattle.lj_access.specs.Rows.{CanEnter, with_row_changed};
+ghost use Rattle.lj_access.specs.Passing.{IsNextTicket, PassesOver, passed_over, tickets_passed};
+ghost use Rattle.lj_access.specs.UserRows.{CanEnter, with_row_changed};
 
 use crate::directory::Directory;
 use crate::ticket::Ticket;
@@ -18,7 +18,7 @@ pub struct GivenUp {
 
 impl Model for GivenUp {
     ghost use Rattle.std.specs.Prelude.{List};
-    ghost use Rattle.lj_access.specs.Rows as known;
+    ghost use Rattle.lj_access.specs.UserRows as known;
 
     ghost Value = { List known.Ticket };
 
@@ -58,7 +58,7 @@ impl GivenUp {
     pub fn pass(&mut self, directory: &mut Directory, user: u8)
         ensures passed { PassesOver user directory.old directory.new }
         ensures kept { IsPermutation self.old (self.new ++ tickets_passed user directory.old directory.new) }
-        ensures waiting { All (λ ticket. ¬ IsNext directory.new user ticket) self.new }
+        ensures waiting { All (λ ticket. ¬ IsNextTicket directory.new user ticket) self.new }
     {
         while let Some(at) = self.next_of(directory, user) {
             let ticket = self.tickets.remove(at);
@@ -68,8 +68,8 @@ impl GivenUp {
 
     /// Returns the index of a kept ticket of this user that may enter now.
     fn next_of(&self, directory: &Directory, user: u8) -> Option<usize>
-        ensures next { IfSome result (λ at. IsSomeAnd (slice_get self.now at) (IsNext directory.now user)) }
-        ensures none { IfNone result (All (λ ticket. ¬ IsNext directory.now user ticket) self.now) }
+        ensures next { IfSome result (λ at. IsSomeAnd (slice_get self.now at) (IsNextTicket directory.now user)) }
+        ensures none { IfNone result (All (λ ticket. ¬ IsNextTicket directory.now user ticket) self.now) }
     {
         self.tickets
             .iter()
@@ -79,7 +79,7 @@ impl GivenUp {
 
 /// Returns whether the ticket is one of this user that may enter now.
 fn is_next(directory: &Directory, ticket: &Ticket, user: u8) -> bool
-    ensures { IsTrue result ↔ IsNext directory.now user ticket.now }
+    ensures { IsTrue result ↔ IsNextTicket directory.now user ticket.now }
 {
     ticket.user() == user && directory.can_enter(ticket)
 }

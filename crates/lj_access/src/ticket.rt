@@ -14,7 +14,7 @@ pub struct Ticket {
 }
 
 impl Model for Ticket {
-    ghost use Rattle.lj_access.specs.Rows.{Ticket};
+    ghost use Rattle.lj_access.specs.UserRows.{Ticket};
 
     ghost Value = { Ticket };
 

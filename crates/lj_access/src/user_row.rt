@@ -1,6 +1,6 @@
 //! The row of a user in the directory.
 ghost use Rattle.std.specs.Prelude.{◌≡◌, ◌↔◌, ◌<◌, IsTrue, IsSome, Some, None};
-ghost use Rattle.lj_access.specs.Rows.{first_row, is_of, HasTicketLeft, IsFirst, CanEnter, HasEntered, with_ticket, without_home, with_home};
+ghost use Rattle.lj_access.specs.UserRows.{first_row, has_credentials, HasTicketLeft, IsFirstTicket, CanEnter, HasEntered, with_ticket, without_home, with_home};
 ghost use Rattle.lj_session.specs.UserState.{Reached};
 
 use crate::user::User;
@@ -23,7 +23,7 @@ pub(crate) struct UserRow {
 }
 
 impl Model for UserRow {
-    ghost use Rattle.lj_access.specs.Rows as rows;
+    ghost use Rattle.lj_access.specs.UserRows as rows;
 
     ghost Value = { rows.UserRow };
 
@@ -52,7 +52,7 @@ impl UserRow {
 
     /// Returns whether the user has this name and this token.
     pub(crate) fn is_of(&self, name: &[u8], token: &[u8]) -> bool
-        ensures { result ≡ is_of name.now token.now self.now }
+        ensures { result ≡ has_credentials name.now token.now self.now }
     {
         (self.name.as_bytes() == name) & self.token.is(token)
     }
@@ -90,7 +90,7 @@ impl UserRow {
     }
 
     fn is_first(&self, number: u32) -> bool
-        ensures { IsTrue result ↔ IsFirst number self.now }
+        ensures { IsTrue result ↔ IsFirstTicket number self.now }
     {
         u64::from(number) < self.granted && self.past == u64::from(number)
     }

@@ -5,7 +5,7 @@ use Rattle.std.proofs.lemmas.List.{get_or_past}
 use Rattle.std.proofs.lemmas.List.Sums.{sum_by-cons}
 use Rattle.std.specs.Prelude.{slice_set}
 use Rattle.slab.specs.Slab.{Slab, Updates, get, slab_len}
-use Rattle.lj_tile.specs.Task.{Task}
+use Rattle.lj_task.specs.Task.{Task}
 use Rattle.lj_book.specs.declared.book_entry.TheConstants.{MAX_ENTRIES}
 use Rattle.lj_book.specs.declared.key_states.KeyState.{KeyState}
 use Rattle.lj_book.specs.declared.key_states.KeyState.TheVariants.{Vacant, ToTake, Taken, ToFetch}

@@ -3,7 +3,7 @@ use Rattle.std.proofs.Common.{◌≡◌, ℕ, ◌≤◌, Option, Some, None, ref
 use Rattle.std.proofs.lemmas.Bool.{cases_eq}
 use Rattle.std.specs.Prelude.{Vec, IfSome, IfNone}
 use Rattle.std.specs.Global.{Global}
-use Rattle.lj_tile.specs.Task.{Task}
+use Rattle.lj_task.specs.Task.{Task}
 use Rattle.lj_book.specs.Picks.{IsPick}
 use Rattle.lj_book.specs.Book.{BookOf, BookEntry, Open, Out, Done, Puts, Posts, LetsOut, Reopens, Finishes, Fetches, IsDoneAt, entry_at}
 use Rattle.lj_book.specs.Boxes.{AreOlder, BoxBook, FetchesBox, GivesBox, HandsBackBox, IsBelow, IsBoxBook, IsOut, LentTask, Numbered, PostsBox, Slip, TakesBox, numbered_of, slip_of}

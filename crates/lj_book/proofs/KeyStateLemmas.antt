@@ -9,30 +9,30 @@ use Rattle.std.proofs.lemmas.Bool.{cases_eq, cases_lt}
 use Rattle.lj_book.specs.declared.key_states.KeyState.{KeyState}
 use Rattle.lj_book.specs.declared.key_states.KeyState.TheVariants.{Vacant, ToTake, Taken, ToFetch}
 use Rattle.lj_book.specs.declared.key_states.TheConstants.{GROUP, KINDS}
-use Rattle.lj_book.specs.KeyStates.{kind_of, key_state_at, bit_of, bit_of_key, ChangesBit, HasKeyState, HasNoBit, HasNone, IsIndexed, IsLeast, IsLowestBit}
+use Rattle.lj_book.specs.KeyStates.{state_number, key_state_at, bit_of, bit_of_key, ChangesBit, HasKeyState, HasNoBit, HasNone, IsIndexed, IsLeast, IsLowestBit}
 
 -- states of one number are one state
-kind_of-injective : (a b : KeyState) → kind_of a ≡ kind_of b → a ≡ b
-kind_of-injective Vacant Vacant same = refl
-kind_of-injective Vacant ToTake same = absurd (omega (arith, same))
-kind_of-injective Vacant Taken same = absurd (omega (arith, same))
-kind_of-injective Vacant (ToFetch user) same = absurd (omega (arith, same))
-kind_of-injective ToTake Vacant same = absurd (omega (arith, same))
-kind_of-injective ToTake ToTake same = refl
-kind_of-injective ToTake Taken same = absurd (omega (arith, same))
-kind_of-injective ToTake (ToFetch user) same = absurd (omega (arith, same))
-kind_of-injective Taken Vacant same = absurd (omega (arith, same))
-kind_of-injective Taken ToTake same = absurd (omega (arith, same))
-kind_of-injective Taken Taken same = refl
-kind_of-injective Taken (ToFetch user) same = absurd (omega (arith, same))
-kind_of-injective (ToFetch user) Vacant same = absurd (omega (arith, same))
-kind_of-injective (ToFetch user) ToTake same = absurd (omega (arith, same))
-kind_of-injective (ToFetch user) Taken same = absurd (omega (arith, same))
-kind_of-injective (ToFetch user) (ToFetch other) same = ap ToFetch (omega (arith, same))
+state_number-injective : (a b : KeyState) → state_number a ≡ state_number b → a ≡ b
+state_number-injective Vacant Vacant same = refl
+state_number-injective Vacant ToTake same = absurd (omega (arith, same))
+state_number-injective Vacant Taken same = absurd (omega (arith, same))
+state_number-injective Vacant (ToFetch user) same = absurd (omega (arith, same))
+state_number-injective ToTake Vacant same = absurd (omega (arith, same))
+state_number-injective ToTake ToTake same = refl
+state_number-injective ToTake Taken same = absurd (omega (arith, same))
+state_number-injective ToTake (ToFetch user) same = absurd (omega (arith, same))
+state_number-injective Taken Vacant same = absurd (omega (arith, same))
+state_number-injective Taken ToTake same = absurd (omega (arith, same))
+state_number-injective Taken Taken same = refl
+state_number-injective Taken (ToFetch user) same = absurd (omega (arith, same))
+state_number-injective (ToFetch user) Vacant same = absurd (omega (arith, same))
+state_number-injective (ToFetch user) ToTake same = absurd (omega (arith, same))
+state_number-injective (ToFetch user) Taken same = absurd (omega (arith, same))
+state_number-injective (ToFetch user) (ToFetch other) same = ap ToFetch (omega (arith, same))
 
 -- a state that is not vacant has no number 0
-pub kind_of-positive : (a : KeyState) → a ≢ Vacant → kind_of a ≢ 0
-kind_of-positive a other none = other (kind_of-injective a Vacant none)
+pub state_number-positive : (a : KeyState) → a ≢ Vacant → state_number a ≢ 0
+state_number-positive a other none = other (state_number-injective a Vacant none)
 
 -- a mask that is replaced, and differs from the one before in one bit
 pub changes_bit : (masks : List ℕ) (kind mask at bit : ℕ) → kind < length masks → bit_at mask at ≡ bit
@@ -66,7 +66,7 @@ pub IsIndexed-vacant : (keys : ℕ) (masks : List ℕ) → masks ≡ replicate K
     → IsIndexed (replicate keys Vacant) (replicate (keys / GROUP + 1) masks)
 IsIndexed-vacant keys masks zeros = record {
   enough = simp length-replicate;
-  all = λ k some. absurd (some (ap kind_of (vacant k)));
+  all = λ k some. absurd (some (ap state_number (vacant k)));
   only = λ k kind some bit. absurd (omega (arith, bit, none k kind));
 }
   where
@@ -89,8 +89,8 @@ IsIndexed-vacant keys masks zeros = record {
 -- a state that is set, and its bit moved
 pub IsIndexed-set : (key_states : List KeyState) (groups : List (List ℕ)) (between masks : List ℕ) (key : ℕ) (key_state : KeyState)
     → key < length key_states
-    → ChangesBit 0 (kind_of (key_state_at key_states key)) (key % GROUP) (get_or groups (key / GROUP) []) between
-    → ChangesBit 1 (kind_of key_state) (key % GROUP) between masks
+    → ChangesBit 0 (state_number (key_state_at key_states key)) (key % GROUP) (get_or groups (key / GROUP) []) between
+    → ChangesBit 1 (state_number key_state) (key % GROUP) between masks
     → IsIndexed key_states groups → IsIndexed (set key_states key key_state) (set groups (key / GROUP) masks)
 IsIndexed-set key_states groups between masks key key_state within cleared is_set index = record {
   enough = rw (length-set groups (key / GROUP) masks, length-set key_states key key_state) index.enough;
@@ -98,7 +98,7 @@ IsIndexed-set key_states groups between masks key key_state within cleared is_se
     | inl same ↦ rw (same, get_or-set_same key_states key key_state Vacant within, here) is_set.is
     | inr other ↦
         rw (get_or-set_other key_states key k key_state Vacant other)
-        (elsewhere k (kind_of (key_state_at key_states k)) other
+        (elsewhere k (state_number (key_state_at key_states k)) other
         ∙ index.all k (rw (← get_or-set_other key_states key k key_state Vacant other) some))
   ];
   only = λ k kind some bit. elim (cases_eq k key) [
@@ -121,12 +121,12 @@ IsIndexed-set key_states groups between masks key key_state within cleared is_se
       | inr another ↦ ap (λ m. bit_of m kind (k % GROUP)) (get_or-set_other groups (key / GROUP) (k / GROUP) masks [] another)
     ]
 
-    at_key : (kind : ℕ) → kind ≢ 0 → bit_of masks kind (key % GROUP) ≡ 1 → kind_of key_state ≡ kind
-    at_key kind some bit = elim (cases_eq kind (kind_of key_state)) [
+    at_key : (kind : ℕ) → kind ≢ 0 → bit_of masks kind (key % GROUP) ≡ 1 → state_number key_state ≡ kind
+    at_key kind some bit = elim (cases_eq kind (state_number key_state)) [
       | inl same ↦ sym same
       | inr other ↦
           let before : bit_of between kind (key % GROUP) ≡ 1 = sym (is_set.others kind (key % GROUP) (inl other) (omega arith)) ∙ bit in
-          elim (cases_eq kind (kind_of (key_state_at key_states key))) [
+          elim (cases_eq kind (state_number (key_state_at key_states key))) [
             | inl was ↦ absurd (omega (arith, sym (ap (λ k. bit_of between k (key % GROUP)) was) ∙ before, cleared.is))
             | inr another ↦
                 absurd (another (sym (index.only key kind some
@@ -168,16 +168,16 @@ lowest_bit_is mask from rest small is some fits =
 -- the bit of a key that has the state
 bit_there : (key_states : List KeyState) (groups : List (List ℕ)) (key_state : KeyState) (group k : ℕ) → IsIndexed key_states groups
     → key_state ≢ Vacant → k / GROUP ≡ group → HasKeyState key_states key_state k
-    → bit_of (get_or groups group []) (kind_of key_state) (k % GROUP) ≡ 1
+    → bit_of (get_or groups group []) (state_number key_state) (k % GROUP) ≡ 1
 bit_there key_states groups key_state group k index searched in_group has =
-    ap (λ g. bit_of (get_or groups g []) (kind_of key_state) (k % GROUP)) (sym in_group)
-    ∙ ap (λ state. bit_of_key groups (kind_of state) k) (sym has.is)
-    ∙ index.all k (rw has.is (kind_of-positive key_state searched))
+    ap (λ g. bit_of (get_or groups g []) (state_number key_state) (k % GROUP)) (sym in_group)
+    ∙ ap (λ state. bit_of_key groups (state_number state) k) (sym has.is)
+    ∙ index.all k (rw has.is (state_number-positive key_state searched))
 
 -- where the mask of a state has no later bit, no later key of the group has the state
 pub none_in : (key_states : List KeyState) (groups : List (List ℕ)) (key_state : KeyState) (group from : ℕ)
     → IsIndexed key_states groups → key_state ≢ Vacant → GROUP * group ≤ from
-    → HasNoBit (get_or (get_or groups group []) (kind_of key_state) 0) (from % GROUP) GROUP
+    → HasNoBit (get_or (get_or groups group []) (state_number key_state) 0) (from % GROUP) GROUP
     → HasNone key_states key_state from (GROUP * group + GROUP)
 none_in key_states groups key_state group from index searched first none k low high has =
     absurd (omega (
@@ -189,7 +189,7 @@ none_in key_states groups key_state group from index searched first none k low h
 -- the lowest of the later bits of the mask of a state is that of the least of the later keys of the group that has the state
 pub least_is : (key_states : List KeyState) (groups : List (List ℕ)) (key_state : KeyState) (group from at : ℕ)
     → IsIndexed key_states groups → key_state ≢ Vacant → GROUP * group ≤ from → from < GROUP * group + GROUP
-    → IsLowestBit (get_or (get_or groups group []) (kind_of key_state) 0) (from % GROUP) at
+    → IsLowestBit (get_or (get_or groups group []) (state_number key_state) 0) (from % GROUP) at
     → IsLeast key_states key_state from (length key_states) (GROUP * group + at)
 least_is key_states groups key_state group from at index searched first last lowest = record {
   has = has;
@@ -206,17 +206,17 @@ least_is key_states groups key_state group from at index searched first last low
     key : ℕ
     key = GROUP * group + at
 
-    is_kind : kind_of (key_state_at key_states key) ≡ kind_of key_state
+    is_kind : state_number (key_state_at key_states key) ≡ state_number key_state
     is_kind =
         let same_group : key / GROUP ≡ group = omega (arith, lowest.within) in
         let same_place : key % GROUP ≡ at = omega (arith, lowest.within) in
-        index.only key (kind_of key_state) (kind_of-positive key_state searched) (rw (same_group, same_place) lowest.is)
+        index.only key (state_number key_state) (state_number-positive key_state searched) (rw (same_group, same_place) lowest.is)
 
     has : HasKeyState key_states key_state key
     has = record {
       within = elim (cases_lt key (length key_states)) [
         | inl less ↦ less
-        | inr more ↦ absurd (kind_of-positive key_state searched (sym is_kind ∙ ap kind_of (get_or-eq_default key_states Vacant more)))
+        | inr more ↦ absurd (state_number-positive key_state searched (sym is_kind ∙ ap state_number (get_or-eq_default key_states Vacant more)))
       ];
-      is = kind_of-injective (key_state_at key_states key) key_state is_kind;
+      is = state_number-injective (key_state_at key_states key) key_state is_kind;
     }

@@ -1,7 +1,7 @@
 -- Why a box that has left stays refused.
 use Rattle.std.proofs.Common.{◌≡◌, ◌≢◌, ℕ, zero, suc, ◌<◌, ◌≤◌, Bool, true, false, Option, Some, None, cond, nat_eq, refl, sym, ap, subst, ◌∙◌, inl, inr, arith}
 use Rattle.std.proofs.lemmas.Bool.{cases_eq}
-use Rattle.lj_book.specs.Book.{BookOf, BookEntry, Out, Puts, entry_at, slot_left, user_of}
+use Rattle.lj_book.specs.Book.{BookOf, BookEntry, Out, Puts, entry_at, slot_left, user_of_task}
 use Rattle.lj_book.specs.Boxes.{AreOlder, BoxBook, GivesBox, IsBelow, IsOut, LentTask, Numbered, Slip, WithdrawsBox, is_slot_of, slip_of}
 use Rattle.lj_book.specs.Refused.{Changes, Posting, Taking, Giving, Handing_back, Fetching, Withdrawing, Stocking, HasLeft, Runs, number_at}
 
@@ -71,13 +71,13 @@ out_below old lent older out = subst (IsBelow old.inner.posted) out (older lent.
 same_user : (user : ℕ) → nat_eq user user ≡ true
 same_user user = grind arith
 
-pub withdrawn_left : (old new : BoxBook) (lent : LentTask) → AreOlder old.inner → IsOut old lent → WithdrawsBox (user_of lent.work) old new
+pub withdrawn_left : (old new : BoxBook) (lent : LentTask) → AreOlder old.inner → IsOut old lent → WithdrawsBox (user_of_task lent.work) old new
     → HasLeft new lent
 withdrawn_left old new lent older out w = record {
   number = omega (arith, out_below old lent older out, w.withdraws.posted);
   gone = none_there _ lent.number (ap number_at (w.withdraws.slots lent.key)
-      ∙ ap (λ slot. number_at (slot_left (is_slot_of (user_of lent.work)) slot)) out
-      ∙ ap (λ passes. number_at (cond passes None (Some (Out (slip_of lent))))) (same_user (user_of lent.work)));
+      ∙ ap (λ slot. number_at (slot_left (is_slot_of (user_of_task lent.work)) slot)) out
+      ∙ ap (λ passes. number_at (cond passes None (Some (Out (slip_of lent))))) (same_user (user_of_task lent.work)));
 }
 
 pub given_left : (old new : BoxBook) (lent : LentTask) → AreOlder old.inner → GivesBox old new lent → HasLeft new lent

@@ -1,7 +1,7 @@
 -- The contents of a book, and how each call changes it.
 use Rattle.std.specs.Prelude.{◌≡◌, ◌≢◌, ℕ, ◌+◌, ◌-◌, ◌^◌, ◌≤◌, ◌<◌, Bool, true, false, List, Option, Some, None, is_some, count_by, cond, nat_eq, slice_index_or, length}
 use Rattle.slab.specs.Slab.{Slab, get, slab_len}
-use Rattle.lj_tile.specs.Task.{Task}
+use Rattle.lj_task.specs.Task.{Task}
 use Rattle.lj_book.specs.declared.key_states.KeyState.{KeyState}
 use Rattle.lj_book.specs.declared.key_states.KeyState.TheVariants.{Vacant, ToTake, Taken, ToFetch}
 use Rattle.lj_book.specs.declared.book_entry.TheConstants.{MAX_ENTRIES}
@@ -23,8 +23,8 @@ abbrev pub Book : Type 0
 Book = BookOf Task Task
 
 -- the user of a task
-abbrev pub user_of : Task → ℕ
-user_of work = work.name.label.user
+abbrev pub user_of_task : Task → ℕ
+user_of_task work = work.name.label.user
 
 module _ {P K : Type 0} where
   -- the entry under a key
@@ -170,7 +170,7 @@ module _ {P K : Type 0} where
   abbrev pub whose_by : (P → ℕ) → (K → ℕ) → BookEntry P K → ℕ
   whose_by of_open of_kept (Open opened) = of_open opened
   whose_by of_open of_kept (Out kept) = of_kept kept
-  whose_by of_open of_kept (Done work) = user_of work
+  whose_by of_open of_kept (Done work) = user_of_task work
 
   -- the entry is one of this user
   abbrev pub is_of_by : (P → ℕ) → (K → ℕ) → ℕ → Option (BookEntry P K) → Bool
@@ -190,9 +190,9 @@ abbrev pub Gives : Book → Book → ℕ → Task → Type 0
 Gives old new key work = Finishes old new key work work
 
 -- the entry is one of this user
-abbrev pub is_of : ℕ → Option (BookEntry Task Task) → Bool
-is_of user = is_of_by user_of user_of user
+abbrev pub is_of_user : ℕ → Option (BookEntry Task Task) → Bool
+is_of_user user = is_of_by user_of_task user_of_task user
 
 -- every entry of the user has left the book, and these are counted
 abbrev pub Withdraws : ℕ → Book → Book → Type 0
-Withdraws user old new = Removes (is_of user) old new
+Withdraws user old new = Removes (is_of_user user) old new

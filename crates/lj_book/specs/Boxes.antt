@@ -2,9 +2,9 @@
 use Rattle.std.specs.Prelude.{◌≡◌, ℕ, ◌+◌, ◌≤◌, ◌<◌, Bool, true, false, List, [], Option, Some, None, count_by, Vec, vec_len}
 use Rattle.std.specs.Global.{Global}
 use Rattle.std.specs.Vec.{vec_capacity}
-use Rattle.lj_tile.specs.Task.{Task}
+use Rattle.lj_task.specs.Task.{Task}
 use Rattle.lj_book.specs.declared.book_entry.TheConstants.{MAX_ENTRIES}
-use Rattle.lj_book.specs.Book.{BookOf, BookEntry, Open, Out, Done, entry_at, entry_count, user_of, is_of_by, Posts, LetsOut, Reopens, Finishes, Fetches, Removes}
+use Rattle.lj_book.specs.Book.{BookOf, BookEntry, Open, Out, Done, entry_at, entry_count, user_of_task, is_of_by, Posts, LetsOut, Reopens, Finishes, Fetches, Removes}
 
 -- the entry holds a box, by whether an open one does, and what is stored while it is out
 abbrev pub has_box_by : {P K : Type 0} → (P → Bool) → (K → Bool) → Option (BookEntry P K) → Bool
@@ -50,7 +50,7 @@ numbered_of lent = record { number = lent.number; work = lent.work }
 
 -- what is stored for a task while its box is out
 abbrev pub slip_for : Numbered → Slip
-slip_for opened = record { number = opened.number; user = user_of opened.work }
+slip_for opened = record { number = opened.number; user = user_of_task opened.work }
 
 -- what is stored for the lent task
 abbrev pub slip_of : LentTask → Slip
@@ -102,7 +102,7 @@ pub record IsBoxBook (inner : BookOf Numbered Slip) (spare : Vec Task Global) (m
 
 -- the entry is one of this user
 abbrev pub is_slot_of : ℕ → Option (BookEntry Numbered Slip) → Bool
-is_slot_of = is_of_by (λ opened. user_of opened.work) (λ kept. kept.user)
+is_slot_of = is_of_by (λ opened. user_of_task opened.work) (λ kept. kept.user)
 
 -- a book without entries, whose boxes are all spare
 abbrev pub empty_box_book : ℕ → BoxBook

@@ -26,11 +26,11 @@ pub record IsLeast (key_states : List KeyState) (key_state : KeyState) (from to 
   pub none_before : HasNone key_states key_state from key
 
 -- a number that is different for each state
-abbrev pub kind_of : KeyState → ℕ
-kind_of Vacant = 0
-kind_of ToTake = 1
-kind_of Taken = 2
-kind_of (ToFetch user) = 3 + user
+abbrev pub state_number : KeyState → ℕ
+state_number Vacant = 0
+state_number ToTake = 1
+state_number Taken = 2
+state_number (ToFetch user) = 3 + user
 
 -- the bit of a place in the mask of a kind
 abbrev pub bit_of : List ℕ → ℕ → ℕ → ℕ
@@ -60,5 +60,5 @@ pub record ChangesBit (bit kind at : ℕ) (old new : List ℕ) : Type 0 where
 -- of this kind.
 pub record IsIndexed (key_states : List KeyState) (groups : List (List ℕ)) : Type 0 where
   pub enough : length groups ≡ length key_states / GROUP + 1
-  pub all : (k : ℕ) → kind_of (key_state_at key_states k) ≢ 0 → bit_of_key groups (kind_of (key_state_at key_states k)) k ≡ 1
-  pub only : (k kind : ℕ) → kind ≢ 0 → bit_of_key groups kind k ≡ 1 → kind_of (key_state_at key_states k) ≡ kind
+  pub all : (k : ℕ) → state_number (key_state_at key_states k) ≢ 0 → bit_of_key groups (state_number (key_state_at key_states k)) k ≡ 1
+  pub only : (k kind : ℕ) → kind ≢ 0 → bit_of_key groups kind k ≡ 1 → state_number (key_state_at key_states k) ≡ kind

@@ -1,6 +1,6 @@
 -- Boxes that are refused for ever.
 use Rattle.std.specs.Prelude.{◌≡◌, ◌≢◌, ℕ, zero, suc, ◌<◌, Option, Some, None}
-use Rattle.lj_tile.specs.Task.{Task}
+use Rattle.lj_task.specs.Task.{Task}
 use Rattle.lj_book.specs.Book.{BookEntry, Open, Out, Done, entry_at}
 use Rattle.lj_book.specs.Boxes.{BoxBook, FetchesBox, GivesBox, HandsBackBox, LentTask, Numbered, PostsBox, Slip, TakesBox, WithdrawsBox}
 

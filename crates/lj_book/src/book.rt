@@ -8,7 +8,7 @@ use crate::book_faults::{Full, NoRoom, NotOut};
 use crate::book_of::BookOf;
 use crate::counts::Counts;
 use crate::task_box::{TaskBox, boxes, spare_box};
-use lj_tile::{Done, Task};
+use lj_task::{Done, Task};
 use std::alloc::{AllocError, Global};
 use std::marker::Model;
 

@@ -1,7 +1,7 @@
 //! Entries, and how one of them changes.
 ghost use Rattle.std.specs.Prelude.{◌≡◌, ℕ, Bool, is_some, true, Some};
 ghost use Rattle.slab.specs.Slab.{get, ContainsKey, Updates, slab_len};
-ghost use Rattle.lj_book.specs.Book.{key_state_of, user_of, whose_by};
+ghost use Rattle.lj_book.specs.Book.{key_state_of, user_of_task, whose_by};
 ghost use Rattle.lj_book.specs.Boxes.{has_box_by};
 
 use crate::key_states::KeyState;
@@ -70,7 +70,7 @@ pub(crate) trait Keeps: Drop {
 }
 
 impl Keeps for TaskBox {
-    ghost whose = { user_of };
+    ghost whose = { user_of_task };
 
     ghost boxed = { λ task. true };
 

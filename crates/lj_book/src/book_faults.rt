@@ -1,5 +1,5 @@
 //! Faults of the book.
-use lj_tile::Task;
+use lj_task::Task;
 use thiserror::Error;
 
 /// The refusal of a post, with the task: the book is full, or has counted 2^64 - 1 posts.

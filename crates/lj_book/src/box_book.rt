@@ -8,7 +8,7 @@ use crate::book_of::BookOf;
 use crate::counts::Counts;
 use crate::lent_task::{Lent, LentDone, LentTask, Numbered, Slip};
 use crate::task_box::{DoneBox, TaskBox, boxes};
-use lj_tile::Task;
+use lj_task::Task;
 use std::alloc::{AllocError, Global};
 use std::marker::Model;
 

@@ -1,6 +1,6 @@
 //! Laws of the book of boxes, over all of its runs. The functions do nothing: what counts is what they ensure.
 ghost use Rattle.std.specs.Prelude.{◌≡◌, ℕ};
-ghost use Rattle.lj_book.specs.Book.{user_of};
+ghost use Rattle.lj_book.specs.Book.{user_of_task};
 ghost use Rattle.lj_book.specs.Boxes.{AreOlder, BoxBook, GivesBox, IsOut, LentTask, WithdrawsBox};
 ghost use Rattle.lj_book.specs.Refused.{HasLeft, Runs};
 
@@ -8,7 +8,7 @@ ghost use Rattle.lj_book.specs.Refused.{HasLeft, Runs};
 /// is posted, taken, given, handed back, fetched or withdrawn later.
 pub fn boxes_that_left_are_refused()
     ensures withdrawn { (old new : BoxBook) (lent : LentTask) → AreOlder old.inner → IsOut old lent
-        → WithdrawsBox (user_of lent.work) old new → HasLeft new lent }
+        → WithdrawsBox (user_of_task lent.work) old new → HasLeft new lent }
     ensures given { (old new : BoxBook) (lent : LentTask) → AreOlder old.inner → GivesBox old new lent → HasLeft new lent }
     ensures stays { (calls : ℕ) (old new : BoxBook) (lent : LentTask) → Runs calls old new → HasLeft old lent
         → HasLeft new lent }

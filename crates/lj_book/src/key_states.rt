@@ -2,7 +2,7 @@
 ghost use Rattle.std.specs.Prelude.{◌≡◌, ◌≢◌, ◌≤◌, ◌<◌, ◌+◌, ◌*◌, ◌/◌, ℕ, max, length, replicate, slice_set, slice_index_or, IfOk, IfSome, IfNone};
 ghost use Rattle.lj_book.specs.declared.key_states.KeyState.TheVariants.{Vacant};
 ghost use Rattle.lj_book.specs.Picks.{IsPick};
-ghost use Rattle.lj_book.specs.KeyStates.{HasKeyState, IsLeast, HasNone, kind_of, ChangesBit, HasNoBit, IsLowestBit};
+ghost use Rattle.lj_book.specs.KeyStates.{HasKeyState, IsLeast, HasNone, state_number, ChangesBit, HasNoBit, IsLowestBit};
 
 use std::alloc::{AllocError, Global};
 use std::marker::Model;
@@ -28,7 +28,7 @@ pub enum KeyState {
 impl KeyState {
     /// Returns a number that is different for each state.
     fn kind(self) -> usize
-        ensures value { result ≡ kind_of self }
+        ensures value { result ≡ state_number self }
         ensures within { result < KINDS }
     {
         match self {

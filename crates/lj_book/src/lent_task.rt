@@ -1,12 +1,11 @@
 //! Tasks that are out of a book in their boxes.
 ghost use Rattle.std.specs.Prelude.{◌≡◌, ℕ, Bool, is_some, true, false};
-ghost use Rattle.lj_book.specs.Book.{user_of};
+ghost use Rattle.lj_book.specs.Book.{user_of_task};
 ghost use Rattle.lj_book.specs.Boxes.{slip_for};
 
 use crate::book_entry::Keeps;
 use crate::task_box::{DoneBox, TaskBox};
-use lj_table::Table;
-use lj_tile::{DoneRef, Task};
+use lj_task::{DoneRef, Kernel, Task};
 use std::marker::Model;
 
 /// An open task in its box, with the number of its post. The user is stored beside the box, so that a take under a lock does not
@@ -16,7 +15,7 @@ pub(crate) struct Numbered {
     pub(crate) number: u64,
     user: u8,
     pub(crate) task: TaskBox,
-    ghost whose: { user ≡ user_of task },
+    ghost whose: { user ≡ user_of_task task },
 }
 
 impl Model for Numbered {
@@ -48,7 +47,7 @@ impl Numbered {
 }
 
 impl Keeps for Numbered {
-    ghost whose = { λ n. user_of n.work };
+    ghost whose = { λ n. user_of_task n.work };
 
     ghost boxed = { λ n. true };
 
@@ -131,13 +130,13 @@ impl Lent<TaskBox> {
     /// Computes the task, in its box.
     ///
     /// Promise: the result is of that very task, under that key and number.
-    pub fn compute(self, table: &Table) -> LentDone
+    pub fn compute<K: Kernel>(self, kernel: &K) -> LentDone
         ensures { result ≡ self }
     {
         Lent {
             key: self.key,
             number: self.number,
-            boxed: self.boxed.compute(table),
+            boxed: self.boxed.compute(kernel),
         }
     }
 }

@@ -2,8 +2,7 @@
 ghost use Rattle.std.specs.Prelude.{◌≡◌, ◌+◌, ◌≤◌, ◌<◌, ℕ, Bool, is_some, vec_len, IfOk};
 ghost use Rattle.std.specs.Vec.{vec_capacity};
 
-use lj_table::Table;
-use lj_tile::{Done, DoneRef, SharedFrame, Sums, Task, TaskRef, compute_sums};
+use lj_task::{Done, DoneRef, Kernel, SharedFrame, Sums, Task, TaskRef};
 use std::alloc::{AllocError, Global};
 use std::marker::Model;
 
@@ -22,7 +21,7 @@ pub struct TaskBox {
 }
 
 impl Model for TaskBox {
-    ghost use Rattle.lj_tile.specs.Task.{Task};
+    ghost use Rattle.lj_task.specs.Task.{Task};
 
     ghost Value = { Task };
 
@@ -66,12 +65,12 @@ impl TaskBox {
     }
 
     /// Computes the task, in its box.
-    pub fn compute(self, table: &Table) -> DoneBox
+    pub fn compute<K: Kernel>(self, kernel: &K) -> DoneBox
         ensures { result ≡ self }
     {
         let mut contents = self.contents;
         let BoxContents { task, sums } = contents.as_mut();
-        compute_sums(task, table, sums);
+        kernel.compute_sums(task, sums);
         DoneBox { contents }
     }
 
@@ -93,13 +92,13 @@ pub struct DoneBox {
 }
 
 impl Model for DoneBox {
-    ghost use Rattle.lj_tile.specs.Task.{Task};
+    ghost use Rattle.lj_task.specs.Task.{Task};
 
     ghost Value = { Task };
 
     ghost view = { λ b. b.contents.value.task };
 
-    ghost use Rattle.lj_tile.specs.Results.{AreSums};
+    ghost use Rattle.lj_task.specs.Results.{AreSums};
 
     ghost invariant = { λ b. AreSums b.contents.value.task b.contents.value.sums };
 }

@@ -6,7 +6,7 @@ ghost use Rattle.std.specs.Option.{ForSome};
 ghost use Rattle.std.specs.Str.{bytes_eq};
 ghost use Rattle.lj_step.specs.OpenSteps.{with_step_closed};
 ghost use Rattle.lj_branch.specs.Named.{value_named, with_value, without_value};
-ghost use Rattle.lj_branch.specs.Saved.{names, step_numbers};
+ghost use Rattle.lj_branch.specs.Saved.{saved_names, step_numbers};
 ghost use Rattle.lj_branch.specs.declared.branch_faults.SaveFault.TheVariants.{Exists};
 
 use crate::branch_faults::{NoBranch, SaveFault};
@@ -105,7 +105,7 @@ impl Branches {
     /// Returns how many simulations are saved.
     pub fn len(&self) -> usize
         ensures value { result ≡ length self.now }
-        ensures distinct { IsDistinct bytes_eq (names self.now) }
+        ensures distinct { IsDistinct bytes_eq (saved_names self.now) }
     {
         self.saved.len()
     }
@@ -120,7 +120,7 @@ impl Branches {
     /// Returns the i-th name, in order of saving.
     pub fn name_at(&self, i: usize) -> &Name
         requires { i < length self.now }
-        ensures { slice_get (names self.now) i ≡ Some result.now }
+        ensures { slice_get (saved_names self.now) i ≡ Some result.now }
     {
         self.saved.get_index(i).unwrap().0
     }

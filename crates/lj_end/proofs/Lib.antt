@@ -1,2 +1,3 @@
+pub mod Handed
 pub mod Places
 pub mod Posts

@@ -10,11 +10,11 @@ use Rattle.std.proofs.lemmas.List.{get_or_default, take_more, take-take, take-ap
 use Rattle.std.proofs.lemmas.List.Edits.{length-remove, remove-append_left}
 use Rattle.std.proofs.lemmas.List.Sums.{sum_by-cons, sum_by_push, sum_by_more, sum_by-take-le, sum_by-remove, get_or-le-sum_by}
 use Rattle.lj_step.specs.OpenSteps.{tile_number_of}
-use Rattle.lj_tile.specs.Blank.{blank_task}
-use Rattle.lj_tile.specs.Task.{Task}
+use Rattle.lj_task.specs.Blank.{blank_task}
+use Rattle.lj_task.specs.Task.{Task}
 use Rattle.lj_end.specs.declared.pool.TheConstants.{MAX_OWED}
 use Rattle.lj_end.specs.InlinePool.{tasks_in}
-use Rattle.lj_end.specs.Accounts.{tasks_owed, times, IsFirst, IsKept, IsKnownByName, IsNowhere}
+use Rattle.lj_end.specs.Accounts.{tasks_owed, occurrences, IsFirst, IsKeptAccount, IsKnownByName, IsNowhere}
 use Rattle.lj_end.specs.Seen.{Seen, IsStray, TakesOff, one_more}
 
 -- 1 for true
@@ -39,7 +39,7 @@ length-works-le tasks (p ∷ ps) =
     omega (arith, in-le slot, rest, length-append (tasks_in slot) (tasks_owed tasks ps))
 
 -- a task that is put into another place is none of these
-works-other : (tasks : List (Option Task)) (place : ℕ) (slot : Option Task) (ps : List ℕ) → times place ps ≡ 0
+works-other : (tasks : List (Option Task)) (place : ℕ) (slot : Option Task) (ps : List ℕ) → occurrences place ps ≡ 0
     → tasks_owed (set tasks place slot) ps ≡ tasks_owed tasks ps
 works-other tasks place slot [] none = refl
 works-other tasks place slot (p ∷ ps) none =
@@ -85,7 +85,7 @@ works-remove tasks (p ∷ ps) (suc k) count within =
     ∙ sym (ap (λ x. remove (tasks_in x ++ tasks_owed tasks ps) (suc k)) first.1)
 
 -- a place is one of them
-pub place_within : (places : List ℕ) → ((n : ℕ) → times n places ≡ cond (nat_lt n MAX_OWED) 1 0) → (k : ℕ)
+pub place_within : (places : List ℕ) → ((n : ℕ) → occurrences n places ≡ cond (nat_lt n MAX_OWED) 1 0) → (k : ℕ)
     → k < length places → get_or places k 0 < MAX_OWED
 place_within places once k within =
     let place = get_or places k 0 in
@@ -104,21 +104,21 @@ at_most_one true = omega arith
 at_most_one false = omega arith
 
 -- a place behind those that hold tasks is none of them
-apart : (places : List ℕ) → ((n : ℕ) → times n places ≡ cond (nat_lt n MAX_OWED) 1 0) → (owed k : ℕ) → owed ≤ k
-    → k < length places → times (get_or places k 0) (take owed places) ≡ 0
+apart : (places : List ℕ) → ((n : ℕ) → occurrences n places ≡ cond (nat_lt n MAX_OWED) 1 0) → (owed k : ℕ) → owed ≤ k
+    → k < length places → occurrences (get_or places k 0) (take owed places) ≡ 0
 apart places once owed k behind within =
     let place = get_or places k 0 in
     let f : ℕ → ℕ = λ j. cond (nat_eq j place) 1 0 in
     let more = sum_by_more f places k 0 within in
     let le = sum_by-take-le f places (k + 1) in
-    let fewer : times place (take owed places) ≤ times place (take k places) =
-    subst (λ xs. times place xs ≤ times place (take k places)) (take-take owed k places behind)
+    let fewer : occurrences place (take owed places) ≤ occurrences place (take k places) =
+    subst (λ xs. occurrences place xs ≤ occurrences place (take k places)) (take-take owed k places behind)
     (sum_by-take-le f (take k places) owed) in
     let one : bit (nat_eq place place) ≡ 1 = ap bit (eq-eqb place place refl) in
     omega (arith, more, le, fewer, one, once place, at_most_one (nat_lt place MAX_OWED))
 
 -- a task is put into the next place
-pub works_posted : (tasks : List (Option Task)) (places : List ℕ) (owed : ℕ) (task : Task) → IsKept tasks places owed
+pub works_posted : (tasks : List (Option Task)) (places : List ℕ) (owed : ℕ) (task : Task) → IsKeptAccount tasks places owed
     → owed < MAX_OWED
     → tasks_owed (set tasks (get_or places owed 0) (Some task)) (take (owed + 1) places)
     ≡ tasks_owed tasks (take owed places) ++ task ∷ []
@@ -133,9 +133,9 @@ works_posted tasks places owed task kept room =
     (works-other tasks place (Some task) (take owed places) (apart places kept.once owed owed (omega arith) within))
     ∙ ap (λ x. tasks_owed tasks (take owed places) ++ (tasks_in x ++ [])) (get_or-set_same tasks place (Some task) None fits)
 
-pub kept_posted : (tasks : List (Option Task)) (places : List ℕ) (owed : ℕ) (task : Task) → IsKept tasks places owed
+pub kept_posted : (tasks : List (Option Task)) (places : List ℕ) (owed : ℕ) (task : Task) → IsKeptAccount tasks places owed
     → owed < MAX_OWED
-    → IsKept (set tasks (get_or places owed 0) (Some task)) places (owed + 1)
+    → IsKeptAccount (set tasks (get_or places owed 0) (Some task)) places (owed + 1)
 kept_posted tasks places owed task kept room = record {
   size = length-set tasks (get_or places owed 0) (Some task) ∙ kept.size;
   once = kept.once;
@@ -146,13 +146,13 @@ kept_posted tasks places owed task kept room = record {
 }
 
 -- what lies in a place behind those that hold tasks is changed
-module _ (tasks : List (Option Task)) (places : List ℕ) (owed k : ℕ) (slot : Option Task) (kept : IsKept tasks places owed)
+module _ (tasks : List (Option Task)) (places : List ℕ) (owed k : ℕ) (slot : Option Task) (kept : IsKeptAccount tasks places owed)
     (behind : owed ≤ k) (within : k < length places) where
   pub works_released : tasks_owed (set tasks (get_or places k 0) slot) (take owed places) ≡ tasks_owed tasks (take owed places)
   works_released =
       works-other tasks (get_or places k 0) slot (take owed places) (apart places kept.once owed k behind within)
 
-  pub kept_released : IsKept (set tasks (get_or places k 0) slot) places owed
+  pub kept_released : IsKeptAccount (set tasks (get_or places k 0) slot) places owed
   kept_released = record {
     size = length-set tasks (get_or places k 0) slot ∙ kept.size;
     once = kept.once;
@@ -184,7 +184,7 @@ places_left places owed here most within =
     take_whole (x ∷ xs) = ap (λ ys. x ∷ ys) (take_whole xs)
 
 -- a task is taken off
-pub works_left : (tasks : List (Option Task)) (places : List ℕ) (owed here : ℕ) → IsKept tasks places owed → here < owed
+pub works_left : (tasks : List (Option Task)) (places : List ℕ) (owed here : ℕ) → IsKeptAccount tasks places owed → here < owed
     → tasks_owed tasks (take (owed - 1) (remove places here ++ get_or places here 0 ∷ []))
     ≡ remove (tasks_owed tasks (take owed places)) here
 works_left tasks places owed here kept within =
@@ -193,8 +193,8 @@ works_left tasks places owed here kept within =
     ap (tasks_owed tasks) (places_left places owed here most within)
     ∙ works-remove tasks (take owed places) here (kept.count ∙ sym len) (omega (arith, len, within))
 
-pub kept_left : (tasks : List (Option Task)) (places : List ℕ) (owed here : ℕ) → IsKept tasks places owed → here < owed
-    → IsKept tasks (remove places here ++ get_or places here 0 ∷ []) (owed - 1)
+pub kept_left : (tasks : List (Option Task)) (places : List ℕ) (owed here : ℕ) → IsKeptAccount tasks places owed → here < owed
+    → IsKeptAccount tasks (remove places here ++ get_or places here 0 ∷ []) (owed - 1)
 kept_left tasks places owed here kept within =
     let inside : here < length places = omega (arith, kept.all, kept.most, within) in
     let place = get_or places here 0 in
@@ -235,7 +235,7 @@ once_more n place = elim (cases_Bool (nat_lt n place)) [
 ]
 
 -- the task that stands where a place does
-pub task_at : (tasks : List (Option Task)) (places : List ℕ) (owed here : ℕ) → IsKept tasks places owed → here < owed
+pub task_at : (tasks : List (Option Task)) (places : List ℕ) (owed here : ℕ) → IsKeptAccount tasks places owed → here < owed
     → (d : Task) → get_or tasks (get_or places here 0) None ≡ Some (get_or (tasks_owed tasks (take owed places)) here d)
 task_at tasks places owed here kept within d =
     let len : length (take owed places) ≡ owed = length-take-le owed places (omega (arith, kept.all, kept.most)) in

@@ -2,8 +2,8 @@
 use Rattle.std.proofs.Common.{◌≡◌, ℕ, ◌+◌, ◌<◌, ◌≤◌, List, [], ◌∷◌, ◌++◌, length, take, get_or}
 use Rattle.std.proofs.Common.{refl, sym, ap, ◌∙◌, arith}
 use Rattle.std.proofs.lemmas.List.{append-nil, append_assoc, length-append, length-take-le, take_more}
-use Rattle.lj_tile.specs.Blank.{blank_task}
-use Rattle.lj_tile.specs.Task.{Task}
+use Rattle.lj_task.specs.Blank.{blank_task}
+use Rattle.lj_task.specs.Task.{Task}
 use Rattle.lj_end.specs.Seen.{ArePosted, IsPosted, Seen}
 
 -- no task is posted, and then one more

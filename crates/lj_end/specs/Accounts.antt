@@ -3,14 +3,14 @@ use Rattle.std.specs.Prelude.{◌≡◌, ℕ, ◌<◌, ◌≤◌, ◌≢◌, ◌
 use Rattle.std.specs.Prelude.{nat_eq, nat_lt, slice_index_or}
 use Rattle.std.specs.List.{Contains}
 use Rattle.lj_step.specs.OpenSteps.{tile_number_of}
-use Rattle.lj_tile.specs.Blank.{blank_task}
-use Rattle.lj_tile.specs.Task.{Task}
+use Rattle.lj_task.specs.Blank.{blank_task}
+use Rattle.lj_task.specs.Task.{Task}
 use Rattle.lj_end.specs.declared.pool.TheConstants.{MAX_OWED}
 use Rattle.lj_end.specs.InlinePool.{tasks_in}
 
 -- how often a number occurs in a list
-abbrev pub times : ℕ → List ℕ → ℕ
-times k numbers = count_by (λ j. nat_eq j k) numbers
+abbrev pub occurrences : ℕ → List ℕ → ℕ
+occurrences k numbers = count_by (λ j. nat_eq j k) numbers
 
 -- the tasks in these places, in their order
 abbrev pub tasks_owed : List (Option Task) → List ℕ → List Task
@@ -18,9 +18,9 @@ tasks_owed tasks [] = []
 tasks_owed tasks (place ∷ places) = tasks_in (slice_index_or tasks place None) ++ tasks_owed tasks places
 
 -- Each place is in the list of places once, and the first ones hold the tasks that are owed.
-pub record IsKept (tasks : List (Option Task)) (places : List ℕ) (owed : ℕ) : Type 0 where
+pub record IsKeptAccount (tasks : List (Option Task)) (places : List ℕ) (owed : ℕ) : Type 0 where
   pub size : length tasks ≡ MAX_OWED
-  pub once : (place : ℕ) → times place places ≡ cond (nat_lt place MAX_OWED) 1 0
+  pub once : (place : ℕ) → occurrences place places ≡ cond (nat_lt place MAX_OWED) 1 0
   pub all : length places ≡ MAX_OWED
   pub most : owed ≤ MAX_OWED
   pub count : length (tasks_owed tasks (take owed places)) ≡ owed

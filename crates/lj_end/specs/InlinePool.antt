@@ -1,7 +1,7 @@
 -- A pool without threads: its state, and what its end has seen.
 use Rattle.std.specs.Prelude.{ℕ, Bool, false, List, [], ◌∷◌, Option, Some, None}
-use Rattle.lj_tile.specs.Blank.{blank_task}
-use Rattle.lj_tile.specs.Task.{Task}
+use Rattle.lj_task.specs.Blank.{blank_task}
+use Rattle.lj_task.specs.Task.{Task}
 use Rattle.lj_end.specs.Seen.{Seen}
 
 -- the task of the result that is owed, if there is one; whether it was taken, and is not counted yet; the number of results counted,

@@ -1,5 +1,5 @@
 pub mod Seen
-pub mod Refusals
+pub mod RefusedPosts
 pub mod InlinePool
 pub mod Accounts
 pub mod Waking

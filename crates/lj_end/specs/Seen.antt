@@ -1,7 +1,7 @@
 -- What an end of a pool has seen: the tasks that it is owed, the number of results it was handed, and whether the pool is closed.
 use Rattle.std.specs.Prelude.{◌≡◌, ℕ, ◌+◌, ◌-◌, ◌^◌, min, max, Bool, true, false, List, [], ◌∷◌, ◌++◌, ◌⊎◌}
 use Rattle.std.specs.List.{Contains}
-use Rattle.lj_tile.specs.Task.{Task}
+use Rattle.lj_task.specs.Task.{Task}
 
 -- the tasks owed, in the order of their posts; the numbers of results that were owed and of strays, saturating; and whether the
 -- pool was seen closed

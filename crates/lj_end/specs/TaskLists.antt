@@ -1,8 +1,8 @@
 -- Lists of tasks that are posted together.
 use Rattle.std.specs.Prelude.{◌≡◌, ◌≤◌, List, Option, true, is_some, length, unwrap_or}
 use Rattle.std.specs.List.{All}
-use Rattle.lj_tile.specs.Blank.{blank_task}
-use Rattle.lj_tile.specs.Task.{Task}
+use Rattle.lj_task.specs.Blank.{blank_task}
+use Rattle.lj_task.specs.Task.{Task}
 use Rattle.lj_end.specs.declared.pool.TheConstants.{MAX_POSTS}
 
 -- the task in a place, blank where there is none

@@ -2,23 +2,25 @@
 ghost use Rattle.std.specs.Prelude.{◌≡◌, ◌<◌, ◌≤◌, ◌+◌, ◌-◌, ◌↔◌, ℕ, Some, cond, length, nat_lt, option_copied, take, slice_get, slice_index_or, true, false, IfErr, IfSome, IfNone, IsTrue, OnErr, OnOk};
 ghost use Rattle.std.specs.Fn.{FnReturnsAt};
 ghost use Rattle.std.specs.List.{remove};
-ghost use Rattle.lj_end.specs.declared.pool.NotPosted.TheVariants.{Closed, Full};
+ghost use Rattle.lj_end.specs.declared.pool.NotPosted.TheVariants.{Full};
 ghost use Rattle.lj_end.specs.Seen.{ArePosted, IsHandedOut, IsPosted, SameOwed, StaysClosed, nothing_seen, one_more};
-ghost use Rattle.lj_end.specs.Accounts.{times};
+ghost use Rattle.lj_end.specs.RefusedPosts.{IsPoolClosed};
+ghost use Rattle.lj_end.specs.Accounts.{occurrences};
 ghost use Rattle.lj_end.specs.Accounts.{AnswersOf, IsFirst, IsKnownByName, IsNowhere};
 ghost use Rattle.lj_step.specs.OpenSteps.{tile_number_of};
-ghost use Rattle.lj_tile.specs.Blank.{blank_task};
+ghost use Rattle.lj_task.specs.Blank.{blank_task};
 
 use crate::pool::{MAX_OWED, NotPosted};
 use crate::task_list::TaskList;
 use arrayvec::ArrayVec;
-use lj_tile::{BLOCK, Task, TaskRef};
+use lj_task::{BLOCK, Task, TaskRef};
 use std::array;
 use std::marker::Model;
 
-/// Copies of the tasks that are owed to an end, and its counts of results. It allocates no memory.
+/// Copies of the tasks that are owed to an end, its counts of results, and the token of its pool's close, once it has one. It
+/// allocates no memory.
 #[derive(Drop)]
-pub struct Account {
+pub struct Account<C> {
     tasks: [Option<Task>; MAX_OWED],
     places: ArrayVec<u8, MAX_OWED>,
     /// The tile numbers of the tasks that are owed, in their order, so that a search reads the names of few tasks.
@@ -26,13 +28,13 @@ pub struct Account {
     owed: usize,
     expected: u64,
     strays: u64,
-    closed: bool,
+    closed: Option<C>,
 }
 
-impl Model for Account {
-    ghost use Rattle.std.specs.Prelude.{◌≡◌, map, take};
+impl<C> Model for Account<C> {
+    ghost use Rattle.std.specs.Prelude.{◌≡◌, is_some, map, take};
     ghost use Rattle.lj_end.specs.Seen.{Seen};
-    ghost use Rattle.lj_end.specs.Accounts.{IsKept, tasks_owed};
+    ghost use Rattle.lj_end.specs.Accounts.{IsKeptAccount, tasks_owed};
     ghost use Rattle.lj_step.specs.OpenSteps.{tile_number_of};
 
     ghost Value = { Seen };
@@ -41,16 +43,16 @@ impl Model for Account {
       owed = tasks_owed a.tasks (take a.owed a.places.items);
       expected = a.expected;
       strays = a.strays;
-      closed = a.closed;
+      closed = is_some a.closed;
     } };
 
-    ghost invariant = { λ a. IsKept a.tasks a.places.items a.owed
+    ghost invariant = { λ a. IsKeptAccount a.tasks a.places.items a.owed
         × (a.tiles.items ≡ map tile_number_of (tasks_owed a.tasks (take a.owed a.places.items))) };
 }
 
-impl Account {
+impl<C: Drop> Account<C> {
     /// Returns an account to which nothing is owed and in which nothing is counted.
-    pub fn new() -> Account
+    pub fn new() -> Account<C>
         ensures { result ≡ nothing_seen }
     {
         Account {
@@ -60,7 +62,7 @@ impl Account {
             owed: 0,
             expected: 0,
             strays: 0,
-            closed: false,
+            closed: None,
         }
     }
 
@@ -77,18 +79,18 @@ impl Account {
     }
 
     /// Records that a task was posted, or why it was not.
-    pub fn note_post(&mut self, task: &TaskRef<'_>, posted: Result<(), NotPosted>)
+    pub fn note_post(&mut self, task: &TaskRef<'_>, posted: Result<(), NotPosted<C>>)
         requires { length self.old.owed < MAX_OWED }
         ensures posted { OnOk posted (IsPosted task.now self.old self.new) }
         ensures unchanged { OnErr posted (SameOwed self.old self.new) }
         ensures full { IfErr posted (λ why. why ≡ Full → self.new ≡ self.old) }
-        ensures closed { IfErr posted (λ why. why ≡ Closed → self.new.closed ≡ true) }
+        ensures closed { IfErr posted (λ why. IsPoolClosed why → self.new.closed ≡ true) }
         ensures stays_closed { StaysClosed self.old self.new }
     {
         match posted {
             Ok(()) => self.post(task),
             Err(NotPosted::Full) => {}
-            Err(NotPosted::Closed) => self.close(),
+            Err(NotPosted::Closed(closed)) => self.close(closed),
         }
     }
 
@@ -104,8 +106,21 @@ impl Account {
         }
     }
 
-    /// Counts a result of this task. A task that was owed is owed no more.
-    pub fn count(&mut self, task: &Task)
+    /// Counts a result of this task. A task that was owed is owed no more. With `by_name` it is found by its name alone.
+    pub fn count(&mut self, task: &Task, by_name: bool)
+        requires { by_name ≡ true → IsKnownByName self.old.owed task.now }
+        ensures handed_out { IsHandedOut task.now self.old self.new }
+        ensures closed { self.new.closed ≡ self.old.closed }
+    {
+        if by_name {
+            self.count_by_name(task);
+        } else {
+            self.count_by_task(task);
+        }
+    }
+
+    /// Counts a result of this task, which is compared with those that are owed.
+    fn count_by_task(&mut self, task: &Task)
         ensures handed_out { IsHandedOut task.now self.old self.new }
         ensures closed { self.new.closed ≡ self.old.closed }
     {
@@ -115,8 +130,8 @@ impl Account {
         }
     }
 
-    /// Counts a result of this task as `count` does, but finds the task by its name alone.
-    pub fn count_by_name(&mut self, task: &Task)
+    /// Counts a result of this task, which is found by its name alone.
+    fn count_by_name(&mut self, task: &Task)
         requires { IsKnownByName self.old.owed task.now }
         ensures handed_out { IsHandedOut task.now self.old self.new }
         ensures closed { self.new.closed ≡ self.old.closed }
@@ -151,11 +166,11 @@ impl Account {
     }
 
     /// Records that the pool is closed.
-    pub fn close(&mut self)
+    pub fn close(&mut self, closed: C)
         ensures same { SameOwed self.old self.new }
         ensures closed { self.new.closed ≡ true }
     {
-        self.closed = true;
+        self.closed = Some(closed);
     }
 
     /// Returns the number of tasks that are owed.
@@ -166,19 +181,18 @@ impl Account {
         self.owed
     }
 
-    /// Returns whether no more tasks can be owed.
-    pub fn is_full(&self) -> bool
-        ensures room { result ≡ false → length self.now.owed < MAX_OWED }
-        ensures full { result ≡ true ↔ (length self.now.owed ≡ MAX_OWED) }
+    /// Returns how many more tasks can be owed.
+    pub fn room(&self) -> usize
+        ensures { length self.now.owed + result ≡ MAX_OWED }
     {
-        self.owed == MAX_OWED
+        MAX_OWED - self.owed
     }
 
     /// Returns whether the pool was seen closed.
     pub fn is_closed(&self) -> bool
         ensures { result ≡ self.now.closed }
     {
-        self.closed
+        self.closed.is_some()
     }
 
     /// Finds the first task of this tile number for which `is_wanted` is true.
@@ -278,7 +292,7 @@ fn tile_number_of(task: &Task) -> u16
 
 /// Returns all places, each once.
 fn all_places() -> ArrayVec<u8, MAX_OWED>
-    ensures once { (place : ℕ) → times place result.items ≡ cond (nat_lt place MAX_OWED) 1 0 }
+    ensures once { (place : ℕ) → occurrences place result.items ≡ cond (nat_lt place MAX_OWED) 1 0 }
     ensures all { length result.items ≡ MAX_OWED }
 {
     let mut places = ArrayVec::new();

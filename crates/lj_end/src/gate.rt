@@ -1,8 +1,8 @@
 //! A gate that each worker passes between taking a task and computing it.
 ghost use Rattle.std.specs.Prelude.{◌≡◌, true, ⊤};
-ghost use Rattle.lj_tile.specs.declared.task_name.TaskName.{TaskName};
+ghost use Rattle.lj_task.specs.declared.task_name.TaskName.{TaskName};
 
-use lj_tile::TaskName;
+use lj_task::TaskName;
 
 /// A gate that a worker passes between taking a task and computing it. No lock is held then.
 pub trait Gate {

@@ -1,18 +1,20 @@
 //! A pool without threads: the caller who posts a task computes it.
-ghost use Rattle.std.specs.Prelude.{◌≡◌, ◌↔◌, Some, None, true, false};
+ghost use Rattle.std.specs.Prelude.{◌≡◌, ◌≤◌, ◌↔◌, Some, None, true, false};
 ghost use Rattle.std.specs.Prelude.{IsOk, IsSome, IfErr, OnOk, OnErr};
 ghost use Rattle.lj_end.specs.Seen.{one_more};
 ghost use Rattle.lj_end.specs.InlinePool.{empty_pool, seen_of};
 ghost use Rattle.lj_end.specs.declared.pool.NotPosted.TheVariants.{Full};
 
-use crate::pool::{NotPosted, Pool};
+use crate::pool::{NotPosted, PoolEnd};
 use lj_table::Table;
-use lj_tile::{Done, DoneRef, TaskRef, compute_into};
+use lj_task::{Done, DoneRef, TaskRef};
+use lj_tile::compute_into;
+use std::convert::Infallible;
 use std::marker::Model;
 
 /// A pool that computes each task as it is posted, in its one slot. It allocates no memory.
 ///
-/// Promise: it is a `Pool`, and is never closed.
+/// Promise: it is a `PoolEnd`, and is never closed.
 #[derive(Drop)]
 pub struct InlinePool {
     table: Table,
@@ -55,7 +57,9 @@ impl InlinePool {
     }
 }
 
-impl Pool for InlinePool {
+impl PoolEnd for InlinePool {
+    type Closed = Infallible;
+
     ghost seen = { seen_of };
 
     ghost last = { λ pool. pool.last };
@@ -66,7 +70,7 @@ impl Pool for InlinePool {
 
     ghost most = { 1 };
 
-    fn post_from(&mut self, task: &TaskRef<'_>, _wait: bool) -> Result<(), NotPosted>
+    fn post_from(&mut self, task: &TaskRef<'_>, _wait: bool) -> Result<(), NotPosted<Infallible>>
         ensures free { IsOk result ↔ (self.old.owed ≡ None) }
         ensures posted { OnOk result (self.new ≡ record self.old { owed = Some task.now; last = task.now }) }
         ensures full { IfErr result (λ why. why ≡ Full) }
@@ -81,7 +85,17 @@ impl Pool for InlinePool {
         Ok(())
     }
 
-    fn fetch_uncounted(&mut self, _user: u8) -> bool
+    fn fetch_uncounted(&mut self, _user: u8) -> Result<(), Infallible>
+        requires { IsSome self.old.owed }
+        ensures some { IsOk result }
+        ensures owed { self.old.owed ≡ Some self.new.last }
+        ensures taken { self.new ≡ record self.old { taken = true } }
+    {
+        self.is_taken = true;
+        Ok(())
+    }
+
+    fn poll_uncounted(&mut self, _user: u8) -> bool
         ensures some { result ≡ true ↔ IsSome self.old.owed }
         ensures owed { result ≡ true → self.old.owed ≡ Some self.new.last }
         ensures taken { self.new ≡ record self.old { taken = result } }
@@ -91,16 +105,7 @@ impl Pool for InlinePool {
         self.is_taken
     }
 
-    fn poll_uncounted(&mut self, user: u8) -> bool
-        ensures some { result ≡ true ↔ IsSome self.old.owed }
-        ensures owed { result ≡ true → self.old.owed ≡ Some self.new.last }
-        ensures taken { self.new ≡ record self.old { taken = result } }
-        ensures none_taken { result ≡ false → self.old.taken ≡ false }
-    {
-        self.fetch_uncounted(user)
-    }
-
-    fn count(&mut self)
+    fn count(&mut self, _by_name: bool)
         requires { self.old.taken ≡ true }
         ensures owed { self.old.owed ≡ Some self.old.last }
         ensures taken_off { self.new ≡ record self.old { owed = None; taken = false; expected = one_more self.old.expected } }
@@ -118,13 +123,14 @@ impl Pool for InlinePool {
         usize::from(self.is_owed)
     }
 
-    fn is_full(&self) -> bool
-        ensures { result ≡ true ↔ IsSome self.now.owed }
+    fn room(&self) -> usize
+        ensures none { result ≡ 0 ↔ IsSome self.now.owed }
+        ensures most { result ≤ 1 }
     {
-        self.is_owed
+        usize::from(!self.is_owed)
     }
 
-    fn closed(&self) -> bool
+    fn is_closed(&self) -> bool
         ensures { result ≡ false }
     {
         false

@@ -14,7 +14,9 @@ pub use account::Account;
 pub use gate::Gate;
 pub use inline::InlinePool;
 pub use locking::lock_soon;
-pub use pool::{MAX_AHEAD, MAX_ENDS, MAX_OWED, MAX_POSTS, MAX_STRAYS, NotPosted, Pool, Refused};
+pub use pool::{
+    MAX_AHEAD, MAX_ENDS, MAX_OWED, MAX_POSTS, MAX_STRAYS, NotPosted, Pool, PoolEnd, Refused,
+};
 pub use share::{Share, merged, shares_of};
 pub use task_list::TaskList;
 pub use waking::{

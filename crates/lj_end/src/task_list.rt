@@ -1,10 +1,10 @@
 //! Tasks that are posted together.
 ghost use Rattle.std.specs.Prelude.{◌≡◌, ◌++◌, ◌∷◌, [], ◌<◌, ◌≤◌, length, slice_index_or};
-ghost use Rattle.lj_tile.specs.Blank.{blank_task};
+ghost use Rattle.lj_task.specs.Blank.{blank_task};
 
 use crate::pool::MAX_POSTS;
 use arrayvec::ArrayVec;
-use lj_tile::TaskRef;
+use lj_task::TaskRef;
 use std::marker::Model;
 
 /// At most `MAX_POSTS` tasks by reference, to be posted together and in order.
@@ -15,7 +15,7 @@ pub struct TaskList<'a> {
 
 impl<'a> Model for TaskList<'a> {
     ghost use Rattle.std.specs.Prelude.{List, map};
-    ghost use Rattle.lj_tile.specs.Task.{Task};
+    ghost use Rattle.lj_task.specs.Task.{Task};
     ghost use Rattle.lj_end.specs.TaskLists.{AreThere, task_in};
 
     ghost Value = { List Task };

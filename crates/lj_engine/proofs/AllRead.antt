@@ -16,7 +16,7 @@ use Rattle.lj_engine.specs.declared.served.Served.TheVariants.{TooManyStrays}
 use Rattle.lj_end.specs.Seen.{Seen}
 use Rattle.lj_engine.specs.Served.{AnswersAll, Reaches, StopsShort, IsServed}
 use Rattle.lj_engine.specs.Served.{Serves}
-use Rattle.lj_engine.proofs.Dialogues.{Takes-on}
+use Rattle.lj_engine.proofs.Dialogues.{TakesItems-on}
 
 -- items of which the last ends the connection are so whatever comes after them
 Splits-on : (n : ℕ) (bytes : List ℕ) (earlier : List Item) (last : Item) (rest more : List ℕ) → is_ending last ≡ true
@@ -47,7 +47,7 @@ module _ (state : UserState) (read written : List ℕ) (old new : Seen) (held : 
   progress-on {count} {so_far} {left} p = record {
     items = p.items;
     marks = p.marks;
-    takes = Takes-on 0 read p.items left held p.takes;
+    takes = TakesItems-on 0 read p.items left held p.takes;
     counted = p.counted;
     are_marks = p.are_marks;
     written_is = p.written_is;

@@ -8,9 +8,9 @@ use Rattle.std.specs.Str.{bytes_eq}
 use Rattle.std.proofs.lemmas.Bool.{ltb-true, ltb-false, lt-ltb, true≢false}
 use Rattle.std.proofs.lemmas.Option.{none-some}
 use Rattle.std.proofs.lemmas.Slice.Eq.{bytes_eq-Decides}
-use Rattle.lj_tile.specs.declared.task_name.Kind.{Kind}
-use Rattle.lj_tile.specs.declared.task_name.Kind.TheVariants.{Force, Energy}
-use Rattle.lj_tile.specs.Task.{Task}
+use Rattle.lj_task.specs.declared.task_name.Kind.{Kind}
+use Rattle.lj_task.specs.declared.task_name.Kind.TheVariants.{Force, Energy}
+use Rattle.lj_task.specs.Task.{Task}
 use Rattle.lj_step.specs.Sim.{OpenStep}
 use Rattle.lj_step.specs.OpenSteps.{kind_of}
 use Rattle.lj_branch.specs.Named.{value_named}
@@ -31,10 +31,10 @@ use Rattle.lj_session.proofs.PendingSteps.{pending-added}
 use Rattle.lj_session.proofs.Passing.{Open, opens, energies, measured_last, measures, at_work-passed}
 use Rattle.lj_session.proofs.Turning.{advance-turns-near, measure-turns-one, no-turns}
 use Rattle.lj_session.proofs.Waiting.{Goes, goes, measured_there, nothing-turns, passed_user, passed_turns, same_name}
-use Rattle.lj_engine.specs.Gathering.{is_of, tiles_left_in, tasks_posted_of, IsOpenFor, Gathers}
+use Rattle.lj_engine.specs.Gathering.{is_of_session, tiles_left_in, tasks_posted_of, IsOpenFor, Gathers}
 use Rattle.lj_engine.specs.Counting.{steps_tiles, advance_tiles, measure_tiles, frame_tiles, command_tiles, sum_over}
 use Rattle.lj_engine.specs.Coming.{tiles_of_session, posts_of_session, tiles_after, waiting_tiles, waiting_tiles_of, turns_coming}
-use Rattle.lj_engine.specs.Coming.{tiles_to_come, tiles_coming, posts_coming, HasNoMorePending}
+use Rattle.lj_engine.specs.Coming.{state_tiles_coming, tiles_coming, posts_coming, HasNoMorePending}
 use Rattle.lj_engine.proofs.Gathering.{gathered_opened, whole_none, whole_posted}
 use Rattle.lj_engine.proofs.Gathered.{gathers_changed}
 use Rattle.lj_engine.proofs.Sessions.{there-changed, other-changed, pending-changed, pending-lowered, sum-changed}
@@ -56,28 +56,28 @@ pub open-pending : (waiting : Option Command) (state : UserState) (command : Com
 open-pending waiting state command work some = by (waits_for command) refl
   where
     at : (name : List ℕ) → 0 < pending_in state name → (o : Option LiveSession) → live_session state name ≡ o
-        → IsSomeAnd (live_session state name) (λ held. IsSome held.live.part)
+        → IsSomeAnd (live_session state name) (λ session. IsSome session.live.part)
     at name more None e = absurd (let none = rw e at more in omega (arith, none))
-    at name more (Some held) e =
-        subst (λ o. IsSomeAnd o (λ held. IsSome held.live.part)) (sym e)
-        (some-open held.live.part Force (work name held e ∙ kind-some waiting name held (rw e at more)))
+    at name more (Some session) e =
+        subst (λ o. IsSomeAnd o (λ session. IsSome session.live.part)) (sym e)
+        (some-open session.live.part Force (work name session e ∙ kind-some waiting name session (rw e at more)))
 
     by : (o : Option (List ℕ)) → waits_for command ≡ o → IsOpenFor state command
     by None e = absurd (let none = ap (λ o. option_map_or (pending_in state) o 0) e in omega (arith, none, some))
     by (Some name) e =
-        subst (λ o. IsSomeAnd o (λ name. IsSomeAnd (live_session state name) (λ held. IsSome held.live.part))) (sym e)
+        subst (λ o. IsSomeAnd o (λ name. IsSomeAnd (live_session state name) (λ session. IsSome session.live.part))) (sym e)
         (at name (subst (λ o. 0 < option_map_or (pending_in state) o 0) e some) (live_session state name) refl)
 
 -- the tiles of a command that takes steps
-pub advance-tiles-is : (state : UserState) (name : List ℕ) (n : ℕ) (held : LiveSession) → live_session state name ≡ Some held
-    → command_tiles (user_of state) (Advance name n) ≡ advance_tiles (Some (settled_session held)) n
+pub advance-tiles-is : (state : UserState) (name : List ℕ) (n : ℕ) (session : LiveSession) → live_session state name ≡ Some session
+    → command_tiles (user_of state) (Advance name n) ≡ advance_tiles (Some (settled_session session)) n
 unfolding command_tiles
-advance-tiles-is state name n held found = ap (λ o. advance_tiles o n) (named-held state name held found)
+advance-tiles-is state name n session found = ap (λ o. advance_tiles o n) (named-held state name session found)
 
-measure-tiles-is : (state : UserState) (name : List ℕ) (held : LiveSession) → live_session state name ≡ Some held
-    → command_tiles (user_of state) (Measure name) ≡ measure_tiles (Some (settled_session held))
+measure-tiles-is : (state : UserState) (name : List ℕ) (session : LiveSession) → live_session state name ≡ Some session
+    → command_tiles (user_of state) (Measure name) ≡ measure_tiles (Some (settled_session session))
 unfolding command_tiles
-measure-tiles-is state name held found = ap measure_tiles (named-held state name held found)
+measure-tiles-is state name session found = ap measure_tiles (named-held state name session found)
 
 none-tiles : (user : User) (name : List ℕ) → command_tiles user (Advance name 0) ≡ 0
 unfolding command_tiles
@@ -94,9 +94,9 @@ if-none false n e = refl
 -- what begins to wait
 pub record Begins (base : Owner) (owed : List Task) (command : Command) (next : Owner) : Type 0 where
   pub gathers : Gathers next owed
-  pub tiles : tiles_coming next ≡ tiles_to_come base.state + command_tiles (user_in base) command
+  pub tiles : tiles_coming next ≡ state_tiles_coming base.state + command_tiles (user_in base) command
   pub posts : posts_coming next ≡ sum_over posts_of_session base.state + command_tiles (user_in base) command
-  pub turns : turns_coming next ≡ sum_over (λ held. held.pending) base.state + turns (user_in base) command
+  pub turns : turns_coming next ≡ sum_over (λ session. session.pending) base.state + turns (user_in base) command
 
 module _ (base : Owner) (owed : List Task) (t : Gathers base owed) (idle : base.waiting ≡ None) where
   work : IsAtWork None base.state
@@ -120,93 +120,93 @@ module _ (base : Owner) (owed : List Task) (t : Gathers base owed) (idle : base.
       })
 
   -- the session of a command that takes steps of its own
-  idle-held : (name : List ℕ) (held : LiveSession) → live_session base.state name ≡ Some held → pending_in base.state name ≡ 0 → IsIdle held
-  idle-held name held there none =
-      let n = pending-of base.state name held there none in
-      record { pending = n; closed = work name held there ∙ kind-none None name held n refl }
+  idle-held : (name : List ℕ) (session : LiveSession) → live_session base.state name ≡ Some session → pending_in base.state name ≡ 0 → IsIdle session
+  idle-held name session there none =
+      let n = pending-of base.state name session there none in
+      record { pending = n; closed = work name session there ∙ kind-none None name session n refl }
 
-  no-posted : (name : List ℕ) (held : LiveSession) → live_session base.state name ≡ Some held → IsIdle held
-      → filter (is_of name) owed ≡ []
-  no-posted name held there i =
+  no-posted : (name : List ℕ) (session : LiveSession) → live_session base.state name ≡ Some session → IsIdle session
+      → filter (is_of_session name) owed ≡ []
+  no-posted name session there i =
       t.each name ∙ ap (tasks_posted_of (label_of base name)) there
-      ∙ closed-posted held (label_of base name) (closed-part held.live.part i.closed)
+      ∙ closed-posted session (label_of base name) (closed-part session.live.part i.closed)
 
-  meant-sim : (held : LiveSession) → held.pending ≡ 0 → (settled_session held).sim ≡ held.live.sim
-  meant-sim held none = rw none refl
+  meant-sim : (session : LiveSession) → session.pending ≡ 0 → (settled_session session).sim ≡ session.live.sim
+  meant-sim session none = rw none refl
 
   begins-advance : (name : List ℕ) (n : ℕ) → pending_in base.state name ≡ 0 → 0 < n → Goes base.state name n
       → Begins base owed (Advance name n)
       (record { state = with_session_changed name (with_more_pending n) base.state; number = base.number; waiting = Some (Advance name 0) })
   unfolding waits_for
   begins-advance name n none some g =
-      let i = idle-held name g.held g.there none in
+      let i = idle-held name g.session g.there none in
       let next : Owner = record { state = with_session_changed name (with_more_pending n) base.state; number = base.number; waiting = Some (Advance name 0) } in
       let sum = sum-changed base.state name (with_more_pending n) in
-      let after = there-changed base.state name (with_more_pending n) g.held g.there in
-      let tiles : command_tiles (user_in base) (Advance name n) ≡ steps_tiles g.held.live.composition n g.held.live.sim =
-      advance-tiles-is base.state name n g.held g.there
-      ∙ ap (λ b. if b then steps_tiles g.held.live.composition n (settled_session g.held).sim else 0) g.near
-      ∙ ap (steps_tiles g.held.live.composition n) (meant-sim g.held i.pending) in
+      let after = there-changed base.state name (with_more_pending n) g.session g.there in
+      let tiles : command_tiles (user_in base) (Advance name n) ≡ steps_tiles g.session.live.composition n g.session.live.sim =
+      advance-tiles-is base.state name n g.session g.there
+      ∙ ap (λ b. if b then steps_tiles g.session.live.composition n (settled_session g.session).sim else 0) g.near
+      ∙ ap (steps_tiles g.session.live.composition n) (meant-sim g.session i.pending) in
       let own : waiting_tiles next ≡ 0 =
       if-none (nat_lt 0 (steps_before (with_session_changed name (with_more_pending n) base.state) (Advance name 0))) _
       (none-tiles (user_of (with_session_changed name (with_more_pending n) base.state)) name) in
-      let tiles_before = idle-tiles g.held i in
-      let tiles_then = added-tiles g.held i n some in
-      let tiles_sum = sum tiles_of_session g.held g.there in
-      let posts_before = idle-posts g.held i in
-      let posts_then = added-posts g.held i n some in
-      let posts_sum = sum posts_of_session g.held g.there in
-      let pending_then = pending-added n g.held in
-      let pending_sum = sum (λ held. held.pending) g.held g.there in
+      let tiles_before = idle-tiles g.session i in
+      let tiles_then = added-tiles g.session i n some in
+      let tiles_sum = sum tiles_of_session g.session g.there in
+      let posts_before = idle-posts g.session i in
+      let posts_then = added-posts g.session i n some in
+      let posts_sum = sum posts_of_session g.session g.there in
+      let pending_then = pending-added n g.session in
+      let pending_sum = sum (λ session. session.pending) g.session g.there in
       let turns_then = nothing-turns (user_of (with_session_changed name (with_more_pending n) base.state)) name in
-      let turns_before = advance-turns-near (user_in base) name n (settled_session g.held)
-      (named-held base.state name g.held g.there) g.near in
+      let turns_before = advance-turns-near (user_in base) name n (settled_session g.session)
+      (named-held base.state name g.session g.there) g.near in
       record {
-        gathers = gathers_changed base owed t name g.held g.there (with_more_pending n) (Some (Advance name 0)) owed
+        gathers = gathers_changed base owed t name g.session g.there (with_more_pending n) (Some (Advance name 0)) owed
             (at_work-changed None base.state name (with_more_pending n)
-            (λ held e. kind-added None name n held refl (work name held e)) work)
-            (subst (λ o. IsSomeAnd o (λ held. IsSome held.live.part)) (sym after)
-            (subst IsSome (sym (added-open g.held i n some)) refl))
-            (added-gathered g.held i n some)
-            (no-posted name g.held g.there i ∙ sym (added-posted g.held i n some (label_of base name)))
+            (λ session e. kind-added None name n session refl (work name session e)) work)
+            (subst (λ o. IsSomeAnd o (λ session. IsSome session.live.part)) (sym after)
+            (subst IsSome (sym (added-open g.session i n some)) refl))
+            (added-gathered g.session i n some)
+            (no-posted name g.session g.there i ∙ sym (added-posted g.session i n some (label_of base name)))
             (λ other apart. refl);
         tiles = omega (arith, tiles, own, tiles_before, tiles_then, tiles_sum);
         posts = omega (arith, tiles, own, posts_before, posts_then, posts_sum);
         turns = omega (arith, pending_then, pending_sum, turns_then, turns_before);
       }
 
-  begins-measure : (name : List ℕ) (held : LiveSession) → live_session base.state name ≡ Some held → pending_in base.state name ≡ 0
+  begins-measure : (name : List ℕ) (session : LiveSession) → live_session base.state name ≡ Some session → pending_in base.state name ≡ 0
       → Begins base owed (Measure name)
       (record { state = with_session_changed name (with_step Energy) base.state; number = base.number; waiting = Some (Measure name) })
   unfolding waits_for
-  begins-measure name held there none =
-      let i = idle-held name held there none in
+  begins-measure name session there none =
+      let i = idle-held name session there none in
       let next : Owner = record { state = with_session_changed name (with_step Energy) base.state; number = base.number; waiting = Some (Measure name) } in
       let sum = sum-changed base.state name (with_step Energy) in
-      let after = there-changed base.state name (with_step Energy) held there in
-      let tiles : command_tiles (user_in base) (Measure name) ≡ frame_tiles held.live.composition held.live.sim =
-      measure-tiles-is base.state name held there
-      ∙ ap (frame_tiles held.live.composition) (meant-sim held i.pending) in
+      let after = there-changed base.state name (with_step Energy) session there in
+      let tiles : command_tiles (user_in base) (Measure name) ≡ frame_tiles session.live.composition session.live.sim =
+      measure-tiles-is base.state name session there
+      ∙ ap (frame_tiles session.live.composition) (meant-sim session i.pending) in
       let no_steps : steps_before (with_session_changed name (with_step Energy) base.state) (Measure name) ≡ 0 =
       ap (λ o. option_map_or (λ (h : LiveSession). h.pending) o 0) after ∙ i.pending in
       let own : waiting_tiles next ≡ 0 =
       ap (λ n. if nat_lt 0 n then command_tiles (user_in next) (Measure name) else 0) no_steps in
-      let later : tiles_after held ≡ 0 = rw i.pending refl in
-      let tiles_before = idle-tiles held i in
-      let tiles_then = opened-tiles Energy held in
-      let tiles_sum = sum tiles_of_session held there in
-      let posts_before = idle-posts held i in
-      let posts_then = opened-posts Energy held in
-      let posts_sum = sum posts_of_session held there in
-      let pending_sum = sum (λ held. held.pending) held there in
-      let turns_then = measure-turns-one (user_in next) name _ (named-held next.state name (with_step Energy held) after) in
-      let turns_before = measure-turns-one (user_in base) name _ (named-held base.state name held there) in
+      let later : tiles_after session ≡ 0 = rw i.pending refl in
+      let tiles_before = idle-tiles session i in
+      let tiles_then = opened-tiles Energy session in
+      let tiles_sum = sum tiles_of_session session there in
+      let posts_before = idle-posts session i in
+      let posts_then = opened-posts Energy session in
+      let posts_sum = sum posts_of_session session there in
+      let pending_sum = sum (λ session. session.pending) session there in
+      let turns_then = measure-turns-one (user_in next) name _ (named-held next.state name (with_step Energy session) after) in
+      let turns_before = measure-turns-one (user_in base) name _ (named-held base.state name session there) in
       record {
-        gathers = gathers_changed base owed t name held there (with_step Energy) (Some (Measure name)) owed
-            (at_work-measured base.state name held there i.pending work)
-            (subst (λ o. IsSomeAnd o (λ held. IsSome held.live.part)) (sym after) refl)
-            (gathered_opened Energy held)
-            (no-posted name held there i)
+        gathers = gathers_changed base owed t name session there (with_step Energy) (Some (Measure name)) owed
+            (at_work-measured base.state name session there i.pending work)
+            (subst (λ o. IsSomeAnd o (λ session. IsSome session.live.part)) (sym after) refl)
+            (gathered_opened Energy session)
+            (no-posted name session there i)
             (λ other apart. refl);
         tiles = omega (arith, tiles, own, tiles_before, tiles_then, tiles_sum, later);
         posts = omega (arith, tiles, own, posts_before, posts_then, posts_sum, later);
@@ -219,12 +219,12 @@ module _ (base : Owner) (owed : List Task) (t : Gathers base owed) (idle : base.
   unfolding state_taking_up rest_of waits_for
   begins-on (Advance name n) none some =
       let g = goes base.state name n some in
-      let n_is = advance-turns-near (user_in base) name n (settled_session g.held)
-      (named-held base.state name g.held g.there) g.near in
+      let n_is = advance-turns-near (user_in base) name n (settled_session g.session)
+      (named-held base.state name g.session g.there) g.near in
       rw none (begins-advance name n none (omega (arith, some, n_is)) g)
   begins-on (Measure name) none some =
-      let held = measured_there base.state name some in
-      rw none (begins-measure name held.0 held.1 none)
+      let session = measured_there base.state name some in
+      rw none (begins-measure name session.0 session.1 none)
   begins-on command none some =
       let no = no-turns (user_in base) command (λ name n e. cc) (λ name e. cc) in absurd (omega (arith, no, some))
 
@@ -267,7 +267,7 @@ unfolding state_taking_up waits_for
 taken-pending (Advance session n) state name apart =
     ap (λ o. option_map_or (λ (h : LiveSession). h.pending) o 0)
     (other-changed state session (with_more_pending n) name (λ is. true≢false (sym ((bytes_eq-Decides session name).1 is) ∙ apart)))
-taken-pending (Measure session) state name apart = pending-changed state session (with_step Energy) (λ held. refl) name
+taken-pending (Measure session_name) state name apart = pending-changed state session_name (with_step Energy) (λ session. refl) name
 taken-pending command state name apart = refl
 
 pub begun-pending : (command : Command) (owner : Owner) (name : List ℕ) → is_waited_for (Some command) name ≡ false
@@ -312,7 +312,7 @@ turned-pending name owner other apart = turned-either (λ (o : Owner). pending_i
     omega (arith, same, fewer))
   where
     passes : pending_in (passed_in name owner).state other ≤ pending_in owner.state other
-    passes = pending-lowered owner.state name with_step_finished (λ held. let one_less = passed-pending held in omega (arith, one_less)) other
+    passes = pending-lowered owner.state name with_step_finished (λ session. let one_less = passed-pending session in omega (arith, one_less)) other
 
 -- a session that is whole, over a pool
 module _ (owner : Owner) (owed : List Task) (t : Gathers owner owed) (name : List ℕ)
@@ -323,17 +323,17 @@ module _ (owner : Owner) (owed : List Task) (t : Gathers owner owed) (name : Lis
   abbrev o : Open owner.waiting owner.state name
   o = whole-open
 
-  step_of_it : (step : OpenStep) × (o.held.live.part ≡ Some step)
-  step_of_it = some-part o.held.live.part o.kind o.is
+  step_of_it : (step : OpenStep) × (o.session.live.part ≡ Some step)
+  step_of_it = some-part o.session.live.part o.kind o.is
 
   -- none of its tiles is to come
-  pub whole-left : tiles_left_in o.held.live.part ≡ 0
-  whole-left = whole_none o.held (label_of owner name) step_of_it.0 step_of_it.1 (t.gathered name o.held o.there) o.whole
+  pub whole-left : tiles_left_in o.session.live.part ≡ 0
+  whole-left = whole_none o.session (label_of owner name) step_of_it.0 step_of_it.1 (t.gathered name o.session o.there) o.whole
 
-  pub whole-owes : tasks_posted_of (label_of owner name) (Some o.held) ≡ []
-  whole-owes = whole_posted o.held (label_of owner name) step_of_it.0 step_of_it.1 (t.gathered name o.held o.there) o.whole
+  pub whole-owes : tasks_posted_of (label_of owner name) (Some o.session) ≡ []
+  whole-owes = whole_posted o.session (label_of owner name) step_of_it.0 step_of_it.1 (t.gathered name o.session o.there) o.whole
 
-  pending-there : pending_in owner.state name ≡ o.held.pending
+  pending-there : pending_in owner.state name ≡ o.session.pending
   pending-there = ap (λ h. option_map_or (λ (h : LiveSession). h.pending) h 0) o.there
 
   -- its step is passed
@@ -342,29 +342,29 @@ module _ (owner : Owner) (owed : List Task) (t : Gathers owner owed) (name : Lis
         → IfSome waiting (IsOpenFor (with_session_changed name with_step_finished owner.state))
         → Gathers (record { state = with_session_changed name with_step_finished owner.state; number = owner.number; waiting = waiting }) owed
     passed-gathers waiting work waits =
-        gathers_changed owner owed t name o.held o.there with_step_finished waiting owed work waits
-        (passed-gathered o.held)
+        gathers_changed owner owed t name o.session o.there with_step_finished waiting owed work waits
+        (passed-gathered o.session)
         (t.each name ∙ ap (tasks_posted_of (label_of owner name)) o.there ∙ whole-owes
-        ∙ sym (passed-posted o.held (label_of owner name)))
+        ∙ sym (passed-posted o.session (label_of owner name)))
         (λ other apart. refl)
 
-    pub passed-tiles-sum : tiles_to_come (with_session_changed name with_step_finished owner.state) ≡ tiles_to_come owner.state
+    pub passed-tiles-sum : state_tiles_coming (with_session_changed name with_step_finished owner.state) ≡ state_tiles_coming owner.state
     passed-tiles-sum =
-        let sum = sum-changed owner.state name with_step_finished tiles_of_session o.held o.there in
-        let passed = passed-tiles o.held in
+        let sum = sum-changed owner.state name with_step_finished tiles_of_session o.session o.there in
+        let passed = passed-tiles o.session in
         let left = whole-left in
         omega (arith, sum, passed, left)
 
     pub passed-posts-sum : sum_over posts_of_session (with_session_changed name with_step_finished owner.state) ≤ sum_over posts_of_session owner.state
     passed-posts-sum =
-        let sum = sum-changed owner.state name with_step_finished posts_of_session o.held o.there in
-        let passed = passed-posts o.held in
+        let sum = sum-changed owner.state name with_step_finished posts_of_session o.session o.there in
+        let passed = passed-posts o.session in
         omega (arith, sum, passed)
 
-    pub passed-pending-sum : sum_over (λ held. held.pending) (with_session_changed name with_step_finished owner.state) + 1 ≡ sum_over (λ held. held.pending) owner.state
+    pub passed-pending-sum : sum_over (λ session. session.pending) (with_session_changed name with_step_finished owner.state) + 1 ≡ sum_over (λ session. session.pending) owner.state
     passed-pending-sum =
-        let sum = sum-changed owner.state name with_step_finished (λ held. held.pending) o.held o.there in
-        let passed = passed-pending o.held in
+        let sum = sum-changed owner.state name with_step_finished (λ session. session.pending) o.session o.there in
+        let passed = passed-pending o.session in
         let more = pending-there in
         omega (arith, sum, passed, more, some)
 
@@ -392,7 +392,7 @@ module _ (owner : Owner) (owed : List Task) (t : Gathers owner owed) (name : Lis
       let turns_same = ap (λ u. option_map_or (turns u) owner.waiting 0) user in
       record {
         gathers = passed-gathers owner owed t name whole some owner.waiting
-            (at_work-changed owner.waiting owner.state name with_step_finished (λ held e. kind-passed owner.waiting name held quiet) t.at_work)
+            (at_work-changed owner.waiting owner.state name with_step_finished (λ session e. kind-passed owner.waiting name session quiet) t.at_work)
             (still owner.waiting refl t.waits);
         tiles = omega (arith, tiles, own);
         posts = omega (arith, posts, own);
@@ -409,11 +409,11 @@ module _ (owner : Owner) (owed : List Task) (t : Gathers owner owed) (name : Lis
               absurd (true≢false (sym (waited-measure command name is) ∙ ap (λ w. is_waited_for w name) (sym e) ∙ other)))
               (λ m. m)
 
-      apart : (command : Command) → owner.waiting ≡ Some command → (session : List ℕ) → waits_for command ≡ Some session
-          → name ≡ session → ⊥
-      apart command e session w same =
+      apart : (command : Command) → owner.waiting ≡ Some command → (session_name : List ℕ) → waits_for command ≡ Some session_name
+          → name ≡ session_name → ⊥
+      apart command e session_name w same =
           let t : is_waited_for (Some command) name ≡ true =
-          ap (λ o. option_map_or (λ session. bytes_eq session name) o false) w ∙ (bytes_eq-Decides session name).1 (sym same) in
+          ap (λ o. option_map_or (λ session_name. bytes_eq session_name name) o false) w ∙ (bytes_eq-Decides session_name name).1 (sym same) in
           true≢false (sym t ∙ ap (λ w. is_waited_for w name) (sym e) ∙ other)
 
       still : (w : Option Command) → owner.waiting ≡ w → IfSome w (IsOpenFor owner.state)
@@ -422,13 +422,13 @@ module _ (owner : Owner) (owed : List Task) (t : Gathers owner owed) (name : Lis
       still (Some command) e h = by (waits_for command) refl
         where
           by : (w : Option (List ℕ)) → waits_for command ≡ w → IsOpenFor (with_session_changed name with_step_finished owner.state) command
-          by None w = absurd (subst (λ o. IsSomeAnd o (λ name. IsSomeAnd (live_session owner.state name) (λ held. IsSome held.live.part))) w h)
-          by (Some session) w =
-              subst (λ o. IsSomeAnd o (λ session. IsSomeAnd (live_session (with_session_changed name with_step_finished owner.state) session) (λ held. IsSome held.live.part)))
+          by None w = absurd (subst (λ o. IsSomeAnd o (λ name. IsSomeAnd (live_session owner.state name) (λ session. IsSome session.live.part))) w h)
+          by (Some session_name) w =
+              subst (λ o. IsSomeAnd o (λ session_name. IsSomeAnd (live_session (with_session_changed name with_step_finished owner.state) session_name) (λ session. IsSome session.live.part)))
               (sym w)
-              (subst (λ o. IsSomeAnd o (λ held. IsSome held.live.part))
-              (sym (other-changed owner.state name with_step_finished session (apart command e session w)))
-              (subst (λ o. IsSomeAnd o (λ name. IsSomeAnd (live_session owner.state name) (λ held. IsSome held.live.part))) w h))
+              (subst (λ o. IsSomeAnd o (λ session. IsSome session.live.part))
+              (sym (other-changed owner.state name with_step_finished session_name (apart command e session_name w)))
+              (subst (λ o. IsSomeAnd o (λ name. IsSomeAnd (live_session owner.state name) (λ session. IsSome session.live.part))) w h))
 
       waiting_same : (w : Option Command) → owner.waiting ≡ w
           → waiting_tiles_of (with_state (with_session_changed name with_step_finished owner.state) owner) w ≡ waiting_tiles_of owner w
@@ -442,9 +442,9 @@ module _ (owner : Owner) (owed : List Task) (t : Gathers owner owed) (name : Lis
               → steps_before (with_session_changed name with_step_finished owner.state) command ≡ steps_before owner.state command
           before None w = ap (λ o. option_map_or (pending_in (with_session_changed name with_step_finished owner.state)) o 0) w
               ∙ sym (ap (λ o. option_map_or (pending_in owner.state) o 0) w)
-          before (Some session) w = ap (λ o. option_map_or (pending_in (with_session_changed name with_step_finished owner.state)) o 0) w
+          before (Some session_name) w = ap (λ o. option_map_or (pending_in (with_session_changed name with_step_finished owner.state)) o 0) w
               ∙ ap (λ o. option_map_or (λ (h : LiveSession). h.pending) o 0)
-              (other-changed owner.state name with_step_finished session (apart command e session w))
+              (other-changed owner.state name with_step_finished session_name (apart command e session_name w))
               ∙ sym (ap (λ o. option_map_or (pending_in owner.state) o 0) w)
 
   -- a command waits for it

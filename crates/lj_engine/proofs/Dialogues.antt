@@ -12,7 +12,7 @@ use Rattle.lj_session.specs.declared.command.Command.TheVariants.{Bye as ByeComm
 use Rattle.lj_session.specs.declared.reply.Reply.{Reply}
 use Rattle.lj_session.specs.declared.command.Command.{Command as Order}
 use Rattle.lj_session.specs.declared.command.Command.TheVariants.{Advance, Measure}
-use Rattle.lj_tile.specs.Task.{Task}
+use Rattle.lj_task.specs.Task.{Task}
 use Rattle.lj_branch.specs.Named.{value_named}
 use Rattle.lj_session.specs.Turns.{turns, waits_for, advance_turns, measure_turns}
 use Rattle.lj_session.specs.Users.{Session, User}
@@ -25,15 +25,15 @@ use Rattle.lj_wire.specs.declared.item.Item.{Item}
 use Rattle.lj_wire.specs.declared.item.Item.TheVariants.{Command, Bad, Last}
 use Rattle.lj_wire.specs.declared.reader.phase.Phase.TheVariants.{Open, Over, Failed}
 use Rattle.lj_wire.specs.Items.{is_ending}
-use Rattle.lj_wire.specs.Texts.{text, is_memory}
+use Rattle.lj_wire.specs.ReplyTexts.{text, is_memory}
 use Rattle.lj_wire.specs.Told.{item_reply, item_text, texts, last_user}
-use Rattle.lj_wire.specs.Runs.{item_before}
+use Rattle.lj_wire.specs.PendingItems.{item_before}
 use Rattle.lj_wire.specs.Streams.{IsItem, IsPart}
-use Rattle.lj_wire.specs.Progress.{Takes}
-use Rattle.lj_wire.specs.LineReader.{LineReader, IsLost, IsHandedOut, HandsOut, Ceases, Fails, HandsNone, HasFailed}
+use Rattle.lj_wire.specs.Progress.{TakesItems}
+use Rattle.lj_wire.specs.LineReader.{LineReader, IsLost, IsHandedItem, HandsOutItem, Ceases, Fails, HandsNone, HasFailed}
 use Rattle.lj_wire.proofs.Marks.{marked}
 use Rattle.lj_wire.proofs.Handed.{lost_answered, ends_alike}
-use Rattle.lj_wire.proofs.Progressing.{Takes-more, Splits-part, Splits-end, Added, added, marks-length, texts-length}
+use Rattle.lj_wire.proofs.Progressing.{TakesItems-more, Splits-part, Splits-end, Added, added, marks-length, texts-length}
 use Rattle.lj_engine.specs.declared.served.Served.{Served}
 use Rattle.lj_engine.specs.declared.served.Served.TheVariants as served
 use Rattle.lj_engine.specs.declared.running.Halt.{Halt}
@@ -42,7 +42,7 @@ use Rattle.lj_end.specs.Seen.{Seen}
 use Rattle.lj_end.specs.declared.pool.TheConstants.{MAX_AHEAD}
 use Rattle.lj_engine.specs.Counting.{command_tiles, item_tiles, tiles, tiles_pending, CountsRise, FallsShort, HandedWithin}
 use Rattle.lj_engine.specs.PendingBounds.{most_after, most_after_all, most_pending, steps_started, HasPendingAfter, HasPendingAfterAll}
-use Rattle.lj_engine.specs.Coming.{tiles_to_come}
+use Rattle.lj_engine.specs.Coming.{state_tiles_coming}
 use Rattle.lj_engine.specs.Endings.{served_of, ending_of}
 use Rattle.lj_engine.specs.Served.{NoneEnds, EndsAs, AnswersAll, IsServed, Reaches, MayWait, StopsShort, Serves}
 use Rattle.lj_engine.specs.Serving.{AnswersItem, Serving}
@@ -50,23 +50,23 @@ use Rattle.lj_engine.proofs.Going.{rises_more, rises_none}
 use Rattle.lj_engine.proofs.Rested.{rested-tiles, rested-pending}
 
 -- bytes that begin with items do so too where more bytes come after
-pub Takes-on : (n : ℕ) (bytes : List ℕ) (items : List Item) (left more : List ℕ) → Takes n bytes items left
-    → Takes n (bytes ++ more) items (left ++ more)
-Takes-on n bytes [] left more t = ap (λ b. b ++ more) t
-Takes-on n bytes (item ∷ items) left more t = (
+pub TakesItems-on : (n : ℕ) (bytes : List ℕ) (items : List Item) (left more : List ℕ) → TakesItems n bytes items left
+    → TakesItems n (bytes ++ more) items (left ++ more)
+TakesItems-on n bytes [] left more t = ap (λ b. b ++ more) t
+TakesItems-on n bytes (item ∷ items) left more t = (
   t.0,
   t.1 ++ more,
   ap (λ b. b ++ more) t.2 ∙ append_assoc t.0 t.1 more,
   t.3,
   t.4,
-  Takes-on (n + 1) t.1 items left more t.5,
+  TakesItems-on (n + 1) t.1 items left more t.5,
 )
 
 -- no item that was taken ends the connection
-Takes-none_ends : (n : ℕ) (bytes : List ℕ) (items : List Item) (left : List ℕ)
-    → Takes n bytes items left → NoneEnds items
-Takes-none_ends n bytes [] left t = refl
-Takes-none_ends n bytes (item ∷ items) left t = rw t.4 (Takes-none_ends (n + 1) t.1 items left t.5)
+TakesItems-none_ends : (n : ℕ) (bytes : List ℕ) (items : List Item) (left : List ℕ)
+    → TakesItems n bytes items left → NoneEnds items
+TakesItems-none_ends n bytes [] left t = refl
+TakesItems-none_ends n bytes (item ∷ items) left t = rw t.4 (TakesItems-none_ends (n + 1) t.1 items left t.5)
 
 -- the tiles of one item more
 tiles-more : (user : User) (items : List Item) (marks : List Bool) (item : Item) (mark : Bool)
@@ -110,7 +110,7 @@ waits_there present Others may command some = by_test (nat_lt 0 (steps_before pr
     there : (name : List ℕ) → 0 < pending_in present name → (o : Option LiveSession) → live_session present name ≡ o
         → IsSome (value_named name (user_of present).sessions)
     there name more None e = absurd (let none = rw e at more in omega (arith, none))
-    there name more (Some held) e = ap is_some (named-held present name held e)
+    there name more (Some session) e = ap is_some (named-held present name session e)
 
     for_steps : (o : Option (List ℕ)) → waits_for command ≡ o → 0 < steps_before present command → Waits present Others command
     for_steps None e more = absurd (let none = ap (λ o. option_map_or (pending_in present) o 0) e in omega (arith, none, more))
@@ -126,7 +126,7 @@ unfolding turns waits_for
 lost_before present found item l = ap (item_before present) l.item_is
 
 may_wait : (start : UserState) (before : List Item) (marks : List Bool) (present : UserState) (found item : Item)
-    → HasPendingAfterAll start before marks present → IsHandedOut found item → 0 < item_before present item
+    → HasPendingAfterAll start before marks present → IsHandedItem found item → 0 < item_before present item
     → MayWait start before marks (user_of present) found
 may_wait start before marks present found item pending (inl same) some = of found (subst (λ i. 0 < item_before present i) same some)
   where
@@ -167,7 +167,7 @@ most_lost user found item name n l = (
   ap (λ i. most_after user i name n) l.found_is ∙ omega arith,
 )
 
-most_alike : (user : User) (found item : Item) (name : List ℕ) (n : ℕ) → IsHandedOut found item
+most_alike : (user : User) (found item : Item) (name : List ℕ) (n : ℕ) → IsHandedItem found item
     → most_after user item name n ≡ most_after user found name n
 most_alike user found item name n (inl same) = ap (λ i. most_after user i name n) same
 most_alike user found item name n (inr l) = let both = most_lost user found item name n l in both.0 ∙ sym both.1
@@ -175,7 +175,7 @@ most_alike user found item name n (inr l) = let both = most_lost user found item
 -- no more steps are pending than may be, after one item more
 pending-within : (start : UserState) (items : List Item) (marks : List Bool) (present : UserState) (found item : Item) (mark : Bool)
     (last : UserState) → HasPendingAfterAll start items marks present → user_of present ≡ last_user (user_of start) items marks
-    → length marks ≡ length items → IsHandedOut found item → HasPendingAfter present item last
+    → length marks ≡ length items → IsHandedItem found item → HasPendingAfter present item last
     → HasPendingAfterAll start (items ++ found ∷ []) (marks ++ mark ∷ []) last
 pending-within start items marks present found item mark last before same many handed after name =
     subst (λ n. pending_in last name ≤ n)
@@ -192,11 +192,11 @@ lost_tiles : (user : User) (found item : Item) → IsLost found item → (item_t
 unfolding command_tiles
 lost_tiles user found item l = (ap (item_tiles user) l.item_is, ap (item_tiles user) l.found_is)
 
-tiles_alike : (user : User) (found item : Item) → IsHandedOut found item → item_tiles user item ≡ item_tiles user found
+tiles_alike : (user : User) (found item : Item) → IsHandedItem found item → item_tiles user item ≡ item_tiles user found
 tiles_alike user found item (inl same) = ap (item_tiles user) same
 tiles_alike user found item (inr l) = let none = lost_tiles user found item l in none.0 ∙ sym none.1
 
-endings_alike : (found item : Item) → IsHandedOut found item → ending_of item ≡ ending_of found
+endings_alike : (found item : Item) → IsHandedItem found item → ending_of item ≡ ending_of found
 endings_alike found item (inl same) = ap ending_of same
 endings_alike found item (inr l) = ap ending_of l.item_is ∙ sym (ap ending_of l.found_is)
 
@@ -213,7 +213,7 @@ record Told (between next : User) (found : Item) (words : List ℕ) : Type 0 whe
   tells : item_text between found mark ≡ (words, next)
   only : mark ≡ true → is_memory (item_text between found mark).0 ≡ true
 
-told_of : (between next : User) (found item : Item) (reply : Reply) → IsHandedOut found item
+told_of : (between next : User) (found item : Item) (reply : Reply) → IsHandedItem found item
     → AnswersItem between item reply next → Told between next found (text next reply)
 told_of between next found item reply handed answers = by_found handed
   where
@@ -228,7 +228,7 @@ told_of between next found item reply handed answers = by_found handed
           only = λ marks. ap (λ t. is_memory t.0) same ∙ marks;
         }
 
-    by_found : IsHandedOut found item → Told between next found (text next reply)
+    by_found : IsHandedItem found item → Told between next found (text next reply)
     by_found (inl same) = with_mark answers.0 (ap (λ i. item_reply between i answers.0) (sym same) ∙ answers.1)
     by_found (inr l) = with_mark true (sym (lost_answered between found item answers.0 l) ∙ answers.1)
 
@@ -254,7 +254,7 @@ serving-start start first was old none is_open = record {
   are_marks = tt;
   written_is = refl;
   next_is = rested_user start;
-  counted = rises_none old old (0 + tiles_pending start - tiles_to_come (with_steps_restarted start)) refl refl
+  counted = rises_none old old (0 + tiles_pending start - state_tiles_coming (with_steps_restarted start)) refl refl
       (let all = rested-tiles start in omega (arith, all));
   handed = let all = rested-tiles start in omega (arith, all);
   pending = λ name. let same = rested-pending start name in omega (arith, same);
@@ -269,8 +269,8 @@ module _ (start : UserState) (first now : LineReader) (was is : Option (List ℕ
 
   -- the work goes on
   pub serving-goes : (next : UserState) (newer : Seen) → user_of next ≡ user_of present
-      → CountsRise (tiles_to_come present - tiles_to_come next) new newer
-      → HandedWithin (tiles_to_come present) (tiles_to_come next) new newer
+      → CountsRise (state_tiles_coming present - state_tiles_coming next) new newer
+      → HandedWithin (state_tiles_coming present) (state_tiles_coming next) new newer
       → ((name : List ℕ) → pending_in next name ≤ pending_in present name)
       → Serving start first now was is old newer next
   serving-goes next newer same risen handed fewer = record {
@@ -285,9 +285,9 @@ module _ (start : UserState) (first now : LineReader) (was is : Option (List ℕ
     are_marks = s.are_marks;
     written_is = s.written_is;
     next_is = same ∙ s.next_is;
-    counted = rises_more (tiles user s.items s.marks + tiles_pending start - tiles_to_come present)
-        (tiles_to_come present - tiles_to_come next)
-        (tiles user s.items s.marks + tiles_pending start - tiles_to_come next) s.counted risen (omega arith);
+    counted = rises_more (tiles user s.items s.marks + tiles_pending start - state_tiles_coming present)
+        (state_tiles_coming present - state_tiles_coming next)
+        (tiles user s.items s.marks + tiles_pending start - state_tiles_coming next) s.counted risen (omega arith);
     handed = let before = s.handed in omega (arith, before, handed);
     pending = λ name. let before = s.pending name in let few = fewer name in omega (arith, before, few);
     phase = s.phase;
@@ -339,7 +339,7 @@ module _ (start : UserState) (first now : LineReader) (was is : Option (List ℕ
       })
 
   -- the state is handed back
-  module _ (back : UserState) (same : user_of back ≡ user_of present) (few : tiles_to_come present ≤ tiles_pending back) where
+  module _ (back : UserState) (same : user_of back ≡ user_of present) (few : state_tiles_coming present ≤ tiles_pending back) where
     serving-part : (ending : Served) → ((items : List Item) → NoneEnds items → EndsAs ending items) → (part : List ℕ)
         → IsPart now.items part → AnswersAll ending start (s.read ++ part) s.written old new back
     serving-part ending none part p = record {
@@ -347,14 +347,14 @@ module _ (start : UserState) (first now : LineReader) (was is : Option (List ℕ
         items = s.items;
         rest = part;
         marks = s.marks;
-        splits = Splits-part 0 (s.read ++ part) s.items part (Takes-on 0 s.read s.items [] part s.takes)
+        splits = Splits-part 0 (s.read ++ part) s.items part (TakesItems-on 0 s.read s.items [] part s.takes)
             (subst (λ n. IsPart n part) number_is p);
         are_marks = s.are_marks;
         written_is = s.written_is;
         next_is = same ∙ s.next_is;
       };
-      ending = none s.items (Takes-none_ends 0 s.read s.items [] s.takes);
-      counted = rises_more (tiles user s.items s.marks + tiles_pending start - tiles_to_come present) 0
+      ending = none s.items (TakesItems-none_ends 0 s.read s.items [] s.takes);
+      counted = rises_more (tiles user s.items s.marks + tiles_pending start - state_tiles_coming present) 0
           (tiles user s.items s.marks + tiles_pending start - tiles_pending back) s.counted (rises_none new new 0 refl refl (omega arith))
           (omega (arith, few));
     }
@@ -372,12 +372,12 @@ module _ (start : UserState) (first now : LineReader) (was is : Option (List ℕ
         (serving-part served.ReadFault (λ _ ends. ends) f.part f.is_part)
 
   -- an item comes
-  module _ (after : LineReader) (item : Item) (h : HandsOut now after item) where
+  module _ (after : LineReader) (item : Item) (h : HandsOutItem now after item) where
     taken_more : Consumes first.left after.left (s.read ++ h.front)
     taken_more = Consumes-trans first.left now.left after.left s.read h.front s.taken h.taken
 
-    takes_more : Takes 0 (s.read ++ h.front) s.items h.front
-    takes_more = Takes-on 0 s.read s.items [] h.front s.takes
+    takes_more : TakesItems 0 (s.read ++ h.front) s.items h.front
+    takes_more = TakesItems-on 0 s.read s.items [] h.front s.takes
 
     is_next : IsItem (0 + length s.items) h.front h.found
     is_next = subst (λ n. IsItem n h.front h.found) number_is h.is_item
@@ -403,7 +403,7 @@ module _ (start : UserState) (first now : LineReader) (was is : Option (List ℕ
 
     -- it waits, and the pool is given up
     stops : (newer : Seen) → 0 < item_before present item
-        → FallsShort (tiles_to_come present + item_tiles (user_of present) item) new newer
+        → FallsShort (state_tiles_coming present + item_tiles (user_of present) item) new newer
         → StopsShort start (s.read ++ h.front) s.written old newer
     unfolding reaches
     stops newer waits missing = inl (record {
@@ -418,7 +418,7 @@ module _ (start : UserState) (first now : LineReader) (was is : Option (List ℕ
     })
 
     pub serving-halts : (halt : Halt) (newer : Seen) → 0 < item_before present item
-        → FallsShort (tiles_to_come present + item_tiles (user_of present) item) new newer
+        → FallsShort (state_tiles_coming present + item_tiles (user_of present) item) new newer
         → Serves (served_of halt) start first.left after.left was is old newer None
     serving-halts halt newer waits missing =
         serves-on (served_of halt) after h.front newer None h.taken (gives_up halt (stops newer waits missing))
@@ -464,8 +464,8 @@ module _ (start : UserState) (first now : LineReader) (was is : Option (List ℕ
 
       -- and the text is written
       module _ (now_is : Option (List ℕ)) (appends : Appends is now_is words) (newer : Seen)
-          (risen : CountsRise (tiles_to_come present + item_tiles (user_of present) item - tiles_to_come last) new newer)
-          (handed : HandedWithin (tiles_to_come present + item_tiles (user_of present) item) (tiles_to_come last) new newer) where
+          (risen : CountsRise (state_tiles_coming present + item_tiles (user_of present) item - state_tiles_coming last) new newer)
+          (handed : HandedWithin (state_tiles_coming present + item_tiles (user_of present) item) (state_tiles_coming last) new newer) where
         abbrev items_more : List Item
         items_more = s.items ++ h.found ∷ []
 
@@ -499,18 +499,18 @@ module _ (start : UserState) (first now : LineReader) (was is : Option (List ℕ
             ap (λ u. item_tiles u h.found) s.next_is in
             omega (arith, sum, same, from)
 
-        handed_more : HandedWithin (tiles user items_more marks_more + tiles_pending start) (tiles_to_come last) old newer
+        handed_more : HandedWithin (tiles user items_more marks_more + tiles_pending start) (state_tiles_coming last) old newer
         handed_more =
             let sum = tiles_sum in
             let before = s.handed in
             omega (arith, sum, before, handed)
 
-        counted_more : CountsRise (tiles user items_more marks_more + tiles_pending start - tiles_to_come last) old newer
+        counted_more : CountsRise (tiles user items_more marks_more + tiles_pending start - state_tiles_coming last) old newer
         counted_more =
             let sum = tiles_sum in
-            rises_more (tiles user s.items s.marks + tiles_pending start - tiles_to_come present)
-            (tiles_to_come present + item_tiles (user_of present) item - tiles_to_come last)
-            (tiles user items_more marks_more + tiles_pending start - tiles_to_come last)
+            rises_more (tiles user s.items s.marks + tiles_pending start - state_tiles_coming present)
+            (state_tiles_coming present + item_tiles (user_of present) item - state_tiles_coming last)
+            (tiles user items_more marks_more + tiles_pending start - state_tiles_coming last)
             s.counted risen (omega (arith, sum))
 
         pub serving-more : ending_of item ≡ None → HasPendingAfter present item last → Serving start first after was now_is old newer last
@@ -523,7 +523,7 @@ module _ (start : UserState) (first now : LineReader) (was is : Option (List ℕ
               marks = marks_more;
               taken = taken_more;
               appends = Appends-trans was is now_is s.written words s.appends appends;
-              takes = Takes-more 0 (s.read ++ h.front) s.items h.front h.front [] h.found takes_more
+              takes = TakesItems-more 0 (s.read ++ h.front) s.items h.front h.front [] h.found takes_more
                   (sym (append-nil h.front)) is_next (sym (ends_alike h.found item h.is_found) ∙ goes);
               items_are = length-append s.items (h.found ∷ []) ∙ ap (λ n. n + 1) s.items_are ∙ sym h.items_is;
               are_marks = more.are_marks;
@@ -537,7 +537,7 @@ module _ (start : UserState) (first now : LineReader) (was is : Option (List ℕ
             }
 
         -- and the connection ends with it
-        module _ (back : UserState) (same_back : user_of back ≡ user_of last) (few : tiles_to_come last ≤ tiles_pending back) where
+        module _ (back : UserState) (same_back : user_of back ≡ user_of last) (few : state_tiles_coming last ≤ tiles_pending back) where
           ended : (kind : Served) → EndsAs kind items_more → is_ending item ≡ true
               → AnswersAll kind start (s.read ++ h.front) (s.written ++ words) old newer back
           ended kind ending over = record {
@@ -552,7 +552,7 @@ module _ (start : UserState) (first now : LineReader) (was is : Option (List ℕ
               next_is = same_back ∙ next_more;
             };
             ending = ending;
-            counted = rises_more (tiles user items_more marks_more + tiles_pending start - tiles_to_come last) 0
+            counted = rises_more (tiles user items_more marks_more + tiles_pending start - state_tiles_coming last) 0
                 (tiles user items_more marks_more + tiles_pending start - tiles_pending back) counted_more
                 (rises_none newer newer 0 refl refl (omega arith)) (omega (arith, few));
           }

@@ -9,7 +9,7 @@ use Rattle.lj_session.specs.declared.reply.Reply.{Reply}
 use Rattle.lj_session.specs.Users.{User}
 use Rattle.lj_session.specs.Answers.{AnswersAlike}
 use Rattle.lj_session.specs.Begins.{OnRefusal}
-use Rattle.lj_session.specs.UserState.{UserState, IsIdleIn, OthersKept, OtherSessionsKept, StepsFollow, is_whole_in, names, pending_in, turns_before}
+use Rattle.lj_session.specs.UserState.{UserState, IsIdleIn, OthersKept, OtherSessionsKept, StepsFollow, is_whole_in, loaded_names, pending_in, turns_before}
 use Rattle.lj_session.specs.Owner.{Owner, IsAnswered, IsReplied, IsLastTurn, IsSettled, WaitsAlike, WaitsAlikeFor, owner_begun, is_waited_for, user_in}
 use Rattle.lj_session.proofs.Entries.{by_test}
 use Rattle.lj_wire.specs.declared.item.Item.TheVariants.{Command as Ordered}
@@ -18,9 +18,9 @@ use Rattle.lj_engine.specs.declared.running.Halt.TheVariants.{PoolClosed, TooMan
 use Rattle.lj_end.specs.Seen.{Seen}
 use Rattle.lj_engine.specs.Gathering.{Gathers}
 use Rattle.lj_engine.specs.Counting.{CountsRise, FallsShort, StraysRise}
-use Rattle.lj_engine.specs.Coming.{GoesOn, HasNoMorePending, HasNonePendingWhereWaited, tiles_to_come, tiles_coming, tiles_with_item}
+use Rattle.lj_engine.specs.Coming.{GoesOn, HasNoMorePending, HasNonePendingWhereWaited, state_tiles_coming, tiles_coming, tiles_with_item}
 use Rattle.lj_engine.specs.PendingBounds.{HasPendingAfter, most_after, steps_started}
-use Rattle.lj_engine.specs.Running.{AnswersNext, AnswersPending, Finishes, IsHalted, LeavesUnanswered}
+use Rattle.lj_engine.specs.Running.{AnswersNext, AnswersPending, FinishesWork, IsHalted, LeavesUnanswered}
 use Rattle.lj_engine.specs.Serving.{AnswersItem}
 use Rattle.lj_engine.proofs.Sessions.{distinct-answered}
 use Rattle.lj_engine.proofs.Begun.{Begins, begins, begun-waits, begun-pending}
@@ -49,11 +49,11 @@ pub none_last : (name : List ℕ) (owner : Owner) → owner.waiting ≡ None →
 none_last name owner none last = true≢false (sym last.waited ∙ rw none refl)
 
 distinct_replied : (now next : Owner) (reply : Reply) → IsSome now.waiting → IsReplied now reply (user_in next)
-    → IsDistinct bytes_eq (names now.state) → IsDistinct bytes_eq (names next.state)
+    → IsDistinct bytes_eq (loaded_names now.state) → IsDistinct bytes_eq (loaded_names next.state)
 distinct_replied now next reply some replied distinct = by now.waiting some replied
   where
     by : (w : Option Command) → IsSome w → IfSome w (λ command. IsAnswered (user_in now) command reply (user_in next))
-        → IsDistinct bytes_eq (names next.state)
+        → IsDistinct bytes_eq (loaded_names next.state)
     by None s r = absurd (true≢false (sym s))
     by (Some command) s r = distinct-answered now.state next.state command r.mark reply r.answers distinct
 
@@ -77,7 +77,7 @@ module _ (start : Owner) (before : Seen) (now : Owner) (after : Seen) (goes : Go
           settled = settled;
           idle = done;
           gathers = its_end.gathers;
-          counted = rises_more (tiles_coming start - tiles_coming now) 0 (tiles_coming start - tiles_to_come next.state)
+          counted = rises_more (tiles_coming start - tiles_coming now) 0 (tiles_coming start - state_tiles_coming next.state)
               goes.counted (rises_none after after 0 refl refl (omega arith)) (omega (arith, same));
           handed = omega (arith, same, handed);
         };
@@ -135,7 +135,7 @@ module _ (owner : Owner) (seen : Seen) (t : Gathers owner seen.owed) (idle : own
         → AnswersNext owner (Ordered command) seen reply last after
     begun_answered alike last after reply answers = record {
       answered = begun_answers reply (user_in last) alike answers.replied;
-      finished = subst (λ number. Finishes number seen reply last after) begun_tiles answers.finished;
+      finished = subst (λ number. FinishesWork number seen reply last after) begun_tiles answers.finished;
       pending = begun_pending last.state answers.no_more answers.rests;
     }
 
@@ -160,7 +160,7 @@ module _ (owner : Owner) (seen : Seen) (t : Gathers owner seen.owed) (idle : own
           settled = settled;
           idle = done;
           gathers = it.gathers;
-          counted = rises_none seen seen (tiles_with_item owner (Ordered command) - tiles_to_come next.state) refl refl
+          counted = rises_none seen seen (tiles_with_item owner (Ordered command) - state_tiles_coming next.state) refl refl
               (omega (arith, same));
           handed = omega (arith, same);
         };

@@ -5,7 +5,7 @@ use Rattle.std.specs.Prelude.{if◌then◌else◌, ◌↔◌, IfSome, IsOk, OnOk
 use Rattle.std.specs.Option.{option_map_or}
 use Rattle.std.proofs.lemmas.Bool.{true≢false, false≢true}
 use Rattle.std.proofs.lemmas.List.{length-append}
-use Rattle.lj_tile.specs.Task.{Task}
+use Rattle.lj_task.specs.Task.{Task}
 use Rattle.lj_step.specs.OpenSteps.{tile_number_of, tiles_of, IsAwaitedTaskIn}
 use Rattle.lj_session.specs.declared.command.Command.{Command}
 use Rattle.lj_session.specs.declared.reply.Reply.{Reply}
@@ -149,8 +149,8 @@ pub goes_nothing : (owner : Owner) (seen : Seen) → Gathers owner seen.owed →
 goes_nothing owner seen t = goes_unchanged owner seen seen t (record { owed = refl; expected = refl; strays = refl })
 
 -- one session changed that has as many pending steps as before, and means the same
-module _ (owner : Owner) (name : List ℕ) (change : LiveSession → LiveSession) (held : LiveSession) (there : live_session owner.state name ≡ Some held)
-    (pending : (held : LiveSession) → (change held).pending ≡ held.pending)
+module _ (owner : Owner) (name : List ℕ) (change : LiveSession → LiveSession) (session : LiveSession) (there : live_session owner.state name ≡ Some session)
+    (pending : (session : LiveSession) → (change session).pending ≡ session.pending)
     (user : user_of (with_session_changed name change owner.state) ≡ user_in owner) where
   abbrev next : Owner
   next = record { state = with_session_changed name change owner.state; number = owner.number; waiting = owner.waiting }
@@ -163,7 +163,7 @@ module _ (owner : Owner) (name : List ℕ) (change : LiveSession → LiveSession
         where
           by : (o : Option (List ℕ)) → option_map_or (pending_in (with_session_changed name change owner.state)) o 0 ≡ option_map_or (pending_in owner.state) o 0
           by None = refl
-          by (Some session) = pending-changed owner.state name change pending session
+          by (Some session_name) = pending-changed owner.state name change pending session_name
 
       by : (w : Option Command) → waiting_tiles_of next w ≡ waiting_tiles_of owner w
       by None = refl
@@ -173,28 +173,28 @@ module _ (owner : Owner) (name : List ℕ) (change : LiveSession → LiveSession
 
   pub changed-turns : turns_coming next ≡ turns_coming owner
   changed-turns =
-      let sum = sum-changed owner.state name change (λ held. held.pending) held there in
-      let same = pending held in
+      let sum = sum-changed owner.state name change (λ session. session.pending) session there in
+      let same = pending session in
       let turns_same = ap (λ u. option_map_or (turns u) owner.waiting 0) user in
       omega (arith, sum, same, turns_same)
 
-  pub changed-tiles : tiles_coming next + tiles_of_session held ≡ tiles_coming owner + tiles_of_session (change held)
+  pub changed-tiles : tiles_coming next + tiles_of_session session ≡ tiles_coming owner + tiles_of_session (change session)
   changed-tiles =
-      let sum = sum-changed owner.state name change tiles_of_session held there in
+      let sum = sum-changed owner.state name change tiles_of_session session there in
       let own = own_same in
       omega (arith, sum, own)
 
-  pub changed-posts : posts_coming next + posts_of_session held ≡ posts_coming owner + posts_of_session (change held)
+  pub changed-posts : posts_coming next + posts_of_session session ≡ posts_coming owner + posts_of_session (change session)
   changed-posts =
-      let sum = sum-changed owner.state name change posts_of_session held there in
+      let sum = sum-changed owner.state name change posts_of_session session there in
       let own = own_same in
       omega (arith, sum, own)
 
 -- a post leaves the pending steps
-pending_posted : (held : LiveSession) → (with_posted held).pending ≡ held.pending
-pending_posted held = by (next_tile held)
+pending_posted : (session : LiveSession) → (with_posted session).pending ≡ session.pending
+pending_posted session = by (next_tile session)
   where
-    by : (o : Option ℕ) → (with_passed_to o held).pending ≡ held.pending
+    by : (o : Option ℕ) → (with_passed_to o session).pending ≡ session.pending
     by None = refl
     by (Some i) = refl
 
@@ -213,33 +213,33 @@ module _ (owner : Owner) (before after : Seen) (t : Gathers owner before.owed) (
   posted_same : user_of (with_session_changed p.name with_posted owner.state) ≡ user_in owner
   posted_same = sym (ap user_in there_is) ∙ posted_user owner
 
-  after_is : with_posted p.held ≡ record p.held { passed = p.place + 1 }
-  after_is = ap (λ o. with_passed_to o p.held) p.next_place
+  after_is : with_posted p.session ≡ record p.session { passed = p.place + 1 }
+  after_is = ap (λ o. with_passed_to o p.session) p.next_place
 
-  fewer : posts_of_session (with_posted p.held) < posts_of_session p.held
+  fewer : posts_of_session (with_posted p.session) < posts_of_session p.session
   fewer =
-      let less = posted_fewer p.held (label_of owner p.name) p.step p.is_open
-      (t.gathered p.name p.held p.there) p.place p.next_place in
+      let less = posted_fewer p.session (label_of owner p.name) p.step p.is_open
+      (t.gathered p.name p.session p.there) p.place p.next_place in
       let is = ap posts_of_session after_is in
       omega (arith, less, is)
 
-  same_tiles : tiles_of_session (with_posted p.held) ≡ tiles_of_session p.held
+  same_tiles : tiles_of_session (with_posted p.session) ≡ tiles_of_session p.session
   same_tiles = ap tiles_of_session after_is
 
   pub fewer_posts : posts_coming (with_task_posted owner) < posts_coming owner
   fewer_posts =
-      let sum = changed-posts owner p.name with_posted p.held p.there pending_posted posted_same in
+      let sum = changed-posts owner p.name with_posted p.session p.there pending_posted posted_same in
       let less = fewer in
       let is = ap posts_coming there_is in
       omega (arith, sum, less, is)
 
   pub goes_posted : IsPosted work before after → GoesOn owner before (with_task_posted owner) after
   goes_posted posted =
-      let sum = changed-tiles owner p.name with_posted p.held p.there pending_posted posted_same in
+      let sum = changed-tiles owner p.name with_posted p.session p.there pending_posted posted_same in
       let same = same_tiles in
       let tiles : tiles_coming (with_task_posted owner) ≡ tiles_coming owner =
       ap tiles_coming there_is ∙ (let e : tiles_coming with_posted_there ≡ tiles_coming owner = omega (arith, sum, same) in e) in
-      let turns_same = ap turns_coming there_is ∙ changed-turns owner p.name with_posted p.held p.there pending_posted posted_same in
+      let turns_same = ap turns_coming there_is ∙ changed-turns owner p.name with_posted p.session p.there pending_posted posted_same in
       let less = fewer_posts in
       record {
         gathers = subst (Gathers (with_task_posted owner)) (sym posted.owed) (gathers_posted owner before.owed t work some);
@@ -273,21 +273,21 @@ module _ (owner : Owner) (before after : Seen) (t : Gathers owner before.owed) (
     change : LiveSession → LiveSession
     change = with_tile_in (tile_number_of work)
 
-    wanted_there : IsAwaitedTaskIn o.held.live
-        (label_of owner work.name.label.session) work o.held.live.part
+    wanted_there : IsAwaitedTaskIn o.session.live
+        (label_of owner work.name.label.session) work o.session.live.part
     wanted_there = taken_wanted owner before.owed t work wanted
 
-    left_less : tiles_left_in (with_tile_in (tile_number_of work) o.held).live.part + 1 ≡ tiles_left_in o.held.live.part
-    left_less = taken_left o.held (label_of owner work.name.label.session) o.step o.is_open
-        (t.gathered work.name.label.session o.held o.there) work wanted_there
+    left_less : tiles_left_in (with_tile_in (tile_number_of work) o.session).live.part + 1 ≡ tiles_left_in o.session.live.part
+    left_less = taken_left o.session (label_of owner work.name.label.session) o.step o.is_open
+        (t.gathered work.name.label.session o.session o.there) work wanted_there
 
-    tiles_same : tiles_of (with_tile_in (tile_number_of work) o.held).live ≡ tiles_of o.held.live
-    tiles_same = taken_tiles o.held (label_of owner work.name.label.session) o.step o.is_open
-        (t.gathered work.name.label.session o.held o.there) work wanted_there
+    tiles_same : tiles_of (with_tile_in (tile_number_of work) o.session).live ≡ tiles_of o.session.live
+    tiles_same = taken_tiles o.session (label_of owner work.name.label.session) o.step o.is_open
+        (t.gathered work.name.label.session o.session o.there) work wanted_there
 
     pub taken-fewer : tiles_coming (with_task_in work owner) + 1 ≡ tiles_coming owner
     taken-fewer =
-        let sum = changed-tiles owner work.name.label.session (with_tile_in (tile_number_of work)) o.held o.there (λ held. refl)
+        let sum = changed-tiles owner work.name.label.session (with_tile_in (tile_number_of work)) o.session o.there (λ session. refl)
         (taken_user work owner) in
         let less = left_less in
         omega (arith, sum, less)
@@ -295,10 +295,10 @@ module _ (owner : Owner) (before after : Seen) (t : Gathers owner before.owed) (
     goes_taken : GoesOn owner before (with_task_in work owner) after
     goes_taken =
         let less = taken-fewer in
-        let posts = changed-posts owner work.name.label.session (with_tile_in (tile_number_of work)) o.held o.there (λ held. refl)
+        let posts = changed-posts owner work.name.label.session (with_tile_in (tile_number_of work)) o.session o.there (λ session. refl)
         (taken_user work owner) in
         let same = tiles_same in
-        let turns_same = changed-turns owner work.name.label.session (with_tile_in (tile_number_of work)) o.held o.there (λ held. refl)
+        let turns_same = changed-turns owner work.name.label.session (with_tile_in (tile_number_of work)) o.session o.there (λ session. refl)
         (taken_user work owner) in
         record {
           gathers = gathers_taken owner before.owed t work wanted before after refl handed;
@@ -312,7 +312,7 @@ module _ (owner : Owner) (before after : Seen) (t : Gathers owner before.owed) (
           tiles = omega (arith, less);
           posts = omega (arith, posts, same);
           pending = λ name quiet.
-              let pending = pending-changed owner.state work.name.label.session (with_tile_in (tile_number_of work)) (λ held. refl) name in
+              let pending = pending-changed owner.state work.name.label.session (with_tile_in (tile_number_of work)) (λ session. refl) name in
               omega (arith, pending);
           waits = λ name. refl;
         }

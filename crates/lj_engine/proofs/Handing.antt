@@ -2,8 +2,8 @@
 use Rattle.std.proofs.Common.{◌≡◌, ℕ, ◌-◌, ◌<◌, ◌≤◌, List, [], Option, None, refl, sym, ap, ◌∙◌, subst, arith}
 use Rattle.std.specs.List.{IsDistinct, Contains}
 use Rattle.std.specs.Str.{bytes_eq}
-use Rattle.lj_tile.specs.Task.{Task}
-use Rattle.lj_session.specs.UserState.{UserState, pending_in, with_steps_restarted, names}
+use Rattle.lj_task.specs.Task.{Task}
+use Rattle.lj_session.specs.UserState.{UserState, pending_in, with_steps_restarted, loaded_names}
 use Rattle.lj_session.specs.Owner.{Owner, owner_of_state, is_waited_for}
 use Rattle.lj_wire.specs.declared.reader.phase.Phase.TheVariants.{Open}
 use Rattle.lj_wire.specs.LineReader.{LineReader}
@@ -13,8 +13,8 @@ use Rattle.lj_engine.specs.Endings.{served_of}
 use Rattle.lj_end.specs.Seen.{Seen}
 use Rattle.lj_engine.specs.Gathering.{Gathers, NonePending}
 use Rattle.lj_engine.specs.Counting.{tiles_pending}
-use Rattle.lj_engine.specs.Coming.{GoesOn, waiting_tiles_of, tiles_to_come, tiles_coming}
-use Rattle.lj_engine.specs.Served.{HandsBack}
+use Rattle.lj_engine.specs.Coming.{GoesOn, waiting_tiles_of, state_tiles_coming, tiles_coming}
+use Rattle.lj_engine.specs.Served.{ReturnsState}
 use Rattle.lj_engine.specs.Serving.{Serving}
 use Rattle.lj_engine.proofs.Dialogues.{serving-start, serving-goes}
 use Rattle.lj_engine.proofs.Ending.{alike_none}
@@ -29,13 +29,13 @@ module _ (state : UserState) (number : ℕ) (owner : Owner) (is : owner ≡ owne
       subst (λ (o : Owner). Serving state first first was was old old o.state) (sym is)
       (serving-start state first was old none at_work)
 
-  pub entered_gathers : (seen : Seen) → seen.owed ≡ [] → IsDistinct bytes_eq (names owner.state) → Gathers owner seen.owed
+  pub entered_gathers : (seen : Seen) → seen.owed ≡ [] → IsDistinct bytes_eq (loaded_names owner.state) → Gathers owner seen.owed
   entered_gathers seen none distinct =
       subst (Gathers owner) (sym none)
       (subst (λ (o : Owner). Gathers o []) (sym is)
-      (gathers-entered state number (subst (λ (o : Owner). IsDistinct bytes_eq (names o.state)) is distinct)))
+      (gathers-entered state number (subst (λ (o : Owner). IsDistinct bytes_eq (loaded_names o.state)) is distinct)))
 
-idle_tiles : (owner : Owner) → owner.waiting ≡ None → tiles_coming owner ≡ tiles_to_come owner.state
+idle_tiles : (owner : Owner) → owner.waiting ≡ None → tiles_coming owner ≡ state_tiles_coming owner.state
 idle_tiles owner idle =
     let none = ap (waiting_tiles_of owner) idle in omega (arith, none)
 
@@ -51,7 +51,7 @@ module _ {owner : Owner} {seen : Seen} (idle : owner.waiting ≡ None) {next : O
       let before = idle_tiles owner idle in
       let after = idle_tiles next ahead_idle in
       serving-goes start first now was is old seen owner.state s next.state newer (alike_none owner next goes.alike idle).1
-      (rises_more (tiles_coming owner - tiles_coming next) 0 (tiles_to_come owner.state - tiles_to_come next.state) goes.counted
+      (rises_more (tiles_coming owner - tiles_coming next) 0 (state_tiles_coming owner.state - state_tiles_coming next.state) goes.counted
       (rises_none newer newer 0 refl refl (omega arith)) (omega (arith, before, after)))
       (let handed = goes.handed in omega (arith, handed, before, after))
       (λ name. goes.pending name (ap (λ w. is_waited_for w name) idle))
@@ -63,10 +63,10 @@ module _ {owner : Owner} {seen : Seen} (idle : owner.waiting ≡ None) {next : O
 -- the state handed back
 module _ (owner : Owner) (seen : Seen) (t : Gathers owner seen.owed) (idle : owner.waiting ≡ None) (back : UserState)
     (is : back ≡ with_steps_restarted owner.state) where
-  pub back_few : tiles_to_come owner.state ≤ tiles_pending back
-  back_few = subst (λ o. tiles_to_come owner.state ≤ tiles_pending o) (sym is) (rested-few owner seen.owed t idle)
+  pub back_few : state_tiles_coming owner.state ≤ tiles_pending back
+  back_few = subst (λ o. state_tiles_coming owner.state ≤ tiles_pending o) (sym is) (rested-few owner seen.owed t idle)
 
-  pub hands_back : (start : UserState) → owner.state.quota ≡ start.quota → HandsBack start seen back
+  pub hands_back : (start : UserState) → owner.state.quota ≡ start.quota → ReturnsState start seen back
   hands_back start quota = record {
     none_owed = λ none. none-owed owner seen.owed t idle (subst NonePending is none);
     quota = ap (λ (state : UserState). state.quota) is ∙ quota;

@@ -12,5 +12,6 @@ pub mod Rested
 pub mod Dialogues
 pub mod Handing
 pub mod ItemEnds
+pub mod Flushing
 mod AllRead
 pub mod Posts

@@ -10,62 +10,62 @@ use Rattle.std.proofs.lemmas.List.Elements.{filter_more}
 use Rattle.std.proofs.lemmas.Option.{none-some, same_Some}
 use Rattle.std.proofs.lemmas.List.Sums.{sum_by-cons, sum_by-take-le}
 use Rattle.lj_engine.specs.Gathering.{is_awaited}
-use Rattle.lj_end.specs.Accounts.{times}
+use Rattle.lj_end.specs.Accounts.{occurrences}
 
-times-cons : (k x : ℕ) (xs : List ℕ) → times k (x ∷ xs) ≡ cond (nat_eq x k) 1 0 + times k xs
-times-cons k x xs = sum_by-cons (λ j. cond (nat_eq j k) 1 0) x xs
+occurrences-cons : (k x : ℕ) (xs : List ℕ) → occurrences k (x ∷ xs) ≡ cond (nat_eq x k) 1 0 + occurrences k xs
+occurrences-cons k x xs = sum_by-cons (λ j. cond (nat_eq j k) 1 0) x xs
 
-times-here : (k x : ℕ) (xs : List ℕ) → x ≡ k → times k (x ∷ xs) ≡ 1 + times k xs
-times-here k x xs e = times-cons k x xs ∙ ap (λ b. cond b 1 0 + times k xs) (eq-eqb x k e)
+occurrences-here : (k x : ℕ) (xs : List ℕ) → x ≡ k → occurrences k (x ∷ xs) ≡ 1 + occurrences k xs
+occurrences-here k x xs e = occurrences-cons k x xs ∙ ap (λ b. cond b 1 0 + occurrences k xs) (eq-eqb x k e)
 
-times-other : (k x : ℕ) (xs : List ℕ) → (x ≡ k → ⊥) → times k (x ∷ xs) ≡ times k xs
-times-other k x xs other = times-cons k x xs ∙ ap (λ b. cond b 1 0 + times k xs) (ne_eqb x k other) ∙ omega arith
+occurrences-other : (k x : ℕ) (xs : List ℕ) → (x ≡ k → ⊥) → occurrences k (x ∷ xs) ≡ occurrences k xs
+occurrences-other k x xs other = occurrences-cons k x xs ∙ ap (λ b. cond b 1 0 + occurrences k xs) (ne_eqb x k other) ∙ omega arith
 
 -- of the numbers that pass, one that passes is there as often as before
-pub times-filter : (p : ℕ → Bool) (k : ℕ) → p k ≡ true → (xs : List ℕ) → times k (filter p xs) ≡ times k xs
-times-filter p k passes [] = refl
-times-filter p k passes (x ∷ xs) =
+pub occurrences-filter : (p : ℕ → Bool) (k : ℕ) → p k ≡ true → (xs : List ℕ) → occurrences k (filter p xs) ≡ occurrences k xs
+occurrences-filter p k passes [] = refl
+occurrences-filter p k passes (x ∷ xs) =
     elim (cases_eq x k) [
       | inl same ↦
-          ap (λ b. times k (cond b (x ∷ filter p xs) (filter p xs))) (ap p same ∙ passes)
-          ∙ times-here k x (filter p xs) same
-          ∙ ap (λ n. 1 + n) (times-filter p k passes xs)
-          ∙ sym (times-here k x xs same)
+          ap (λ b. occurrences k (cond b (x ∷ filter p xs) (filter p xs))) (ap p same ∙ passes)
+          ∙ occurrences-here k x (filter p xs) same
+          ∙ ap (λ n. 1 + n) (occurrences-filter p k passes xs)
+          ∙ sym (occurrences-here k x xs same)
       | inr other ↦
           elim (cases_Bool (p x)) [
             | inl passing ↦
-                ap (λ b. times k (cond b (x ∷ filter p xs) (filter p xs))) passing
-                ∙ times-other k x (filter p xs) other
-                ∙ times-filter p k passes xs
-                ∙ sym (times-other k x xs other)
+                ap (λ b. occurrences k (cond b (x ∷ filter p xs) (filter p xs))) passing
+                ∙ occurrences-other k x (filter p xs) other
+                ∙ occurrences-filter p k passes xs
+                ∙ sym (occurrences-other k x xs other)
             | inr failing ↦
-                ap (λ b. times k (cond b (x ∷ filter p xs) (filter p xs))) failing
-                ∙ times-filter p k passes xs
-                ∙ sym (times-other k x xs other)
+                ap (λ b. occurrences k (cond b (x ∷ filter p xs) (filter p xs))) failing
+                ∙ occurrences-filter p k passes xs
+                ∙ sym (occurrences-other k x xs other)
           ]
     ]
 
 -- where none passes, one that passes is not there
-pub times-none : (p : ℕ → Bool) (k : ℕ) (xs : List ℕ) → p k ≡ true → filter p xs ≡ [] → times k xs ≡ 0
-times-none p k xs passes none = sym (times-filter p k passes xs) ∙ ap (times k) none
+pub occurrences-none : (p : ℕ → Bool) (k : ℕ) (xs : List ℕ) → p k ≡ true → filter p xs ≡ [] → occurrences k xs ≡ 0
+occurrences-none p k xs passes none = sym (occurrences-filter p k passes xs) ∙ ap (occurrences k) none
 
-pub times-take : (k n : ℕ) (xs : List ℕ) → times k (take n xs) ≤ times k xs
-times-take k n xs = sum_by-take-le (λ j. cond (nat_eq j k) 1 0) xs n
+pub occurrences-take : (k n : ℕ) (xs : List ℕ) → occurrences k (take n xs) ≤ occurrences k xs
+occurrences-take k n xs = sum_by-take-le (λ j. cond (nat_eq j k) 1 0) xs n
 
-times-range_before : (k a n : ℕ) → k < a → times k (range_with_len a n) ≡ 0
-times-range_before k a zero before = refl
-times-range_before k a (suc n) before =
-    times-other k a (range_with_len (a + 1) n) (λ e. omega arith) ∙ times-range_before k (a + 1) n (omega arith)
+occurrences-range_before : (k a n : ℕ) → k < a → occurrences k (range_with_len a n) ≡ 0
+occurrences-range_before k a zero before = refl
+occurrences-range_before k a (suc n) before =
+    occurrences-other k a (range_with_len (a + 1) n) (λ e. omega arith) ∙ occurrences-range_before k (a + 1) n (omega arith)
 
 -- a range has each of its numbers once
-pub times-range : (k a n : ℕ) → a ≤ k → k < a + n → times k (range_with_len a n) ≡ 1
-times-range k a zero from within = absurd (omega arith)
-times-range k a (suc n) from within =
+pub occurrences-range : (k a n : ℕ) → a ≤ k → k < a + n → occurrences k (range_with_len a n) ≡ 1
+occurrences-range k a zero from within = absurd (omega arith)
+occurrences-range k a (suc n) from within =
     elim (cases_eq a k) [
-      | inl same ↦ times-here k a (range_with_len (a + 1) n) same
-          ∙ ap (λ t. 1 + t) (times-range_before k (a + 1) n (omega arith))
-      | inr other ↦ times-other k a (range_with_len (a + 1) n) other
-          ∙ times-range k (a + 1) n (omega arith) (omega arith)
+      | inl same ↦ occurrences-here k a (range_with_len (a + 1) n) same
+          ∙ ap (λ t. 1 + t) (occurrences-range_before k (a + 1) n (omega arith))
+      | inr other ↦ occurrences-other k a (range_with_len (a + 1) n) other
+          ∙ occurrences-range k (a + 1) n (omega arith) (omega arith)
     ]
 
 -- where no flag is set, none is counted
@@ -82,26 +82,26 @@ none_set (flag ∷ flags) none =
 
 -- two tests that agree but at one number, which passes the second no more
 module _ (p q : ℕ → Bool) (k : ℕ) (ends : q k ≡ false) (agree : (j : ℕ) → (j ≡ k → ⊥) → q j ≡ p j) where
-  pub filter-apart : (xs : List ℕ) → times k xs ≡ 0 → filter q xs ≡ filter p xs
+  pub filter-apart : (xs : List ℕ) → occurrences k xs ≡ 0 → filter q xs ≡ filter p xs
   filter-apart [] none = refl
   filter-apart (x ∷ xs) none =
       elim (cases_eq x k) [
-        | inl same ↦ let here : times k (x ∷ xs) ≡ 1 + times k xs =
-            times-here k x xs same in absurd (omega (arith, here, none))
+        | inl same ↦ let here : occurrences k (x ∷ xs) ≡ 1 + occurrences k xs =
+            occurrences-here k x xs same in absurd (omega (arith, here, none))
         | inr other ↦
             ap (λ b. cond b (x ∷ filter q xs) (filter q xs)) (agree x other)
-            ∙ ap (λ r. cond (p x) (x ∷ r) r) (filter-apart xs (sym (times-other k x xs other) ∙ none))
+            ∙ ap (λ r. cond (p x) (x ∷ r) r) (filter-apart xs (sym (occurrences-other k x xs other) ∙ none))
       ]
 
   module _ {W : Type 0} (f : ℕ → W) (g : W → ℕ) (back : (j : ℕ) → g (f j) ≡ j) where
     -- the image of one that passes is among the images
-    image_in : (xs : List ℕ) → (times k xs ≡ 0 → ⊥) → Contains (map f xs) (f k)
+    image_in : (xs : List ℕ) → (occurrences k xs ≡ 0 → ⊥) → Contains (map f xs) (f k)
     image_in [] some = absurd (some refl)
     image_in (x ∷ xs) some =
         elim (cases_eq x k) [
           | inl same ↦ (0, omega arith, ap f same)
           | inr other ↦
-              let rest = image_in xs (λ none. some (times-other k x xs other ∙ none)) in
+              let rest = image_in xs (λ none. some (occurrences-other k x xs other ∙ none)) in
               (suc rest.0, omega (arith, rest.1), rest.2)
         ]
 
@@ -109,17 +109,17 @@ module _ (p q : ℕ → Bool) (k : ℕ) (ends : q k ≡ false) (agree : (j : ℕ
     pub images-kept : (xs : List ℕ) → p k ≡ true → (Contains (map f (filter p xs)) (f k) → ⊥)
         → map f (filter q xs) ≡ map f (filter p xs)
     images-kept xs passes absent =
-        elim (cases_eq (times k xs) 0) [
+        elim (cases_eq (occurrences k xs) 0) [
           | inl none ↦ ap (map f) (filter-apart xs none)
-          | inr some ↦ absurd (absent (image_in (filter p xs) (λ none. some (sym (times-filter p k passes xs) ∙ none))))
+          | inr some ↦ absurd (absent (image_in (filter p xs) (λ none. some (sym (occurrences-filter p k passes xs) ∙ none))))
         ]
 
     -- where its image is there, the first one is taken out
-    at_k : (x : ℕ) (xs : List ℕ) (front behind : List W) → times k (x ∷ xs) ≤ 1 → x ≡ k → p k ≡ true
+    at_k : (x : ℕ) (xs : List ℕ) (front behind : List W) → occurrences k (x ∷ xs) ≤ 1 → x ≡ k → p k ≡ true
         → f x ∷ map f (filter p xs) ≡ front ++ f k ∷ behind
         → (Contains front (f k) → ⊥) → map f (filter q (x ∷ xs)) ≡ front ++ behind
     at_k x xs [] behind once same passes e first =
-        let here : times k (x ∷ xs) ≡ 1 + times k xs = times-here k x xs same in
+        let here : occurrences k (x ∷ xs) ≡ 1 + occurrences k xs = occurrences-here k x xs same in
         let rest : map f (filter p xs) ≡ behind = cc in
         ap (λ b. map f (cond b (x ∷ filter q xs) (filter q xs))) (ap q same ∙ ends)
         ∙ ap (map f) (filter-apart xs (omega (arith, here, once)))
@@ -143,7 +143,7 @@ module _ (p q : ℕ → Bool) (k : ℕ) (ends : q k ≡ false) (agree : (j : ℕ
         ∙ ap (λ w. w ∷ map f (filter q xs)) head
         ∙ ap (λ ws. w ∷ ws) later
 
-    pub images-taken : (xs : List ℕ) (front behind : List W) → times k xs ≤ 1 → p k ≡ true
+    pub images-taken : (xs : List ℕ) (front behind : List W) → occurrences k xs ≤ 1 → p k ≡ true
         → map f (filter p xs) ≡ front ++ f k ∷ behind
         → (Contains front (f k) → ⊥) → map f (filter q xs) ≡ front ++ behind
     images-taken [] [] behind once passes e first = absurd (cc)
@@ -159,10 +159,10 @@ module _ (p q : ℕ → Bool) (k : ℕ) (ends : q k ≡ false) (agree : (j : ℕ
                     before_k x xs front behind other passing
                     (sym (ap (λ b. map f (cond b (x ∷ filter p xs) (filter p xs))) passing) ∙ e) first
                     (λ others. images-taken xs others behind
-                    (subst (λ n. n ≤ 1) (times-other k x xs other) once) passes)
+                    (subst (λ n. n ≤ 1) (occurrences-other k x xs other) once) passes)
                 | inr failing ↦
                     ap (λ b. map f (cond b (x ∷ filter q xs) (filter q xs))) (agree x other ∙ failing)
-                    ∙ images-taken xs front behind (subst (λ n. n ≤ 1) (times-other k x xs other) once) passes
+                    ∙ images-taken xs front behind (subst (λ n. n ≤ 1) (occurrences-other k x xs other) once) passes
                     (sym (ap (λ b. map f (cond b (x ∷ filter p xs) (filter p xs))) failing) ∙ e) first
               ]
         ]

@@ -120,95 +120,95 @@ module _ (old new : UserState) (command : Command) (reply : Reply) (work : IsAtW
   answer_user : user_of new ≡ (answer (user_of old) command answered.mark).1
   answer_user = ap (λ a. a.1) answered.answers
 
-  absent : (held : LiveSession) → live_session old name ≡ None → live_session old name ≡ Some held → ⊥
-  absent held none some = none-some held (sym none ∙ some)
+  absent : (session : LiveSession) → live_session old name ≡ None → live_session old name ≡ Some session → ⊥
+  absent session none some = none-some session (sym none ∙ some)
 
   -- a session that the command waits for has no pending steps
   waited_idle : waits_for command ≡ Some name → IsIdleIn old name
-  waited_idle waits held found =
-      let none = pending-of old name held found (none-before old command name waits at_once) in
-      record { pending = none; closed = work name held found ∙ kind-none None name held none refl }
+  waited_idle waits session found =
+      let none = pending-of old name session found (none-before old command name waits at_once) in
+      record { pending = none; closed = work name session found ∙ kind-none None name session none refl }
 
   generic : IsIdleIn old name
-      → ((after : LiveSession) → live_session new name ≡ Some after → IsIdle after ⊎ IsSomeAnd (live_session old name) (λ held. SameSteps held after))
+      → ((after : LiveSession) → live_session new name ≡ Some after → IsIdle after ⊎ IsSomeAnd (live_session old name) (λ session. SameSteps session after))
       → Outcome old new command name
   generic idle follows = by (live_session new name) refl
     where
       kept : (after : LiveSession) → live_session new name ≡ Some after → (o : Option LiveSession) → live_session old name ≡ o
-          → IsSomeAnd (live_session old name) (λ held. SameSteps held after) → Outcome old new command name
-      kept after e None w same = absurd (subst (λ o. IsSomeAnd o (λ held. SameSteps held after)) w same)
+          → IsSomeAnd (live_session old name) (λ session. SameSteps session after) → Outcome old new command name
+      kept after e None w same = absurd (subst (λ o. IsSomeAnd o (λ session. SameSteps session after)) w same)
       kept after e (Some before) w same = inr (inl (record {
         before = before;
         after = after;
         was = w;
         is = e;
-        same = subst (λ o. IsSomeAnd o (λ held. SameSteps held after)) w same;
+        same = subst (λ o. IsSomeAnd o (λ session. SameSteps session after)) w same;
       }))
 
       either : (after : LiveSession) → live_session new name ≡ Some after
-          → IsIdle after ⊎ IsSomeAnd (live_session old name) (λ held. SameSteps held after) → Outcome old new command name
+          → IsIdle after ⊎ IsSomeAnd (live_session old name) (λ session. SameSteps session after) → Outcome old new command name
       either after e (inl i) = inl (record {
         before = idle;
-        after = λ held found. subst IsIdle (same_Some after held (sym e ∙ found)) i;
+        after = λ session found. subst IsIdle (same_Some after session (sym e ∙ found)) i;
       })
       either after e (inr same) = kept after e (live_session old name) refl same
 
       by : (o : Option LiveSession) → live_session new name ≡ o → Outcome old new command name
-      by None e = inl (record { before = idle; after = λ held found. absurd (none-some held (sym e ∙ found)) })
+      by None e = inl (record { before = idle; after = λ session found. absurd (none-some session (sym e ∙ found)) })
       by (Some after) e = either after e (follows after e)
 
   -- where it is there neither before nor after
   gone : live_session old name ≡ None → live_session new name ≡ None → Outcome old new command name
   gone before after = inl (record {
-    before = λ held found. absurd (none-some held (sym before ∙ found));
-    after = λ held found. absurd (none-some held (sym after ∙ found));
+    before = λ session found. absurd (none-some session (sym before ∙ found));
+    after = λ session found. absurd (none-some session (sym after ∙ found));
   })
 
   -- it stays
-  pub staying : ((held : LiveSession) → live_session old name ≡ Some held → IsSome (value_named name (answer (user_of old) command answered.mark).1.sessions))
-      → (held : LiveSession) → live_session old name ≡ Some held → live_session new name ≡ None → ⊥
-  staying stays held found none =
+  pub staying : ((session : LiveSession) → live_session old name ≡ Some session → IsSome (value_named name (answer (user_of old) command answered.mark).1.sessions))
+      → (session : LiveSession) → live_session old name ≡ Some session → live_session new name ≡ None → ⊥
+  staying stays session found none =
       let some : is_some (value_named name (user_of new).sessions) ≡ true =
-      ap (λ (u : User). is_some (value_named name u.sessions)) answer_user ∙ stays held found in
+      ap (λ (u : User). is_some (value_named name u.sessions)) answer_user ∙ stays session found in
       true≢false (sym some ∙ ap is_some (named-absent new name none))
 
-  same_kept : ((held : LiveSession) → live_session old name ≡ Some held → live_session new name ≡ None → ⊥)
-      → ((after : LiveSession) → live_session new name ≡ Some after → IsSomeAnd (live_session old name) (λ held. SameSteps held after))
+  same_kept : ((session : LiveSession) → live_session old name ≡ Some session → live_session new name ≡ None → ⊥)
+      → ((after : LiveSession) → live_session new name ≡ Some after → IsSomeAnd (live_session old name) (λ session. SameSteps session after))
       → Outcome old new command name
   same_kept stays follows = by (live_session old name) refl (live_session new name) refl
     where
       by : (o : Option LiveSession) → live_session old name ≡ o → (p : Option LiveSession) → live_session new name ≡ p → Outcome old new command name
       by None w None e = gone w e
       by (Some before) w None e = absurd (stays before w e)
-      by None w (Some after) e = absurd (subst (λ o. IsSomeAnd o (λ held. SameSteps held after)) w (follows after e))
+      by None w (Some after) e = absurd (subst (λ o. IsSomeAnd o (λ session. SameSteps session after)) w (follows after e))
       by (Some before) w (Some after) e = inr (inl (record {
         before = before;
         after = after;
         was = w;
         is = e;
-        same = subst (λ o. IsSomeAnd o (λ held. SameSteps held after)) w (follows after e);
+        same = subst (λ o. IsSomeAnd o (λ session. SameSteps session after)) w (follows after e);
       }))
 
   start_adds : (n : ℕ) → command ≡ Start name n
-      → ((held : LiveSession) → live_session old name ≡ Some held → live_session new name ≡ None → ⊥)
-      → ((after : LiveSession) → live_session new name ≡ Some after → IsSomeAnd (live_session old name) (λ held. after ≡ with_start n held))
+      → ((session : LiveSession) → live_session old name ≡ Some session → live_session new name ≡ None → ⊥)
+      → ((after : LiveSession) → live_session new name ≡ Some after → IsSomeAnd (live_session old name) (λ session. after ≡ with_start n session))
       → Outcome old new command name
   start_adds n which stays follows = by (live_session old name) refl (live_session new name) refl
     where
       by : (o : Option LiveSession) → live_session old name ≡ o → (p : Option LiveSession) → live_session new name ≡ p → Outcome old new command name
       by None w None e = gone w e
       by (Some before) w None e = absurd (stays before w e)
-      by None w (Some after) e = absurd (subst (λ o. IsSomeAnd o (λ held. after ≡ with_start n held)) w (follows after e))
+      by None w (Some after) e = absurd (subst (λ o. IsSomeAnd o (λ session. after ≡ with_start n session)) w (follows after e))
       by (Some before) w (Some after) e = inr (inr (record {
         n = n;
         start = which;
         before = before;
         was = w;
-        is = e ∙ ap (λ (h : LiveSession). Some h) (subst (λ o. IsSomeAnd o (λ held. after ≡ with_start n held)) w (follows after e));
+        is = e ∙ ap (λ (h : LiveSession). Some h) (subst (λ o. IsSomeAnd o (λ session. after ≡ with_start n session)) w (follows after e));
       }))
 
-  some_of : (held : LiveSession) → live_session old name ≡ Some held → IsSome (value_named name (user_of old).sessions)
-  some_of held found = ap is_some (named-held old name held found)
+  some_of : (session : LiveSession) → live_session old name ≡ Some session → IsSome (value_named name (user_of old).sessions)
+  some_of session found = ap is_some (named-held old name session found)
 
 -- for each command
 pub same_name_of : (a b : List ℕ) → Some a ≡ Some b → a ≡ b
@@ -227,48 +227,48 @@ outcome old new (Load load) reply work a u s z name n = by (live_session old nam
     is : load.name ≡ name
     is = same_name_of load.name name n
 
-    unchanged_by : (held : LiveSession) → live_session old name ≡ Some held → new ≡ old
-    unchanged_by held found =
+    unchanged_by : (session : LiveSession) → live_session old name ≡ Some session → new ≡ old
+    unchanged_by session found =
         let refused = refused-load (user_of old) load a.mark
-        (ap (λ k. is_some (value_named k (user_of old).sessions)) is ∙ ap is_some (named-held old name held found)) in
+        (ap (λ k. is_some (value_named k (user_of old).sessions)) is ∙ ap is_some (named-held old name session found)) in
         subst (λ r. OnRefusal r (new ≡ old)) (ap (λ x. x.0) a.answers ∙ refused.1) u
 
     by : (o : Option LiveSession) → live_session old name ≡ o → Outcome old new (Load load) name
     by None e = generic old new (Load load) reply work a u s z name n
-        (λ held found. absurd (none-some held (sym e ∙ found)))
+        (λ session found. absurd (none-some session (sym e ∙ found)))
         (λ after there. inl (subst (λ o. StepsAfterLoad o after) e (s name after n there)))
-    by (Some held) e = inr (inl (record {
-      before = held;
-      after = held;
+    by (Some session) e = inr (inl (record {
+      before = session;
+      after = session;
       was = e;
-      is = ap (λ (o : UserState). live_session o name) (unchanged_by held e) ∙ e;
+      is = ap (λ (o : UserState). live_session o name) (unchanged_by session e) ∙ e;
       same = record { live = refl; passed = refl; pending = refl };
     }))
-outcome old new (Start session k) reply work a u s z name n =
-    let is = same_name_of session name n in
-    start_adds old new (Start session k) reply work a u s z name n k (ap (λ m. Start m k) is)
-    (staying old new (Start session k) reply work a u s z name n (λ held found.
-    still-there (user_of old) name (command_result (user_of old) (Start session k) a.mark)
-    (ap is_some (named-held old name held found))
+outcome old new (Start session_name k) reply work a u s z name n =
+    let is = same_name_of session_name name n in
+    start_adds old new (Start session_name k) reply work a u s z name n k (ap (λ m. Start m k) is)
+    (staying old new (Start session_name k) reply work a u s z name n (λ session found.
+    still-there (user_of old) name (command_result (user_of old) (Start session_name k) a.mark)
+    (ap is_some (named-held old name session found))
     (subst (λ m. Stays name (command_result (user_of old) (Start m k) a.mark)) (sym is) (start_stays (user_of old) name k a.mark))))
     (λ after there. s name after n there)
-outcome old new (Forget session branch) reply work a u s z name n =
-    let is = same_name_of session name n in
-    same_kept old new (Forget session branch) reply work a u s z name n
-    (staying old new (Forget session branch) reply work a u s z name n (λ held found.
-    still-there (user_of old) name (command_result (user_of old) (Forget session branch) a.mark)
-    (ap is_some (named-held old name held found))
+outcome old new (Forget session_name branch) reply work a u s z name n =
+    let is = same_name_of session_name name n in
+    same_kept old new (Forget session_name branch) reply work a u s z name n
+    (staying old new (Forget session_name branch) reply work a u s z name n (λ session found.
+    still-there (user_of old) name (command_result (user_of old) (Forget session_name branch) a.mark)
+    (ap is_some (named-held old name session found))
     (subst (λ m. Stays name (command_result (user_of old) (Forget m branch) a.mark)) (sym is)
     (forget_stays (user_of old) name branch a.mark))))
     (λ after there. s name after n there)
-outcome old new (ListBranches session) reply work a u s z name n =
-    let is = same_name_of session name n in
-    same_kept old new (ListBranches session) reply work a u s z name n
-    (staying old new (ListBranches session) reply work a u s z name n (λ held found.
-    still-there (user_of old) name (command_result (user_of old) (ListBranches session) a.mark)
-    (ap is_some (named-held old name held found))
+outcome old new (ListBranches session_name) reply work a u s z name n =
+    let is = same_name_of session_name name n in
+    same_kept old new (ListBranches session_name) reply work a u s z name n
+    (staying old new (ListBranches session_name) reply work a u s z name n (λ session found.
+    still-there (user_of old) name (command_result (user_of old) (ListBranches session_name) a.mark)
+    (ap is_some (named-held old name session found))
     (subst (λ m. Stays name (command_result (user_of old) (ListBranches m) a.mark)) (sym is)
-    (list_stays (user_of old) name a.mark (ap is_some (named-held old name held found))))))
+    (list_stays (user_of old) name a.mark (ap is_some (named-held old name session found))))))
     (λ after there. s name after n there)
 outcome old new ListSessions reply work a u s z name n = absurd (none_named name n)
 outcome old new Bye reply work a u s z name n = absurd (none_named name n)

@@ -2,17 +2,20 @@
 use Rattle.std.proofs.Common.{◌≡◌, ℕ, zero, suc, ◌+◌, ◌<◌, ◌≤◌, ◌≢◌, ◌⊎◌, true, false, nat_eq, List, [], ◌∷◌, ◌++◌, length, take, get_or, Some, inl, inr}
 use Rattle.std.proofs.Common.{refl, sym, ap, ◌∙◌, subst, arith}
 use Rattle.std.specs.List.{All}
+use Rattle.std.specs.Prelude.{slice_set}
 use Rattle.std.proofs.lemmas.Bool.{cases_lt, true≢false}
 use Rattle.std.proofs.lemmas.Bool.Decides.{eqb_tells}
 use Rattle.std.proofs.Math.Seq.{get_or-append_seam}
-use Rattle.std.proofs.lemmas.List.{append-nil, append_assoc, length-take-le, take_more, get_or_default, get_or-take, get_or_append_left, take_all}
+use Rattle.std.proofs.lemmas.List.{append-nil, append_assoc, length-take-le, take_more, get_or_default, get_or-take, get_or_append_left, get_or-set_other, get_or-set_same, take_all}
 use Rattle.lj_base.specs.declared.names.Label.{Label}
-use Rattle.lj_tile.specs.Blank.{blank_task}
-use Rattle.lj_tile.specs.Task.{Task}
+use Rattle.lj_task.specs.Blank.{blank_task}
+use Rattle.lj_task.specs.Task.{Task}
+use Rattle.lj_session.specs.declared.tile_cursor.TileCursor.{TileCursor}
+use Rattle.lj_session.specs.Cursors.{owner_posted_to}
 use Rattle.lj_session.specs.Owner.{Owner, label_of, next_task_of, with_task_posted}
 use Rattle.lj_engine.specs.Coming.{GoesOn, posts_coming}
 use Rattle.lj_engine.specs.Gathering.{Gathers}
-use Rattle.lj_engine.specs.Posting.{AreNext, after_posts}
+use Rattle.lj_engine.specs.Posting.{AreEnds, AreNext, after_posts}
 use Rattle.lj_end.specs.Seen.{ArePosted, IsPosted, Seen}
 use Rattle.lj_engine.proofs.Gathered.{Posting, posting}
 use Rattle.lj_engine.proofs.Gathering.{next_label}
@@ -34,12 +37,23 @@ next_more owner tasks k work count before some j below = elim (cases_lt j k) [
       ∙ get_or-append_seam tasks work [] blank_task))
 ]
 
+-- and one end more
+pub ends_more : (owner : Owner) (cursor : TileCursor) (ends : List ℕ) (k to : ℕ) → k < length ends → AreEnds k ends cursor owner
+    → after_posts (k + 1) owner ≡ owner_posted_to cursor to owner → AreEnds (k + 1) (slice_set ends k to) cursor owner
+ends_more owner cursor ends k to inside before last j below = elim (cases_lt j k) [
+  | inl less ↦ before j less ∙ ap (λ n. owner_posted_to cursor n owner)
+      (sym (get_or-set_other ends k j to 0 (λ same. omega (arith, less, same))))
+  | inr above ↦ let is : j ≡ k = omega (arith, above, below) in
+      ap (λ n. after_posts (n + 1) owner) is ∙ last ∙ ap (λ n. owner_posted_to cursor n owner)
+      (sym (ap (λ n. get_or (slice_set ends k to) n 0) is ∙ get_or-set_same ends k to 0 inside))
+]
+
 -- a next task is one of its owner's user
 pub task_user : (owner : Owner) (owed : List Task) (t : Gathers owner owed) (work : Task) → next_task_of owner ≡ Some work
     → work.name.label.user ≡ owner.number
 task_user owner owed t work some =
     let p : Posting owner owed t work = posting owner owed t work some in
-    ap (λ (l : Label). l.user) (next_label p.held (label_of owner p.name) p.step p.is_open (t.gathered p.name p.held p.there)
+    ap (λ (l : Label). l.user) (next_label p.session (label_of owner p.name) p.step p.is_open (t.gathered p.name p.session p.there)
     p.place p.next_place work p.task)
 
 -- so many tasks posted: what was seen then

@@ -7,21 +7,21 @@ use Rattle.std.specs.Str.{bytes_eq}
 use Rattle.std.proofs.lemmas.Bool.{ltb-true, ltb-false}
 use Rattle.std.proofs.lemmas.List.Sums.{sum_by-cons}
 use Rattle.std.proofs.lemmas.Option.{none-some, same_Some}
-use Rattle.lj_tile.specs.Task.{Task}
-use Rattle.lj_session.specs.UserState.{LiveSession, UserState, IsAtWork, live_session, pending_in, names, with_step_restarted, with_steps_restarted}
+use Rattle.lj_task.specs.Task.{Task}
+use Rattle.lj_session.specs.UserState.{LiveSession, UserState, IsAtWork, live_session, pending_in, loaded_names, with_step_restarted, with_steps_restarted}
 use Rattle.lj_session.specs.Owner.{Owner, owner_of_state, label_of}
 use Rattle.lj_session.proofs.AtWork.{at_work-rested, kind-none}
 use Rattle.lj_session.proofs.Entries.{by_test, named-seen}
 use Rattle.lj_session.proofs.Holding.{pending-of}
-use Rattle.lj_engine.specs.Gathering.{IsGathered, is_of, tasks_posted_of, Gathers, NonePending}
+use Rattle.lj_engine.specs.Gathering.{IsGathered, is_of_session, tasks_posted_of, Gathers, NonePending}
 use Rattle.lj_engine.specs.Counting.{pending_tiles, tiles_pending}
-use Rattle.lj_engine.specs.Coming.{tiles_of_session, tiles_to_come}
+use Rattle.lj_engine.specs.Coming.{tiles_of_session, state_tiles_coming}
 use Rattle.lj_engine.proofs.Sessions.{same_name, sum-below}
 use Rattle.lj_engine.proofs.Gathered.{Opened, owed_wanted, taken_open}
 use Rattle.lj_engine.proofs.Tiles.{rest-tiles, rest-pending, rest-more, rest-gathered, rest-posted, closed-part, closed-posted}
 
 -- sums over the sessions of a state begun anew
-rested-sum : (f g : LiveSession → ℕ) → ((held : LiveSession) → f (with_step_restarted held) ≡ g held) → (es : List (List ℕ × LiveSession))
+rested-sum : (f g : LiveSession → ℕ) → ((session : LiveSession) → f (with_step_restarted session) ≡ g session) → (es : List (List ℕ × LiveSession))
     → sum_by (λ (e : List ℕ × LiveSession). f e.1) (map (λ (e : List ℕ × LiveSession). (e.0, with_step_restarted e.1)) es)
     ≡ sum_by (λ (e : List ℕ × LiveSession). g e.1) es
 rested-sum f g same [] = refl
@@ -32,7 +32,7 @@ rested-sum f g same (e ∷ es) =
     let tail = rested-sum f g same es in
     omega (arith, new, old, head, tail)
 
-pub rested-tiles : (state : UserState) → tiles_to_come (with_steps_restarted state) ≡ tiles_pending state
+pub rested-tiles : (state : UserState) → state_tiles_coming (with_steps_restarted state) ≡ tiles_pending state
 rested-tiles state = rested-sum tiles_of_session pending_tiles rest-tiles state.sessions
 
 rested-pending_tiles : (state : UserState) → tiles_pending (with_steps_restarted state) ≡ tiles_pending state
@@ -42,19 +42,19 @@ rested-there : (state : UserState) (name : List ℕ) → live_session (with_step
 rested-there state name = named-seen with_step_restarted name state.sessions
 
 -- as many steps are pending in each session
-rest-count : (held : LiveSession) → (with_step_restarted held).pending ≡ held.pending
-rest-count held = by_test (nat_lt 0 held.pending) (λ t. rw t refl) (λ t. rw t refl)
+rest-count : (session : LiveSession) → (with_step_restarted session).pending ≡ session.pending
+rest-count session = by_test (nat_lt 0 session.pending) (λ t. rw t refl) (λ t. rw t refl)
 
 pub rested-pending : (state : UserState) (name : List ℕ) → pending_in (with_steps_restarted state) name ≡ pending_in state name
 rested-pending state name = ap (λ o. option_map_or (λ (h : LiveSession). h.pending) o 0) (rested-there state name) ∙ by (live_session state name)
   where
     by : (o : Option LiveSession) → option_map_or (λ (h : LiveSession). h.pending) (option_map with_step_restarted o) 0 ≡ option_map_or (λ (h : LiveSession). h.pending) o 0
     by None = refl
-    by (Some held) = rest-count held
+    by (Some session) = rest-count session
 
 -- no more is to come of a state than of the same begun anew
 pub rested-few : (owner : Owner) (owed : List Task) → Gathers owner owed → owner.waiting ≡ None
-    → tiles_to_come owner.state ≤ tiles_pending (with_steps_restarted owner.state)
+    → state_tiles_coming owner.state ≤ tiles_pending (with_steps_restarted owner.state)
 rested-few owner owed t idle =
     let below = sum-below tiles_of_session owner.state.sessions (with_steps_restarted owner.state).sessions t.distinct more in
     let all = rested-tiles owner.state in
@@ -64,30 +64,30 @@ rested-few owner owed t idle =
     work : IsAtWork None owner.state
     work = subst (λ w. IsAtWork w owner.state) idle t.at_work
 
-    more : (name : List ℕ) (held : LiveSession) → live_session owner.state name ≡ Some held
-        → tiles_of_session held ≤ option_map_or tiles_of_session (live_session (with_steps_restarted owner.state) name) 0
-    more name held found =
+    more : (name : List ℕ) (session : LiveSession) → live_session owner.state name ≡ Some session
+        → tiles_of_session session ≤ option_map_or tiles_of_session (live_session (with_steps_restarted owner.state) name) 0
+    more name session found =
         let there = ap (λ o. option_map_or tiles_of_session o 0) (rested-there owner.state name ∙ ap (option_map with_step_restarted) found) in
-        let is = rest-tiles held in
-        let few = rest-more held (t.gathered name held found) (work name held found) in
+        let is = rest-tiles session in
+        let few = rest-more session (t.gathered name session found) (work name session found) in
         omega (arith, there, is, few)
 
 -- an owner that has just been given a state is owed nothing
-pub gathers-entered : (state : UserState) (number : ℕ) → IsDistinct bytes_eq (names (with_steps_restarted state)) → Gathers (owner_of_state state number) []
+pub gathers-entered : (state : UserState) (number : ℕ) → IsDistinct bytes_eq (loaded_names (with_steps_restarted state)) → Gathers (owner_of_state state number) []
 gathers-entered state number distinct = record {
   at_work = at_work-rested state;
   waits = tt;
   distinct = distinct;
-  gathered = λ name held found. by name held found (live_session state name) refl;
+  gathered = λ name session found. by name session found (live_session state name) refl;
   each = λ name. sym (posted name (live_session state name) refl);
 }
   where
-    by : (name : List ℕ) (held : LiveSession) → live_session (with_steps_restarted state) name ≡ Some held → (o : Option LiveSession) → live_session state name ≡ o
-        → IsGathered held
-    by name held found None e = absurd (none-some held (sym (rested-there state name ∙ ap (option_map with_step_restarted) e) ∙ found))
-    by name held found (Some was) e =
+    by : (name : List ℕ) (session : LiveSession) → live_session (with_steps_restarted state) name ≡ Some session → (o : Option LiveSession) → live_session state name ≡ o
+        → IsGathered session
+    by name session found None e = absurd (none-some session (sym (rested-there state name ∙ ap (option_map with_step_restarted) e) ∙ found))
+    by name session found (Some was) e =
         subst IsGathered
-        (same_Some (with_step_restarted was) held (sym (rested-there state name ∙ ap (option_map with_step_restarted) e) ∙ found)) (rest-gathered was)
+        (same_Some (with_step_restarted was) session (sym (rested-there state name ∙ ap (option_map with_step_restarted) e) ∙ found)) (rest-gathered was)
 
     posted : (name : List ℕ) (o : Option LiveSession) → live_session state name ≡ o
         → tasks_posted_of (label_of (owner_of_state state number) name) (live_session (with_steps_restarted state) name) ≡ []
@@ -104,17 +104,17 @@ module _ (owner : Owner) (owed : List Task) (t : Gathers owner owed) (idle : own
   none_posted : (name : List ℕ) → pending_in owner.state name ≡ 0 → (o : Option LiveSession) → live_session owner.state name ≡ o
       → tasks_posted_of (label_of owner name) (live_session owner.state name) ≡ []
   none_posted name none None e = ap (tasks_posted_of (label_of owner name)) e
-  none_posted name none (Some held) e =
+  none_posted name none (Some session) e =
       ap (tasks_posted_of (label_of owner name)) e
-      ∙ closed-posted held (label_of owner name) (closed-part held.live.part
-      (work name held e ∙ kind-none None name held (pending-of owner.state name held e none) refl))
+      ∙ closed-posted session (label_of owner name) (closed-part session.live.part
+      (work name session e ∙ kind-none None name session (pending-of owner.state name session e none) refl))
 
   -- the session of a task has a pending step
   not_none : (w : Task) (ws : List Task) → owed ≡ w ∷ ws → pending_in owner.state w.name.label.session ≡ 0 → ⊥
   not_none w ws e none =
       let name = w.name.label.session in
-      let empty : filter (is_of name) (w ∷ ws) ≡ [] =
-      ap (filter (is_of name)) (sym e) ∙ t.each name ∙ none_posted name none (live_session owner.state name) refl in
+      let empty : filter (is_of_session name) (w ∷ ws) ≡ [] =
+      ap (filter (is_of_session name)) (sym e) ∙ t.each name ∙ none_posted name none (live_session owner.state name) refl in
       let here = same_name name in
       absurd (let k = rw here at empty in cc)
 
@@ -140,5 +140,5 @@ module _ (owner : Owner) (owed : List Task) (t : Gathers owner owed) (idle : own
       opened = taken_open owner owed t task (owed_wanted owner owed t task there)
 
       closed : pending_in owner.state name ≡ 0 → ⊥
-      closed none = none-some opened.step (sym (closed-part opened.held.live.part (work name opened.held opened.there
-          ∙ kind-none None name opened.held (pending-of owner.state name opened.held opened.there none) refl)) ∙ opened.is_open)
+      closed none = none-some opened.step (sym (closed-part opened.session.live.part (work name opened.session opened.there
+          ∙ kind-none None name opened.session (pending-of owner.state name opened.session opened.there none) refl)) ∙ opened.is_open)

@@ -24,7 +24,7 @@ use Rattle.lj_session.specs.Users.{Session, User, branches_used}
 use Rattle.lj_session.specs.declared.refusal.Refusal.TheVariants.{BranchExists, QuotaBranches, StepRange, Memory}
 use Rattle.lj_session.specs.Loads.{admission, body_or_refusal, session_read, refusal_unless}
 use Rattle.lj_session.specs.Answers.{session_of, simulation_saved, atom_or_refusal, can_advance, command_result, reply_and_user, answer}
-use Rattle.lj_session.specs.UserState.{LiveSession, UserState, as_entry, user_of, live_session, pending_in, names, with_session_changed}
+use Rattle.lj_session.specs.UserState.{LiveSession, UserState, as_entry, user_of, live_session, pending_in, loaded_names, with_session_changed}
 use Rattle.lj_session.proofs.Entries.{by_test, named-put_any, named-taken_other, put-new, sum-put, sum-taken}
 use Rattle.lj_session.proofs.Holding.{changed-some, changed-none}
 use Rattle.lj_session.proofs.Others.{others-changed}
@@ -35,15 +35,15 @@ pub same_name : (name : List ℕ) → bytes_eq name name ≡ true
 same_name name = (bytes_eq-Decides name name).1 refl
 
 module _ (state : UserState) (name : List ℕ) (change : LiveSession → LiveSession) where
-  pub there-changed : (held : LiveSession) → live_session state name ≡ Some held → live_session (with_session_changed name change state) name ≡ Some (change held)
-  there-changed held e =
-      ap (λ (o : UserState). live_session o name) (changed-some state name change held e) ∙ named-put_any name state.sessions (change held)
+  pub there-changed : (session : LiveSession) → live_session state name ≡ Some session → live_session (with_session_changed name change state) name ≡ Some (change session)
+  there-changed session e =
+      ap (λ (o : UserState). live_session o name) (changed-some state name change session e) ∙ named-put_any name state.sessions (change session)
 
   pub other-changed : (other : List ℕ) → (name ≡ other → ⊥) → live_session (with_session_changed name change state) other ≡ live_session state other
   other-changed other apart = others-changed state name change other (λ same. apart (same_Some name other same))
 
   -- the pending steps before and after are related, where each change relates them
-  pending-related : (R : ℕ → ℕ → Type 0) → ((n : ℕ) → R n n) → ((held : LiveSession) → R (change held).pending held.pending) → (other : List ℕ)
+  pending-related : (R : ℕ → ℕ → Type 0) → ((n : ℕ) → R n n) → ((session : LiveSession) → R (change session).pending session.pending) → (other : List ℕ)
       → R (pending_in (with_session_changed name change state) other) (pending_in state other)
   pending-related R same each other = by_test (bytes_eq name other)
       (λ t. subst (λ n. R (pending_in (with_session_changed name change state) n) (pending_in state n)) ((bytes_eq-Decides name other).0 t) here)
@@ -60,24 +60,24 @@ module _ (state : UserState) (name : List ℕ) (change : LiveSession → LiveSes
           by : (o : Option LiveSession) → live_session state name ≡ o → R (pending_in (with_session_changed name change state) name) (pending_in state name)
           by None e = subst (λ (o : UserState). R (pending_in o name) (pending_in state name)) (sym (changed-none state name change e))
               (same (pending_in state name))
-          by (Some held) e =
-              subst (λ n. R n (pending_in state name)) (sym (ap pending_of (there-changed held e)))
-              (subst (R (change held).pending) (sym (ap pending_of e)) (each held))
+          by (Some session) e =
+              subst (λ n. R n (pending_in state name)) (sym (ap pending_of (there-changed session e)))
+              (subst (R (change session).pending) (sym (ap pending_of e)) (each session))
 
   -- the number of pending steps stays, where the change leaves it, and falls, where the change lowers it
-  pub pending-changed : ((held : LiveSession) → (change held).pending ≡ held.pending) → (other : List ℕ)
+  pub pending-changed : ((session : LiveSession) → (change session).pending ≡ session.pending) → (other : List ℕ)
       → pending_in (with_session_changed name change state) other ≡ pending_in state other
   pending-changed = pending-related (λ n m. n ≡ m) (λ n. refl)
 
-  pub pending-lowered : ((held : LiveSession) → (change held).pending ≤ held.pending) → (other : List ℕ)
+  pub pending-lowered : ((session : LiveSession) → (change session).pending ≤ session.pending) → (other : List ℕ)
       → pending_in (with_session_changed name change state) other ≤ pending_in state other
   pending-lowered = pending-related (λ n m. n ≤ m) (λ n. omega arith)
 
-  pub sum-changed : (f : LiveSession → ℕ) (held : LiveSession) → live_session state name ≡ Some held
-      → sum_over f (with_session_changed name change state) + f held ≡ sum_over f state + f (change held)
-  sum-changed f held e =
-      ap (λ (o : UserState). sum_over f o + f held) (changed-some state name change held e)
-      ∙ sum-put name f state.sessions held (change held) e
+  pub sum-changed : (f : LiveSession → ℕ) (session : LiveSession) → live_session state name ≡ Some session
+      → sum_over f (with_session_changed name change state) + f session ≡ sum_over f state + f (change session)
+  sum-changed f session e =
+      ap (λ (o : UserState). sum_over f o + f session) (changed-some state name change session e)
+      ∙ sum-put name f state.sessions session (change session) e
 
 -- what is found under no name does not pass a test, where none of the names does
 pub find-none-named : (test : List ℕ → Bool) (es : List (List ℕ × LiveSession)) (name : List ℕ) (v : LiveSession)
@@ -98,7 +98,7 @@ absent-named name (e ∷ es) all = rw all.0 (absent-named name es all.1)
 -- A sum over sessions of distinct names is at most another, where each of their numbers is at most that of the session of its
 -- name there.
 pub sum-below : (f : LiveSession → ℕ) (a b : List (List ℕ × LiveSession)) → IsDistinct bytes_eq (map (λ (e : List ℕ × LiveSession). e.0) a)
-    → ((name : List ℕ) (held : LiveSession) → value_named name a ≡ Some held → f held ≤ option_map_or f (value_named name b) 0)
+    → ((name : List ℕ) (session : LiveSession) → value_named name a ≡ Some session → f session ≤ option_map_or f (value_named name b) 0)
     → sum_by (λ (e : List ℕ × LiveSession). f e.1) a ≤ sum_by (λ (e : List ℕ × LiveSession). f e.1) b
 sum-below f [] b distinct below = omega arith
 sum-below f (e ∷ es) b distinct below = by (value_named e.0 b) refl (sum-below f es)
@@ -112,12 +112,12 @@ sum-below f (e ∷ es) b distinct below = by (value_named e.0 b) refl (sum-below
     head : f e.1 ≤ option_map_or f (value_named e.0 b) 0
     head = below e.0 e.1 (let same = same_name e.0 in rw same refl)
 
-    apart : (name : List ℕ) (held : LiveSession) → value_named name es ≡ Some held → e.0 ≡ name → ⊥
-    apart name held h same = none-some held (sym none ∙ ap (λ n. value_named n es) same ∙ h)
+    apart : (name : List ℕ) (session : LiveSession) → value_named name es ≡ Some session → e.0 ≡ name → ⊥
+    apart name session h same = none-some session (sym none ∙ ap (λ n. value_named n es) same ∙ h)
 
-    later : (name : List ℕ) (held : LiveSession) → value_named name es ≡ Some held → value_named name (e ∷ es) ≡ Some held
-    later name held h = by_test (bytes_eq name e.0)
-        (λ t. absurd (apart name held h (sym ((bytes_eq-Decides name e.0).0 t))))
+    later : (name : List ℕ) (session : LiveSession) → value_named name es ≡ Some session → value_named name (e ∷ es) ≡ Some session
+    later name session h = by_test (bytes_eq name e.0)
+        (λ t. absurd (apart name session h (sym ((bytes_eq-Decides name e.0).0 t))))
         (λ t. rw t h)
 
     sum : sum_by (λ (e : List ℕ × LiveSession). f e.1) (e ∷ es) ≡ f e.1 + sum_by (λ (e : List ℕ × LiveSession). f e.1) es
@@ -125,21 +125,21 @@ sum-below f (e ∷ es) b distinct below = by (value_named e.0 b) refl (sum-below
 
     Rest : Type 0
     Rest = (b : List (List ℕ × LiveSession)) → IsDistinct bytes_eq (map (λ (e : List ℕ × LiveSession). e.0) es)
-        → ((name : List ℕ) (held : LiveSession) → value_named name es ≡ Some held → f held ≤ option_map_or f (value_named name b) 0)
+        → ((name : List ℕ) (session : LiveSession) → value_named name es ≡ Some session → f session ≤ option_map_or f (value_named name b) 0)
         → sum_by (λ (e : List ℕ × LiveSession). f e.1) es ≤ sum_by (λ (e : List ℕ × LiveSession). f e.1) b
 
     by : (o : Option LiveSession) → value_named e.0 b ≡ o → Rest
         → sum_by (λ (e : List ℕ × LiveSession). f e.1) (e ∷ es) ≤ sum_by (λ (e : List ℕ × LiveSession). f e.1) b
     by None is rest-below =
         let first : f e.1 ≤ 0 = subst (λ o. f e.1 ≤ option_map_or f o 0) is head in
-        let rest = rest-below b others (λ name held h. below name held (later name held h)) in
+        let rest = rest-below b others (λ name session h. below name session (later name session h)) in
         omega (arith, sum, first, rest)
-    by (Some held) is rest-below =
-        let first : f e.1 ≤ f held = subst (λ o. f e.1 ≤ option_map_or f o 0) is head in
+    by (Some session) is rest-below =
+        let first : f e.1 ≤ f session = subst (λ o. f e.1 ≤ option_map_or f o 0) is head in
         let rest = rest-below (without_value e.0 b) others (λ name h there.
         subst (λ o. f h ≤ option_map_or f o 0) (sym (named-taken_other e.0 name (apart name h there) b))
         (below name h (later name h there))) in
-        let out = sum-taken e.0 f b held is in
+        let out = sum-taken e.0 f b session is in
         omega (arith, sum, first, rest, out)
 
 -- the names of a user's sessions
@@ -243,7 +243,7 @@ performed_keeps user Bye mark d = record { distinct = d }
 -- so an answer does
 pub distinct-answered : (old new : UserState) (command : Command) (mark : Bool) (reply : Reply)
     → (reply, user_of new) ≡ answer (user_of old) command mark
-    → IsDistinct bytes_eq (names old) → IsDistinct bytes_eq (names new)
+    → IsDistinct bytes_eq (loaded_names old) → IsDistinct bytes_eq (loaded_names new)
 distinct-answered old new command mark reply is distinct =
     let user = user_of old in
     let before = subst (IsDistinct bytes_eq) (sym (names-meant old.sessions)) distinct in

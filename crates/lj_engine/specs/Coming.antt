@@ -14,16 +14,16 @@ use Rattle.lj_engine.specs.Counting.{steps_tiles, command_tiles, item_tiles, sum
 
 -- the number of tiles of the pending steps of a session after the open one
 abbrev pub tiles_after : LiveSession → ℕ
-tiles_after held =
-    steps_tiles held.live.composition (held.pending - 1) (next_simulation held.live.composition held.live.sim)
+tiles_after session =
+    steps_tiles session.live.composition (session.pending - 1) (next_simulation session.live.composition session.live.sim)
 
 -- the number of tiles of a session whose results are still to come
 abbrev pub tiles_of_session : LiveSession → ℕ
-tiles_of_session held = tiles_left_in held.live.part + tiles_after held
+tiles_of_session session = tiles_left_in session.live.part + tiles_after session
 
 -- the number of tiles of a session after the last one that was posted
 abbrev pub posts_of_session : LiveSession → ℕ
-posts_of_session held = (tiles_of held.live - held.passed) + tiles_after held
+posts_of_session session = (tiles_of session.live - session.passed) + tiles_after session
 
 -- the tiles of the pending command's own steps, while it waits for steps pending before it
 abbrev pub waiting_tiles_of : Owner → Option Command → ℕ
@@ -37,15 +37,15 @@ waiting_tiles owner = waiting_tiles_of owner owner.waiting
 -- the number of turns to come
 abbrev pub turns_coming : Owner → ℕ
 turns_coming owner =
-    sum_over (λ held. held.pending) owner.state + option_map_or (turns (user_in owner)) owner.waiting 0
+    sum_over (λ session. session.pending) owner.state + option_map_or (turns (user_in owner)) owner.waiting 0
 
 -- the number of tiles to come of the pending steps
-abbrev pub tiles_to_come : UserState → ℕ
-tiles_to_come state = sum_over tiles_of_session state
+abbrev pub state_tiles_coming : UserState → ℕ
+state_tiles_coming state = sum_over tiles_of_session state
 
 -- the number of tiles to come of the pending steps and of the pending command
 abbrev pub tiles_coming : Owner → ℕ
-tiles_coming owner = tiles_to_come owner.state + waiting_tiles owner
+tiles_coming owner = state_tiles_coming owner.state + waiting_tiles owner
 
 -- the number of tiles to be posted, or to be skipped because their results come before
 abbrev pub posts_coming : Owner → ℕ
@@ -53,7 +53,7 @@ posts_coming owner = sum_over posts_of_session owner.state + waiting_tiles owner
 
 -- the number of tiles to come of the pending steps and of an item
 abbrev pub tiles_with_item : Owner → Item → ℕ
-tiles_with_item owner item = tiles_to_come owner.state + item_tiles (user_in owner) item
+tiles_with_item owner item = state_tiles_coming owner.state + item_tiles (user_in owner) item
 
 -- No session has more pending steps than before, except the one that the pending command waits for.
 abbrev pub HasNoMorePending : Owner → UserState → Type 0

@@ -2,7 +2,7 @@
 use Rattle.std.specs.Prelude.{ℕ, zero, suc, ◌+◌, ◌<◌, ◌≤◌, Bool, List, [], ◌∷◌, length, Option, Some, None}
 use Rattle.std.specs.Prelude.{if◌then◌else◌}
 use Rattle.std.specs.List.{sum_by}
-use Rattle.lj_tile.specs.Species.{Composition}
+use Rattle.lj_task.specs.Species.{Composition}
 use Rattle.lj_step.specs.Motion.{Simulation, next_simulation}
 use Rattle.lj_step.specs.OpenSteps.{cover}
 use Rattle.lj_session.specs.declared.command.Command.{Command}
@@ -56,7 +56,7 @@ tiles user (item ∷ items) marks =
 
 -- the number of tiles of the pending steps of a session
 abbrev pub pending_tiles : LiveSession → ℕ
-pending_tiles held = steps_tiles held.live.composition held.pending held.live.sim
+pending_tiles session = steps_tiles session.live.composition session.pending session.live.sim
 
 -- the sum of a number over the sessions of a state
 abbrev pub sum_over : (LiveSession → ℕ) → UserState → ℕ

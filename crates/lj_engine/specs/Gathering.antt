@@ -4,13 +4,13 @@ use Rattle.std.specs.Prelude.{Option, Some, None, IfSome, IsSome, IsSomeAnd}
 use Rattle.std.specs.List.{filter, IsDistinct}
 use Rattle.std.specs.Str.{bytes_eq}
 use Rattle.lj_base.specs.declared.names.Label.{Label}
-use Rattle.lj_tile.specs.Task.{Task}
+use Rattle.lj_task.specs.Task.{Task}
 use Rattle.lj_step.specs.Sim.{Sim, OpenStep}
-use Rattle.lj_step.specs.OpenSteps.{cover, task_of, tiles_left}
-use Rattle.lj_end.specs.Accounts.{times}
+use Rattle.lj_step.specs.OpenSteps.{cover, tile_task, tiles_left}
+use Rattle.lj_end.specs.Accounts.{occurrences}
 use Rattle.lj_session.specs.declared.command.Command.{Command}
 use Rattle.lj_session.specs.Turns.{waits_for}
-use Rattle.lj_session.specs.UserState.{LiveSession, UserState, IsAtWork, live_session, pending_in, names}
+use Rattle.lj_session.specs.UserState.{LiveSession, UserState, IsAtWork, live_session, pending_in, loaded_names}
 use Rattle.lj_session.specs.Owner.{Owner, label_of}
 
 -- the tile of this number is awaited
@@ -25,12 +25,12 @@ posted_tiles flags passed tiles = filter (is_awaited flags) (take passed tiles)
 abbrev pub tasks_posted_in : Label → Sim → ℕ → Option OpenStep → List Task
 tasks_posted_in label live passed None = []
 tasks_posted_in label live passed (Some step) =
-    map (task_of live label step.kind) (posted_tiles step.awaited passed (cover live.composition live.sim.cur))
+    map (tile_task live label step.kind) (posted_tiles step.awaited passed (cover live.composition live.sim.cur))
 
 -- the tasks of a session that are posted and whose results are not in
 abbrev pub tasks_posted_of : Label → Option LiveSession → List Task
 tasks_posted_of label None = []
-tasks_posted_of label (Some held) = tasks_posted_in label held.live held.passed held.live.part
+tasks_posted_of label (Some session) = tasks_posted_in label session.live session.passed session.live.part
 
 -- the number of tiles that an open step awaits
 abbrev pub tiles_left_in : Option OpenStep → ℕ
@@ -38,30 +38,30 @@ tiles_left_in None = 0
 tiles_left_in (Some step) = tiles_left step
 
 -- Each tile that the open step of a session awaits is in its cover once, and it awaits no more tiles than the cover has.
-pub record IsGathered (held : LiveSession) : Type 0 where
-  pub once : (step : OpenStep) (k : ℕ) → held.live.part ≡ Some step → is_awaited step.awaited k ≡ true
-      → times k (cover held.live.composition held.live.sim.cur) ≡ 1
-  pub few : tiles_left_in held.live.part ≤ length (cover held.live.composition held.live.sim.cur)
+pub record IsGathered (session : LiveSession) : Type 0 where
+  pub once : (step : OpenStep) (k : ℕ) → session.live.part ≡ Some step → is_awaited step.awaited k ≡ true
+      → occurrences k (cover session.live.composition session.live.sim.cur) ≡ 1
+  pub few : tiles_left_in session.live.part ≤ length (cover session.live.composition session.live.sim.cur)
 
 -- the task is one of this session
-abbrev pub is_of : List ℕ → Task → Bool
-is_of name work = bytes_eq name work.name.label.session
+abbrev pub is_of_session : List ℕ → Task → Bool
+is_of_session name work = bytes_eq name work.name.label.session
 
 -- a step is open in the session that the pending command waits for
 abbrev pub IsOpenFor : UserState → Command → Type 0
 IsOpenFor state command = IsSomeAnd (waits_for command)
-    (λ name. IsSomeAnd (live_session state name) (λ held. IsSome held.live.part))
+    (λ name. IsSomeAnd (live_session state name) (λ session. IsSome session.live.part))
 
 -- The tasks owed are, for each session, those of its open step that are posted and whose results are not in, and no others. A
 -- step is open in each session with pending steps, and in the one that a command waits for.
 pub record Gathers (owner : Owner) (owed : List Task) : Type 0 where
   pub at_work : IsAtWork owner.waiting owner.state
   pub waits : IfSome owner.waiting (IsOpenFor owner.state)
-  pub distinct : IsDistinct bytes_eq (names owner.state)
-  pub gathered : (name : List ℕ) (held : LiveSession) → live_session owner.state name ≡ Some held
-      → IsGathered held
+  pub distinct : IsDistinct bytes_eq (loaded_names owner.state)
+  pub gathered : (name : List ℕ) (session : LiveSession) → live_session owner.state name ≡ Some session
+      → IsGathered session
   pub each : (name : List ℕ)
-      → filter (is_of name) owed ≡ tasks_posted_of (label_of owner name) (live_session owner.state name)
+      → filter (is_of_session name) owed ≡ tasks_posted_of (label_of owner name) (live_session owner.state name)
 
 -- no step is pending in any session
 abbrev pub NonePending : UserState → Type 0

@@ -6,5 +6,6 @@ pub mod Running
 pub mod Endings
 pub mod Serving
 pub mod Served
+pub mod Waiting
 pub mod Writing
 pub mod Posting

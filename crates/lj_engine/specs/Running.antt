@@ -3,14 +3,14 @@ use Rattle.std.specs.Prelude.{◌≡◌, ◌-◌, ◌<◌, ℕ, None, true}
 use Rattle.lj_session.specs.declared.reply.Reply.{Reply}
 use Rattle.lj_session.specs.Owner.{Owner, IsReplied, IsSettled, user_in}
 use Rattle.lj_wire.specs.declared.item.Item.{Item}
-use Rattle.lj_wire.specs.Runs.{item_before}
+use Rattle.lj_wire.specs.PendingItems.{item_before}
 use Rattle.lj_end.specs.declared.pool.TheConstants.{MAX_STRAYS}
 use Rattle.lj_engine.specs.declared.running.Halt.{Halt}
 use Rattle.lj_engine.specs.declared.running.Halt.TheVariants.{PoolClosed, TooManyStrays}
 use Rattle.lj_end.specs.Seen.{Seen}
 use Rattle.lj_engine.specs.Gathering.{Gathers}
 use Rattle.lj_engine.specs.Counting.{CountsRise, FallsShort, HandedWithin, StraysRise}
-use Rattle.lj_engine.specs.Coming.{HasNoMorePending, HasNonePendingWhereWaited, tiles_coming, tiles_to_come, tiles_with_item}
+use Rattle.lj_engine.specs.Coming.{HasNoMorePending, HasNonePendingWhereWaited, tiles_coming, state_tiles_coming, tiles_with_item}
 use Rattle.lj_engine.specs.PendingBounds.{HasPendingAfter}
 use Rattle.lj_engine.specs.Serving.{AnswersItem}
 
@@ -27,7 +27,7 @@ pub record IsSameUser (old new : Owner) : Type 0 where
   pub quota : new.state.quota ≡ old.state.quota
 
 -- Work has ended with this reply. Before it `number` tiles were to come.
-pub record Finishes (number : ℕ) (before : Seen) (reply : Reply) (new : Owner) (after : Seen) : Type 0 where
+pub record FinishesWork (number : ℕ) (before : Seen) (reply : Reply) (new : Owner) (after : Seen) : Type 0 where
   -- No step is pending in a session whose frame the reply prints.
   pub settled : IsSettled new.state reply
   -- No command is pending.
@@ -35,16 +35,16 @@ pub record Finishes (number : ℕ) (before : Seen) (reply : Reply) (new : Owner)
   -- The pool owes the tasks that are posted and whose results are not in, and no others.
   pub gathers : Gathers new after.owed
   -- At least as many results were counted as tiles are no more to come.
-  pub counted : CountsRise (number - tiles_to_come new.state) before after
+  pub counted : CountsRise (number - state_tiles_coming new.state) before after
   -- At most as many results that were owed were handed out.
-  pub handed : HandedWithin number (tiles_to_come new.state) before after
+  pub handed : HandedWithin number (state_tiles_coming new.state) before after
 
 -- The pending command is answered with this reply.
 pub record AnswersPending (old : Owner) (before : Seen) (reply : Reply) (new : Owner) (after : Seen) : Type 0 where
   -- The reply and the user are those that the command leaves, under some mark.
   pub replied : IsReplied old reply (user_in new)
   -- The work has ended, and what came was counted.
-  pub finished : Finishes (tiles_coming old) before reply new after
+  pub finished : FinishesWork (tiles_coming old) before reply new after
   -- No other session has more pending steps than before.
   pub no_more : HasNoMorePending old new.state
   -- No step is pending in the session that the command waited for.
@@ -55,7 +55,7 @@ pub record AnswersNext (old : Owner) (item : Item) (before : Seen) (reply : Repl
   -- The reply and the user are those that the item leaves, under some mark.
   pub answered : AnswersItem (user_in old) item reply (user_in new)
   -- The work has ended, and what came was counted.
-  pub finished : Finishes (tiles_with_item old item) before reply new after
+  pub finished : FinishesWork (tiles_with_item old item) before reply new after
   -- No session has more pending steps than its bound after the item.
   pub pending : HasPendingAfter old.state item new.state
 

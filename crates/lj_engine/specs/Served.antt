@@ -4,7 +4,7 @@ use Rattle.std.specs.Prelude.{None, IsSome, IsSomeAnd, ◌+◌, ◌-◌, ◌⊎�
 use Rattle.std.specs.List.{list_any, Contains}
 use Rattle.std.specs.Io.KnownBytes.{Consumes, Appends, IsAtEnd}
 use Rattle.lj_session.specs.declared.command.Command.TheVariants.{Bye as ByeCommand}
-use Rattle.lj_tile.specs.Task.{Task}
+use Rattle.lj_task.specs.Task.{Task}
 use Rattle.lj_branch.specs.Named.{value_named}
 use Rattle.lj_session.specs.Users.{User}
 use Rattle.lj_session.specs.Turns.{turns, waits_for}
@@ -13,7 +13,7 @@ use Rattle.lj_wire.specs.declared.item.Fault.{Fault}
 use Rattle.lj_wire.specs.declared.item.Item.{Item}
 use Rattle.lj_wire.specs.declared.item.Item.TheVariants.{Command, Bad, Last}
 use Rattle.lj_wire.specs.Items.{is_ending}
-use Rattle.lj_wire.specs.Texts.{is_memory}
+use Rattle.lj_wire.specs.ReplyTexts.{is_memory}
 use Rattle.lj_wire.specs.Told.{item_text}
 use Rattle.lj_wire.specs.Streams.{IsItem, Dialogue}
 use Rattle.lj_wire.specs.Progress.{Progress}
@@ -159,7 +159,7 @@ pub record HasCause (served : Served) (rest : Option (List ℕ)) (errors more_er
   pub strays : served ≡ TooManyStrays → StraysRise MAX_STRAYS old new
 
 -- The state that is handed back, with the pending steps of its sessions.
-pub record HandsBack (state : UserState) (seen : Seen) (back : UserState) : Type 0 where
+pub record ReturnsState (state : UserState) (seen : Seen) (back : UserState) : Type 0 where
   -- Where no step of it is pending, no task is owed.
   pub none_owed : NonePending back → seen.owed ≡ []
   -- It has the same quota.

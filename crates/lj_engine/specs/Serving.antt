@@ -9,11 +9,11 @@ use Rattle.lj_wire.specs.declared.item.Item.{Item}
 use Rattle.lj_wire.specs.declared.reader.phase.Phase.TheVariants.{Open}
 use Rattle.lj_wire.specs.LineReader.{LineReader}
 use Rattle.lj_wire.specs.Streams.{AreMarks}
-use Rattle.lj_wire.specs.Progress.{Takes}
+use Rattle.lj_wire.specs.Progress.{TakesItems}
 use Rattle.lj_wire.specs.Told.{item_reply, texts, last_user}
 use Rattle.lj_end.specs.Seen.{Seen}
 use Rattle.lj_engine.specs.Counting.{tiles, tiles_pending, CountsRise, HandedWithin}
-use Rattle.lj_engine.specs.Coming.{tiles_to_come}
+use Rattle.lj_engine.specs.Coming.{state_tiles_coming}
 use Rattle.lj_engine.specs.PendingBounds.{HasPendingAfterAll}
 
 -- an item gets this reply, which leaves the next user, under some mark
@@ -31,7 +31,7 @@ pub record Serving (start : UserState) (first now : LineReader) (was is : Option
   pub taken : Consumes first.left now.left read
   pub appends : Appends was is written
   -- The bytes read are those of the items, as many as the reader has handed out.
-  pub takes : Takes 0 read items []
+  pub takes : TakesItems 0 read items []
   pub items_are : length items ≡ now.items
   -- The bytes written are the replies to the items, under these marks, and the user is that after them.
   pub are_marks : AreMarks marks (texts (user_of start) items marks)
@@ -39,8 +39,8 @@ pub record Serving (start : UserState) (first now : LineReader) (was is : Option
   pub next_is : user_of state ≡ last_user (user_of start) items marks
   -- At least as many results were counted as tiles are no more to come, and at most as many that were owed were handed out.
   pub counted : CountsRise
-      (tiles (user_of start) items marks + tiles_pending start - tiles_to_come state) old new
-  pub handed : HandedWithin (tiles (user_of start) items marks + tiles_pending start) (tiles_to_come state) old new
+      (tiles (user_of start) items marks + tiles_pending start - state_tiles_coming state) old new
+  pub handed : HandedWithin (tiles (user_of start) items marks + tiles_pending start) (state_tiles_coming state) old new
   -- No session has more pending steps than its bound after the items.
   pub pending : HasPendingAfterAll start items marks state
   -- The reader goes on, and no read has failed.

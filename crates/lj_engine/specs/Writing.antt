@@ -18,6 +18,6 @@ pub record PutsPart (bytes : List ℕ) (was is : Option (List ℕ)) (faults more
   pub risen : Rises faults more_faults
 
 -- The text is written, or a write failed, as the result says.
-abbrev pub Puts : {A B : Type 0} → Result A B → List ℕ → Option (List ℕ) → Option (List ℕ) → Option ℕ → Option ℕ → Type 0
-Puts (Ok done) bytes was is faults more_faults = PutsAll bytes was is faults more_faults
-Puts (Err fault) bytes was is faults more_faults = PutsPart bytes was is faults more_faults
+abbrev pub PutsText : {A B : Type 0} → Result A B → List ℕ → Option (List ℕ) → Option (List ℕ) → Option ℕ → Option ℕ → Type 0
+PutsText (Ok done) bytes was is faults more_faults = PutsAll bytes was is faults more_faults
+PutsText (Err fault) bytes was is faults more_faults = PutsPart bytes was is faults more_faults

@@ -4,6 +4,7 @@
 mod running;
 mod served;
 mod serving;
+mod waiting;
 mod writing;
 
 pub use served::Served;

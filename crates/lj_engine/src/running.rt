@@ -1,6 +1,6 @@
 //! Runs the pending steps of sessions over a pool, while a command waits for them and before the next command is read.
 ghost use Rattle.std.specs.Prelude.{◌≡◌, ◌+◌, ◌<◌, ◌≤◌, length, ℕ, Bool, true, false, [], Some, None, Ok, IsSome, IfOk, IfErr, IfSome, OnErr};
-ghost use Rattle.lj_session.specs.Cursors.{IsPostedTo};
+ghost use Rattle.lj_session.specs.Cursors.{IsPostedTo, owner_posted_to};
 ghost use Rattle.lj_session.specs.Owner.{next_task_of, ready_session};
 ghost use Rattle.lj_session.specs.UserState.{next_task};
 ghost use Rattle.lj_engine.specs.declared.running.Halt.TheVariants.{TooManyStrays};
@@ -8,10 +8,10 @@ ghost use Rattle.lj_end.specs.Seen.{IsStray, SameOwed};
 ghost use Rattle.lj_engine.specs.Gathering.{Gathers};
 ghost use Rattle.lj_engine.specs.Counting.{FallsShort, StraysRise};
 ghost use Rattle.lj_engine.specs.Coming.{GoesOn, posts_coming, tiles_coming};
-ghost use Rattle.lj_engine.specs.Posting.{AreNext, after_posts};
+ghost use Rattle.lj_engine.specs.Posting.{AreEnds, AreNext, after_posts};
 ghost use Rattle.lj_engine.specs.Running.{AnswersNext, AnswersPending, FetchesStray, IsHalted, IsSameUser, LeavesUnanswered};
 
-use lj_end::{MAX_AHEAD, MAX_POSTS, MAX_STRAYS, NotPosted, Pool, TaskList};
+use lj_end::{MAX_AHEAD, MAX_POSTS, MAX_STRAYS, NotPosted, PoolEnd, TaskList};
 use lj_session::{Begin, Owner, Refusal, Reply, TileCursor};
 use lj_wire::Item;
 
@@ -23,7 +23,7 @@ pub(crate) enum Halt {
 }
 
 /// Answers an item: a command once the steps that it waits for are done. Afterwards the value of `item` is unspecified.
-pub(crate) fn answer<P: Pool>(
+pub(crate) fn answer<P: PoolEnd>(
     owner: &mut Owner,
     pool: &mut P,
     item: &mut Item,
@@ -49,7 +49,7 @@ pub(crate) fn answer<P: Pool>(
 }
 
 /// Runs the steps of all sessions until the waiting command is answered.
-fn run<P: Pool>(owner: &mut Owner, pool: &mut P) -> Result<Reply, Halt>
+fn run<P: PoolEnd>(owner: &mut Owner, pool: &mut P) -> Result<Reply, Halt>
     requires waits { IsSome owner.old.waiting }
     requires gathers { Gathers owner.old (P.seen pool.old).owed }
     ensures answered { IfOk result (λ reply.
@@ -81,7 +81,7 @@ fn run<P: Pool>(owner: &mut Owner, pool: &mut P) -> Result<Reply, Halt>
 /// Runs pending steps, if there may be some, before the next command is read: takes in the results that are there, turns whole
 /// steps, posts tasks while there is room, and fetches until few tasks are owed. The last poll wakes the workers for the posted
 /// tasks. Returns whether steps are still pending.
-pub(crate) fn work_ahead<P: Pool>(
+pub(crate) fn work_ahead<P: PoolEnd>(
     owner: &mut Owner,
     pool: &mut P,
     has_pending: bool,
@@ -106,7 +106,7 @@ pub(crate) fn work_ahead<P: Pool>(
 }
 
 /// Takes in the results that are there now. Returns whether one of them was of an awaited tile.
-fn poll_all<P: Pool>(owner: &mut Owner, pool: &mut P) -> bool
+fn poll_all<P: PoolEnd>(owner: &mut Owner, pool: &mut P) -> bool
     requires gathers { Gathers owner.old (P.seen pool.old).owed }
     ensures goes_on { GoesOn owner.old (P.seen pool.old) owner.new (P.seen pool.new) }
     ensures fewer { result ≡ true → tiles_coming owner.new < tiles_coming owner.old }
@@ -125,7 +125,7 @@ fn poll_all<P: Pool>(owner: &mut Owner, pool: &mut P) -> bool
 
 /// Turns sessions until none is whole. Between two turns it takes in a result and posts a task, so that a session whose steps
 /// have no tiles does not hold the others up.
-fn turn_whole<P: Pool>(owner: &mut Owner, pool: &mut P)
+fn turn_whole<P: PoolEnd>(owner: &mut Owner, pool: &mut P)
     requires idle { owner.old.waiting ≡ None }
     requires gathers { Gathers owner.old (P.seen pool.old).owed }
     ensures goes_on { GoesOn owner.old (P.seen pool.old) owner.new (P.seen pool.new) }
@@ -140,7 +140,7 @@ fn turn_whole<P: Pool>(owner: &mut Owner, pool: &mut P)
 }
 
 /// Posts tasks while there is room, several at once if the pool has room for several.
-fn post_all<P: Pool>(owner: &mut Owner, pool: &mut P)
+fn post_all<P: PoolEnd>(owner: &mut Owner, pool: &mut P)
     requires gathers { Gathers owner.old (P.seen pool.old).owed }
     ensures goes_on { GoesOn owner.old (P.seen pool.old) owner.new (P.seen pool.new) }
     ensures counted { P.uncounted pool.old ≡ false → P.uncounted pool.new ≡ false }
@@ -150,63 +150,75 @@ fn post_all<P: Pool>(owner: &mut Owner, pool: &mut P)
 }
 
 /// Posts the next tasks together, as many as there is room for. Returns false if there was none, or if not all were posted.
-fn post_some<P: Pool>(owner: &mut Owner, pool: &mut P) -> bool
+fn post_some<P: PoolEnd>(owner: &mut Owner, pool: &mut P) -> bool
     requires gathers { Gathers owner.old (P.seen pool.old).owed }
     ensures goes_on { GoesOn owner.old (P.seen pool.old) owner.new (P.seen pool.new) }
     ensures fewer { result ≡ true → posts_coming owner.new < posts_coming owner.old }
     ensures counted { P.uncounted pool.old ≡ false → P.uncounted pool.new ≡ false }
     ensures own { let user = owner.old.number in P.for_others pool.new user ≡ P.for_others pool.old user }
 {
-    let Some(cursor) = owner.first_tile() else {
+    let Some(cursor) = owner.next_tile() else {
         return false;
     };
+    let mut ends = [0; MAX_POSTS];
     let (count, posted) = {
         let mut tasks = TaskList::new();
-        add_next(owner, &cursor, pool.room().min(MAX_POSTS), &mut tasks);
+        let most = pool.room().min(MAX_POSTS);
+        add_next(owner, &cursor, most, &mut tasks, &mut ends);
         let count = tasks.len();
         if count == 0 {
             return false;
         }
         (count, pool.post_some(&tasks))
     };
-    note_posted(owner, posted);
+    note_posted(owner, &cursor, &ends, posted);
     posted == count
 }
 
 /// Adds the next tasks of the cursor's session, from the cursor at the first of them on, to a list without tasks: `most` of them,
-/// or all if there are fewer. It posts none.
-fn add_next<'a>(owner: &'a Owner, cursor: &'a TileCursor, most: usize, tasks: &mut TaskList<'a>)
-    requires first { IsPostedTo cursor.now cursor.now.from owner.now owner.now }
+/// or all if there are fewer. It posts none, and writes down the position behind each.
+fn add_next<'a>(
+    owner: &'a Owner,
+    cursor: &'a TileCursor,
+    most: usize,
+    tasks: &mut TaskList<'a>,
+    ends: &mut [usize; MAX_POSTS],
+)
+    requires first { IsPostedTo cursor.now cursor.now.passed owner.now owner.now }
+    requires same { owner.now ≡ owner_posted_to cursor.now cursor.now.passed owner.now }
     requires few { most ≤ MAX_POSTS }
     requires empty { tasks.old ≡ [] }
     ensures most { length tasks.new ≤ most }
     ensures next { AreNext (length tasks.new) tasks.new owner.now }
+    ensures ends { AreEnds (length tasks.new) ends.new cursor.now owner.now }
     ensures all { length tasks.new < most
         → next_task (after_posts (length tasks.new) owner.now).state cursor.now.label ≡ None }
 {
-    let mut from = cursor.from();
-    for _here in 0..most {
-        let Some((task, next)) = owner.task_from(cursor, from) else {
+    let mut from = cursor.passed();
+    for here in 0..most {
+        let Some((task, next)) = owner.task_past(cursor, from) else {
             return;
         };
         tasks.push(task);
+        ends[here] = next;
         from = next;
     }
 }
 
-/// Records the next `posted` tasks as posted.
-#[tactic(auto, using(crate::proofs::Posts::after_more))]
-fn note_posted(owner: &mut Owner, posted: usize)
-    requires { (k : ℕ) → k < posted → IsSome (next_task_of (after_posts k owner.old)) }
+/// Records the first `posted` of the tasks with these ends as posted.
+fn note_posted(owner: &mut Owner, cursor: &TileCursor, ends: &[usize; MAX_POSTS], posted: usize)
+    requires first { IsPostedTo cursor.now cursor.now.passed owner.old owner.old }
+    requires few { posted ≤ MAX_POSTS }
+    requires ends { AreEnds posted ends.now cursor.now owner.old }
     ensures { owner.new ≡ after_posts posted owner.old }
 {
-    for _done in 0..posted {
-        owner.posted();
+    if posted > 0 {
+        owner.post_to(cursor, ends[posted - 1]);
     }
 }
 
 /// Fetches results until few tasks are owed.
-fn fetch_down<P: Pool>(owner: &mut Owner, pool: &mut P) -> Result<(), Halt>
+fn fetch_down<P: PoolEnd>(owner: &mut Owner, pool: &mut P) -> Result<(), Halt>
     requires gathers { Gathers owner.old (P.seen pool.old).owed }
     ensures goes_on { GoesOn owner.old (P.seen pool.old) owner.new (P.seen pool.new) }
     ensures many { OnErr result (MAX_AHEAD < length (P.seen pool.new).owed) }
@@ -223,7 +235,7 @@ fn fetch_down<P: Pool>(owner: &mut Owner, pool: &mut P) -> Result<(), Halt>
 
 /// Posts the next task, and waits for room only if nothing is owed. Returns false if there is no task or no room; then something
 /// is owed.
-fn post_or_wait<P: Pool>(owner: &mut Owner, pool: &mut P) -> Result<bool, Halt>
+fn post_or_wait<P: PoolEnd>(owner: &mut Owner, pool: &mut P) -> Result<bool, Halt>
     requires waits { IsSome owner.old.waiting }
     requires none_ready { ready_session owner.old ≡ None }
     requires gathers { Gathers owner.old (P.seen pool.old).owed }
@@ -240,7 +252,7 @@ fn post_or_wait<P: Pool>(owner: &mut Owner, pool: &mut P) -> Result<bool, Halt>
 }
 
 /// Posts the next task. Returns false if there is none, or if the pool has no room now.
-fn post_next<P: Pool>(owner: &mut Owner, pool: &mut P, wait: bool) -> Result<bool, Halt>
+fn post_next<P: PoolEnd>(owner: &mut Owner, pool: &mut P, wait: bool) -> Result<bool, Halt>
     requires gathers { Gathers owner.old (P.seen pool.old).owed }
     requires alone { wait ≡ true → (P.seen pool.old).owed ≡ [] }
     ensures goes_on { GoesOn owner.old (P.seen pool.old) owner.new (P.seen pool.new) }
@@ -253,28 +265,28 @@ fn post_next<P: Pool>(owner: &mut Owner, pool: &mut P, wait: bool) -> Result<boo
     ensures counted { P.uncounted pool.old ≡ false → P.uncounted pool.new ≡ false }
     ensures own { let user = owner.old.number in P.for_others pool.new user ≡ P.for_others pool.old user }
 {
-    if pool.is_full() {
+    if pool.room() == 0 {
         return Ok(false);
     }
-    let Some(cursor) = owner.first_tile() else {
+    let Some(cursor) = owner.next_tile() else {
         return Ok(false);
     };
-    let Some(task) = owner.first_task(&cursor) else {
+    let Some((task, next)) = owner.task_past(&cursor, cursor.passed()) else {
         return Ok(false);
     };
     match pool.post_from(&task, wait) {
         Ok(()) => {
-            owner.posted();
+            owner.post_to(&cursor, next);
             Ok(true)
         }
         Err(NotPosted::Full) => Ok(false),
-        Err(NotPosted::Closed) => Err(Halt::PoolClosed),
+        Err(NotPosted::Closed(_)) => Err(Halt::PoolClosed),
     }
 }
 
 /// Takes in the results that are there now, and then posts tasks while there is room, so that the workers get many at once.
 /// Returns whether one of the results was of an awaited tile.
-fn poll_and_post<P: Pool>(owner: &mut Owner, pool: &mut P) -> bool
+fn poll_and_post<P: PoolEnd>(owner: &mut Owner, pool: &mut P) -> bool
     requires gathers { Gathers owner.old (P.seen pool.old).owed }
     ensures goes_on { GoesOn owner.old (P.seen pool.old) owner.new (P.seen pool.new) }
     ensures fewer { result ≡ true → tiles_coming owner.new < tiles_coming owner.old }
@@ -287,7 +299,7 @@ fn poll_and_post<P: Pool>(owner: &mut Owner, pool: &mut P) -> bool
 }
 
 /// Fetches a result and takes it in. Returns false, and drops it, if it is of no awaited tile.
-fn fetch_next<P: Pool>(owner: &mut Owner, pool: &mut P) -> Result<bool, Halt>
+fn fetch_next<P: PoolEnd>(owner: &mut Owner, pool: &mut P) -> Result<bool, Halt>
     requires gathers { Gathers owner.old (P.seen pool.old).owed }
     requires owes { 0 < length (P.seen pool.old).owed }
     ensures goes_on { GoesOn owner.old (P.seen pool.old) owner.new (P.seen pool.new) }
@@ -300,7 +312,7 @@ fn fetch_next<P: Pool>(owner: &mut Owner, pool: &mut P) -> Result<bool, Halt>
     ensures counted { P.uncounted pool.old ≡ false → P.uncounted pool.new ≡ false }
     ensures own { let user = owner.old.number in P.for_others pool.new user ≡ P.for_others pool.old user }
 {
-    if !pool.fetch_uncounted(owner.user()) {
+    if pool.fetch_uncounted(owner.user()).is_err() {
         return Err(Halt::PoolClosed);
     }
     Ok(accept_and_count(owner, pool))
@@ -308,7 +320,7 @@ fn fetch_next<P: Pool>(owner: &mut Owner, pool: &mut P) -> Result<bool, Halt>
 
 /// Takes in a result that is there now. Returns `Some(false)`, and drops it, if it is of no awaited tile; `None` if there is no
 /// result.
-fn poll_next<P: Pool>(owner: &mut Owner, pool: &mut P) -> Option<bool>
+fn poll_next<P: PoolEnd>(owner: &mut Owner, pool: &mut P) -> Option<bool>
     requires gathers { Gathers owner.old (P.seen pool.old).owed }
     ensures goes_on { GoesOn owner.old (P.seen pool.old) owner.new (P.seen pool.new) }
     ensures fewer { IfSome result (λ taken. taken ≡ true → tiles_coming owner.new < tiles_coming owner.old) }
@@ -324,7 +336,7 @@ fn poll_next<P: Pool>(owner: &mut Owner, pool: &mut P) -> Option<bool>
 
 /// Takes in the result that the pool shows, and has the pool count it. Returns false if it is of no awaited tile. The task of an
 /// awaited tile was compared as it was taken in, so the pool finds it by its name.
-fn accept_and_count<P: Pool>(owner: &mut Owner, pool: &mut P) -> bool
+fn accept_and_count<P: PoolEnd>(owner: &mut Owner, pool: &mut P) -> bool
     requires gathers { Gathers owner.old (P.seen pool.old).owed }
     requires uncounted { P.uncounted pool.old ≡ true }
     ensures goes_on { GoesOn owner.old (P.seen pool.old) owner.new (P.seen pool.new) }
@@ -333,12 +345,9 @@ fn accept_and_count<P: Pool>(owner: &mut Owner, pool: &mut P) -> bool
     ensures counted { P.uncounted pool.new ≡ false }
     ensures own { (user : ℕ) → P.for_others pool.new user ≡ P.for_others pool.old user }
 {
-    if owner.accept_from(&pool.fetched()).is_err() {
-        pool.count();
-        return false;
-    }
-    pool.count_by_name();
-    true
+    let taken = owner.accept_from(&pool.fetched()).is_ok();
+    pool.count(taken);
+    taken
 }
 
 /// Returns the number of consecutive strays after one more result.

@@ -3,12 +3,14 @@ ghost use Rattle.std.specs.Prelude.{◌≡◌, [], false, None, IfSome};
 ghost use Rattle.lj_wire.specs.declared.reader.phase.Phase.TheVariants.{Open};
 ghost use Rattle.lj_engine.specs.declared.served.Served.TheVariants as served;
 ghost use Rattle.lj_engine.specs.Endings.{served_of};
-ghost use Rattle.lj_engine.specs.Served.{HandsBack, HasCause, Serves};
+ghost use Rattle.lj_engine.specs.Served.{ReturnsState, HasCause, Serves};
+ghost use Rattle.lj_engine.specs.Waiting.{Flushes};
 
 use crate::running::{Halt, answer, work_ahead};
 use crate::served::{Served, ending_of};
+use crate::waiting::{flush_before_read, next_item};
 use crate::writing::put_reply;
-use lj_end::Pool;
+use lj_end::PoolEnd;
 use lj_session::{Command, Owner, UserState};
 use lj_wire::{Fault, Item, Line, LineReader, ReadFault, Sink, Source, WriteFault};
 use std::alloc::Global;
@@ -20,7 +22,7 @@ use std::alloc::Global;
 /// Promise: over any pool, what is written is the dialogue of what is read, or a front of it where a write failed, and the state
 /// handed back is that after the items answered. Where the pool is given up, the replies before that are written, and no state is
 /// handed back.
-pub fn serve<R: Source, W: Sink, P: Pool>(
+pub fn serve<R: Source, W: Sink, P: PoolEnd>(
     alloc: Global,
     state: UserState,
     user: u8,
@@ -33,7 +35,8 @@ pub fn serve<R: Source, W: Sink, P: Pool>(
         (W.contents writer.old) (W.contents writer.new) (P.seen pool.old) (P.seen pool.new) result.0 }
     ensures cause { HasCause result.1 (R.remaining result.2) (R.errors reader) (R.errors result.2)
         (W.faults writer.old) (W.faults writer.new) (P.seen pool.old) (P.seen pool.new) }
-    ensures handed_back { IfSome result.0 (HandsBack state (P.seen pool.new)) }
+    ensures flushed { Flushes result.1 (W.unflushed writer.old) (W.unflushed writer.new) }
+    ensures handed_back { IfSome result.0 (ReturnsState state (P.seen pool.new)) }
     ensures counted { P.uncounted pool.old ≡ false → P.uncounted pool.new ≡ false }
     ensures own { P.for_others pool.new user ≡ P.for_others pool.old user }
 {
@@ -44,7 +47,7 @@ pub fn serve<R: Source, W: Sink, P: Pool>(
 
 /// Answers the items of a reader that has handed out none, over a pool that owes nothing, from a user's state on. Returns the
 /// state, unless the pool was given up. Flushes the writer before it waits for more input, and not after the last reply.
-pub fn serve_lines<R: Source, W: Sink, P: Pool>(
+pub fn serve_lines<R: Source, W: Sink, P: PoolEnd>(
     state: UserState,
     user: u8,
     lines: &mut LineReader<R>,
@@ -59,7 +62,8 @@ pub fn serve_lines<R: Source, W: Sink, P: Pool>(
     ensures cause { HasCause result.1 lines.new.left lines.old.errors lines.new.errors
         (W.faults writer.old) (W.faults writer.new) (P.seen pool.old) (P.seen pool.new) }
     ensures all_read { result.1 ≡ served.ReadFault → lines.new.held ≡ [] }
-    ensures handed_back { IfSome result.0 (HandsBack state (P.seen pool.new)) }
+    ensures flushed { Flushes result.1 (W.unflushed writer.old) (W.unflushed writer.new) }
+    ensures handed_back { IfSome result.0 (ReturnsState state (P.seen pool.new)) }
     ensures counted { P.uncounted pool.old ≡ false → P.uncounted pool.new ≡ false }
     ensures own { P.for_others pool.new user ≡ P.for_others pool.old user }
 {
@@ -72,7 +76,7 @@ pub fn serve_lines<R: Source, W: Sink, P: Pool>(
             Ok(has_pending) => has_pending,
             Err(halt) => return given_up(owner, halt),
         };
-        match lines.next_into(&mut item) {
+        match next_item(lines, writer, &mut item) {
             Ok(true) => {}
             Ok(false) => return (Some(owner.into_state()), Served::End),
             Err(ReadFault) => return (Some(owner.into_state()), Served::ReadFault),
@@ -83,12 +87,14 @@ pub fn serve_lines<R: Source, W: Sink, P: Pool>(
             Ok(reply) => reply,
             Err(halt) => return given_up(owner, halt),
         };
-        let flushes = ending.is_none() && !lines.holds_item();
-        if let Err(WriteFault) = put_reply(writer, &mut line, owner.state(), &reply, flushes) {
+        if let Err(WriteFault) = put_reply(writer, &mut line, owner.state(), &reply) {
             return (Some(owner.into_state()), Served::WriteFault);
         }
         if let Some(served) = ending {
             return (Some(owner.into_state()), served);
+        }
+        if let Err(WriteFault) = flush_before_read(lines, writer) {
+            return (Some(owner.into_state()), Served::WriteFault);
         }
     }
 }

@@ -23,8 +23,8 @@ use Rattle.lj_fixed.specs.declared.decimal_words.Numeral.{Numeral}
 use Rattle.lj_fixed.specs.declared.numbers.TheConstants.{MAX_NANO}
 use Rattle.lj_fixed.specs.Decimal.{Decimal, is_exponent_letter, is_short_number, is_exponent, exponent_of, decimal_of}
 use Rattle.lj_fixed.specs.Decimal.{rounded_quotient, places_up, places_down, nano_size, nano_or_fault, nano_of, signed_number}
-use Rattle.lj_fixed.specs.Reading.{Leads, number_within_limit, whole_of, rest_behind_whole, fraction_at, fraction_of, tail_of}
-use Rattle.lj_fixed.specs.Reading.{is_exponent_start}
+use Rattle.lj_fixed.specs.WordParts.{Leads, number_within_limit, whole_of, rest_behind_whole, fraction_at, fraction_of, tail_of}
+use Rattle.lj_fixed.specs.WordParts.{is_exponent_start}
 use Rattle.lj_fixed.specs.StandsFor.{StandsFor, AreAlike}
 use Rattle.lj_fixed.proofs.Grammar.{read_digits, decimal_with, decimal_of-read, decimal_of-tail, after_first-stop}
 use Rattle.lj_fixed.proofs.Leading.{digits_value_after-append}

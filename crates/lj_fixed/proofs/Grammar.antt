@@ -12,7 +12,7 @@ use Rattle.std.specs.Option.{option_map}
 use Rattle.std.specs.Str.{all_ascii_digits}
 use Rattle.std.specs.Str.Parse.{digits_value, starts_with_minus, without_leading_sign}
 use Rattle.lj_fixed.specs.Decimal.{Decimal, is_point, is_exponent_letter, exponent_of, decimal_of}
-use Rattle.lj_fixed.specs.Reading.{whole_of, rest_behind_whole, fraction_of, tail_of, is_exponent_start}
+use Rattle.lj_fixed.specs.WordParts.{whole_of, rest_behind_whole, fraction_of, tail_of, is_exponent_start}
 
 -- a cut at the first element that passes goes over those in front that do not
 before_first-clean : (p : ℕ → Bool) (front tail : List ℕ) → list_any p front ≡ false

@@ -12,7 +12,7 @@ use Rattle.std.specs.Char.{is_ascii_digit, digit_value}
 use Rattle.std.specs.Str.Parse.{digits_value_after}
 use Rattle.lj_fixed.specs.declared.numbers.TheConstants.{MAX_NANO}
 use Rattle.lj_fixed.specs.Decimal.{rounded_quotient}
-use Rattle.lj_fixed.specs.Reading.{Leads, number_within_limit}
+use Rattle.lj_fixed.specs.WordParts.{Leads, number_within_limit}
 use Rattle.lj_fixed.proofs.Rounding.{ten-pow_pos, ten-pow-suc, rounded_tenths, rounded_whole, rounded_cancel}
 use Rattle.lj_fixed.proofs.Rounding.{le-rounded, rounded_small}
 

@@ -1,7 +1,7 @@
 -- How a parsed numeral stands for a decimal.
 use Rattle.std.specs.Prelude.{◌≡◌, Option, Some, None}
 use Rattle.lj_fixed.specs.Decimal.{Decimal}
-use Rattle.lj_fixed.specs.Reading.{Leads}
+use Rattle.lj_fixed.specs.WordParts.{Leads}
 use Rattle.lj_fixed.specs.declared.decimal_words.Numeral.{Numeral}
 
 -- the numeral has the parts of the decimal, except for dropped digits

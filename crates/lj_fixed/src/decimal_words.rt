@@ -6,8 +6,8 @@ ghost use Rattle.std.specs.Str.Parse.{signed_digits_value};
 ghost use Rattle.lj_fixed.specs.declared.decimal_words.TheConstants.{MAX_WORD_BYTES};
 ghost use Rattle.lj_fixed.specs.Decimal.{Decimal, is_exponent_letter, is_short_number, is_exponent, exponent_of};
 ghost use Rattle.lj_fixed.specs.Decimal.{decimal_of, nano_size, nano_of};
-ghost use Rattle.lj_fixed.specs.Reading.{Leads, number_within_limit, fraction_at, tail_at, whole_of, fraction_of, tail_of};
-ghost use Rattle.lj_fixed.specs.Reading.{is_exponent_start};
+ghost use Rattle.lj_fixed.specs.WordParts.{Leads, number_within_limit, fraction_at, tail_at, whole_of, fraction_of, tail_of};
+ghost use Rattle.lj_fixed.specs.WordParts.{is_exponent_start};
 
 use crate::digits::Significand;
 use crate::numbers::{Nano, NumberFault};

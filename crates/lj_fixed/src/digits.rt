@@ -4,7 +4,7 @@ ghost use Rattle.std.specs.Char.{is_ascii_digit};
 ghost use Rattle.std.specs.List.{prefix_len};
 ghost use Rattle.std.specs.Str.Parse.{digits_value_after};
 ghost use Rattle.lj_fixed.specs.Decimal.{rounded_quotient};
-ghost use Rattle.lj_fixed.specs.Reading.{Leads, number_within_limit};
+ghost use Rattle.lj_fixed.specs.WordParts.{Leads, number_within_limit};
 
 use crate::numbers::MAX_NANO;
 

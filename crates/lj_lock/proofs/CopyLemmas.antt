@@ -5,8 +5,8 @@ use Rattle.std.proofs.lemmas.Bool.{cases_lt}
 use Rattle.std.proofs.lemmas.List.{take_more, get_or_past}
 use Rattle.std.proofs.lemmas.List.Recursion.{is_count_by}
 use Rattle.std.proofs.lemmas.Option.{none-some, same_Some}
-use Rattle.lj_tile.specs.Blank.{blank_task}
-use Rattle.lj_tile.specs.Task.{Task}
+use Rattle.lj_task.specs.Blank.{blank_task}
+use Rattle.lj_task.specs.Task.{Task}
 use Rattle.lj_book.specs.Boxes.{BoxBook}
 use Rattle.lj_lock.specs.Copies.{AreCopies, HandsOver}
 use Rattle.lj_lock.specs.PoolStates.{HasPosted, PostsEach}

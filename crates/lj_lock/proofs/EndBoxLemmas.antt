@@ -6,10 +6,10 @@ use Rattle.std.proofs.lemmas.Bool.{cases_lt}
 use Rattle.std.proofs.lemmas.List.{map-append, take-map, drop-map, get_or-map, get_or_default}
 use Rattle.std.proofs.lemmas.List.Edits.{length-remove}
 use Rattle.std.proofs.lemmas.List.Elements.{All-append, All-take, All-drop}
-use Rattle.lj_tile.specs.Blank.{blank_task}
-use Rattle.lj_tile.specs.Task.{Task}
+use Rattle.lj_task.specs.Blank.{blank_task}
+use Rattle.lj_task.specs.Task.{Task}
 use Rattle.lj_book.specs.declared.key_states.KeyState.TheVariants.{ToFetch}
-use Rattle.lj_book.specs.Book.{BookOf, Fetches, IsDoneAt, key_state_of, user_of}
+use Rattle.lj_book.specs.Book.{BookOf, Fetches, IsDoneAt, key_state_of, user_of_task}
 use Rattle.lj_book.specs.Boxes.{Numbered, Slip}
 use Rattle.lj_lock.specs.EndBoxes.{ArePlaced, EndBoxes, HandsOut, IsFirstOf, IsNext, TakesInHand, result_in}
 use Rattle.lj_lock.specs.PoolStates.{FetchesEach}
@@ -42,9 +42,9 @@ placed_left hand spare here placed inside = record {
 
 -- a result that was fetched for a user is the user's
 pub users_result : (old new : BookOf Numbered Slip) (user key : ℕ) (done : Task) → Fetches old new done key → IsDoneAt user old key
-    → user_of done ≡ user
+    → user_of_task done ≡ user
 users_result old new user key done fetches here =
-    let same : ToFetch (user_of done) ≡ ToFetch user = sym (ap key_state_of fetches.was) ∙ here in
+    let same : ToFetch (user_of_task done) ≡ ToFetch user = sym (ap key_state_of fetches.was) ∙ here in
     cc
 
 -- one result more
@@ -77,7 +77,7 @@ next_in_hand user old new out =
     }
 
 -- what was fetched is the next result, if none of the user's was in hand
-pub next_fetched : (user : ℕ) (old new : EndBoxes) → TakesInHand user old new → All (λ other. user_of other ≢ user) old.hand
+pub next_fetched : (user : ℕ) (old new : EndBoxes) → TakesInHand user old new → All (λ other. user_of_task other ≢ user) old.hand
     → IsSomeAnd new.last (λ done. IsNext user old.hand done new.hand)
 next_fetched user old new takes none =
     subst (λ last. IsSomeAnd last (λ done. IsNext user old.hand done new.hand)) (sym takes.last) record {

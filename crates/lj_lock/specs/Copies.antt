@@ -1,8 +1,8 @@
 -- The boxes of the copies of tasks that are posted together.
 use Rattle.std.specs.Prelude.{◌≡◌, ◌<◌, ◌≤◌, ℕ, List, Option, None, length, slice_index_or}
 use Rattle.std.specs.Option.{ForSome}
-use Rattle.lj_tile.specs.Blank.{blank_task}
-use Rattle.lj_tile.specs.Task.{Task}
+use Rattle.lj_task.specs.Blank.{blank_task}
+use Rattle.lj_task.specs.Task.{Task}
 
 -- Each box that is there has a copy of the task at its place.
 abbrev pub AreCopies : List (Option Task) → List Task → Type 0

@@ -1,9 +1,9 @@
 -- The boxes of an end of a pool behind a lock.
 use Rattle.std.specs.Prelude.{◌≡◌, ◌≢◌, ℕ, ◌+◌, ◌<◌, ◌≤◌, Bool, true, false, List, [], ◌++◌, Option, Some, None, is_some, cond, length, slice_index_or, unwrap_or}
 use Rattle.std.specs.List.{All, remove}
-use Rattle.lj_tile.specs.Task.{Task}
-use Rattle.lj_tile.specs.Blank.{blank_task}
-use Rattle.lj_book.specs.Book.{user_of}
+use Rattle.lj_task.specs.Task.{Task}
+use Rattle.lj_task.specs.Blank.{blank_task}
+use Rattle.lj_book.specs.Book.{user_of_task}
 use Rattle.lj_lock.specs.declared.end_boxes.TheConstants.{MAX_IN_HAND, MAX_SPARE}
 
 -- the result handed out last; those in hand, in the order of handing out; the number of spare boxes; and whether the last fetch took
@@ -31,14 +31,14 @@ pub record ArePlaced (hand spare : List (Option Task)) : Type 0 where
   pub places : length hand + length spare ≤ MAX_SPARE
 
 -- the number of boxes
-abbrev pub box_count : EndBoxes → ℕ
-box_count own = cond (is_some own.last) 1 0 + length own.hand + own.spare
+abbrev pub end_box_count : EndBoxes → ℕ
+end_box_count own = cond (is_some own.last) 1 0 + length own.hand + own.spare
 
 -- the first result of this user in hand is at index `here`
 pub record IsFirstOf (hand : List Task) (user here : ℕ) : Type 0 where
   pub within : here < length hand
-  pub whose : user_of (slice_index_or hand here blank_task) ≡ user
-  pub before : (k : ℕ) → k < here → user_of (slice_index_or hand k blank_task) ≢ user
+  pub whose : user_of_task (slice_index_or hand here blank_task) ≡ user
+  pub before : (k : ℕ) → k < here → user_of_task (slice_index_or hand k blank_task) ≢ user
 
 -- The first result of this user in hand was handed out; the box of the one handed out before is spare.
 pub record HandsOut (user : ℕ) (old new : EndBoxes) : Type 0 where
@@ -56,16 +56,16 @@ pub record TakesInHand (user : ℕ) (old new : EndBoxes) : Type 0 where
   pub last : new.last ≡ Some first
   pub hand : new.hand ≡ old.hand ++ others
   pub freed : cond (is_some old.last) 1 0 ≤ new.spare
-  pub whose : user_of first ≡ user
-  pub whose_others : All (λ done. user_of done ≡ user) others
+  pub whose : user_of_task first ≡ user
+  pub whose_others : All (λ done. user_of_task done ≡ user) others
 
 -- This result of the user was handed out, and `left` is in hand now. It was the user's first one in hand; where the user had none
 -- there, all others are still in hand.
 pub record IsNext (user : ℕ) (hand : List Task) (done : Task) (left : List Task) : Type 0 where
-  pub whose : user_of done ≡ user
+  pub whose : user_of_task done ≡ user
   pub first : (here : ℕ) → IsFirstOf hand user here
       → (done ≡ slice_index_or hand here blank_task) × (left ≡ remove hand here)
-  pub none : All (λ other. user_of other ≢ user) hand → (others : List Task) × (left ≡ hand ++ others)
+  pub none : All (λ other. user_of_task other ≢ user) hand → (others : List Task) × (left ≡ hand ++ others)
 
 -- Only spare boxes have come or gone.
 pub record SameResults (old new : EndBoxes) : Type 0 where

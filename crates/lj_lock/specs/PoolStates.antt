@@ -1,10 +1,10 @@
 -- The state under the lock of a pool.
 use Rattle.std.specs.Prelude.{◌≡◌, ℕ, ◌+◌, ◌-◌, ◌<◌, ◌≤◌, Bool, false, List, [], ◌∷◌, Option, Some, None, replicate}
-use Rattle.lj_tile.specs.Task.{Task}
+use Rattle.lj_task.specs.Task.{Task}
 use Rattle.lj_book.specs.Book.{BookOf, Fetches, IsDoneAt}
-use Rattle.lj_book.specs.Boxes.{BoxBook, Numbered, PostsBox, Slip, boxes}
+use Rattle.lj_book.specs.Boxes.{BoxBook, Numbered, PostsBox, Slip, WithdrawsBox, boxes}
 use Rattle.lj_end.specs.declared.waking.TheConstants.{WAIT_QUEUES}
-use Rattle.lj_lock.specs.EndBoxes.{EndBoxes, TakesInHand, box_count}
+use Rattle.lj_lock.specs.EndBoxes.{EndBoxes, TakesInHand, end_box_count}
 
 -- the book, the key from which the next take looks on, how many posts no worker was woken for, how many workers are idle, the wait
 -- queues, and whether it is closed
@@ -70,9 +70,21 @@ PostsEach (work ∷ works) old new = (next : BoxBook) × HasPosted work old next
 -- No box of the book or of an end is lost, if those of the end were lent.
 abbrev pub NoneIsLost : BoxBook → EndBoxes → BoxBook → EndBoxes → Type 0
 NoneIsLost old own new others =
-    boxes old + box_count own ≤ old.made → boxes new + box_count others ≡ boxes old + box_count own
+    boxes old + end_box_count own ≤ old.made → boxes new + end_box_count others ≡ boxes old + end_box_count own
 
 -- Exactly the results that an end took in hand have left the book.
 pub record FetchesInHand (user : ℕ) (old : BoxBook) (own : EndBoxes) (new : BoxBook) (others : EndBoxes) : Type 0 where
   pub takes : TakesInHand user own others
   pub fetches : FetchesEach (takes.first ∷ takes.others) old.inner new.inner
+
+-- the entries of the user have left the book, if there is one user
+abbrev pub Withdrawn : Option ℕ → BoxBook → BoxBook → Type 0
+Withdrawn None old new = new ≡ old
+Withdrawn (Some user) old new = WithdrawsBox user old new
+
+-- What an end had came home: first its boxes, of which none is lost if they were lent, and then the entries of its user.
+pub record TakesHome (own : EndBoxes) (user : Option ℕ) (old new : BoxBook) : Type 0 where
+  pub spare : ℕ
+  pub kept : boxes old + end_box_count own ≤ old.made
+      → boxes (record old { spare = spare }) ≡ boxes old + end_box_count own
+  pub withdrawn : Withdrawn user (record old { spare = spare }) new

@@ -1,15 +1,15 @@
 //! The boxes of an end of a pool behind a lock.
 ghost use Rattle.std.specs.Prelude.{◌≡◌, ◌≢◌, ◌+◌, ◌<◌, ◌≤◌, ◌↔◌, ◌∷◌, [], ◌++◌, ℕ, Some, cond, count_by, is_some, length, nat_lt, slice_index_or, true, false, unwrap_or, IsTrue, IfNone, IfSome, OnSome};
 ghost use Rattle.std.specs.List.{All};
-ghost use Rattle.lj_book.specs.Book.{user_of};
-ghost use Rattle.lj_tile.specs.Blank.{blank_task};
-ghost use Rattle.lj_lock.specs.EndBoxes.{HandsOut, IsFirstOf, box_count, no_boxes};
+ghost use Rattle.lj_book.specs.Book.{user_of_task};
+ghost use Rattle.lj_task.specs.Blank.{blank_task};
+ghost use Rattle.lj_lock.specs.EndBoxes.{HandsOut, IsFirstOf, end_box_count, no_boxes};
 ghost use Rattle.lj_lock.specs.Copies.{AreCopies};
 
 use arrayvec::ArrayVec;
 use lj_book::{DoneBox, TaskBox};
 use lj_end::{MAX_POSTS, TaskList};
-use lj_tile::{Done, DoneRef, SharedFrame, TaskRef};
+use lj_task::{Done, DoneRef, SharedFrame, TaskRef};
 use std::marker::Model;
 use std::mem;
 
@@ -207,7 +207,7 @@ impl EndBoxes {
     /// Hands out the first result of a user in hand. Returns false where there is none.
     pub(crate) fn hand_out(&mut self, user: u8) -> bool
         ensures some { result ≡ true → HandsOut user self.old self.new }
-        ensures none { result ≡ false → All (λ done. user_of done ≢ user) self.old.hand }
+        ensures none { result ≡ false → All (λ done. user_of_task done ≢ user) self.old.hand }
         ensures unchanged { result ≡ false → self.new ≡ self.old }
     {
         let Some(here) = self.find(user) else {
@@ -220,9 +220,9 @@ impl EndBoxes {
 
     /// Gives up a box, if there is one.
     pub(crate) fn give_up(&mut self) -> Option<TaskBox>
-        ensures some { OnSome result (box_count self.old ≡ box_count self.new + 1) }
-        ensures none { IfNone result (box_count self.old ≡ 0) }
-        ensures none_left { IfNone result (box_count self.new ≡ 0) }
+        ensures some { OnSome result (end_box_count self.old ≡ end_box_count self.new + 1) }
+        ensures none { IfNone result (end_box_count self.old ≡ 0) }
+        ensures none_left { IfNone result (end_box_count self.new ≡ 0) }
     {
         if let Some(spare) = self.pop_spare() {
             return Some(spare);
@@ -236,7 +236,7 @@ impl EndBoxes {
 
     /// Lets go of it, with no box in it.
     pub(crate) fn let_go(self)
-        requires { box_count self ≡ 0 }
+        requires { end_box_count self ≡ 0 }
     {
         let EndBoxes {
             last: _last,
@@ -257,7 +257,7 @@ impl EndBoxes {
     /// Returns the index of the first result of a user in hand.
     fn find(&self, user: u8) -> Option<usize>
         ensures some { IfSome result (IsFirstOf self.now.hand user) }
-        ensures none { IfNone result (All (λ done. user_of done ≢ user) self.now.hand) }
+        ensures none { IfNone result (All (λ done. user_of_task done ≢ user) self.now.hand) }
     {
         for here in 0..self.in_hand() {
             if self.is_of(here, user) {
@@ -270,7 +270,7 @@ impl EndBoxes {
     /// Returns whether the result at this index is of this user.
     fn is_of(&self, here: usize, user: u8) -> bool
         requires { here < length self.now.hand }
-        ensures { IsTrue result ↔ (user_of (slice_index_or self.now.hand here blank_task) ≡ user) }
+        ensures { IsTrue result ↔ (user_of_task (slice_index_or self.now.hand here blank_task) ≡ user) }
     {
         match &self.hand[here] {
             Some(done) => done.done().task().name().label.user == user,

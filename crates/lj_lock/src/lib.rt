@@ -9,4 +9,5 @@ mod working;
 
 pub use lock_end::LockEnd;
 pub use lock_pool::LockPool;
+pub use pool_state::LockClosed;
 pub use working::{gather, work};

@@ -2,21 +2,21 @@
 ghost use Rattle.std.specs.Prelude.{◌≡◌, ◌+◌, ◌≤◌, None, true, false, cond, is_some, length, vec_len, IfErr, IfOk, IsSomeAnd, OnErr, OnOk};
 ghost use Rattle.std.specs.List.{All};
 ghost use Rattle.std.specs.Option.{ForSome};
-ghost use Rattle.lj_end.specs.declared.pool.NotPosted.TheVariants.{Closed};
 ghost use Rattle.lj_lock.specs.EndBoxes.{IsNext, SameResults, TakesInHand};
 ghost use Rattle.lj_lock.specs.Copies.{AreCopies, HandsOver};
+ghost use Rattle.lj_end.specs.RefusedPosts.{IsPoolClosed};
 ghost use Rattle.lj_end.specs.Seen.{nothing_seen};
-ghost use Rattle.lj_tile.specs.Blank.{blank_task};
+ghost use Rattle.lj_task.specs.Blank.{blank_task};
 
 use crate::end_boxes::{EndBoxes, MAX_END_BOXES, TaskCopies};
 use crate::lock_end::LockEnd;
-use crate::pool_state::PoolState;
+use crate::pool_state::{LockClosed, PoolState};
 use lj_book::{BoxBook, Counts, LentDone, LentTask, MAX_ENTRIES, TaskBox};
 use lj_end::{
     LOOKS, MAX_ENDS, NotPosted, Share, TASKS_AT_ONCE, TaskList, WAIT_QUEUES, lock_soon, shares_of,
     wait_queue_of, wake,
 };
-use lj_tile::{Done, TaskRef};
+use lj_task::{Done, TaskRef};
 use std::alloc::{AllocError, Global};
 use std::sync::atomic::{AtomicBool, Ordering};
 use std::sync::ledger::{self, Blank, Ledger};
@@ -75,13 +75,25 @@ impl<L: Ledger> LockPool<L> {
         Ok((pool, shares))
     }
 
-    /// Makes an end of the pool, to which nothing is owed.
+    /// Makes an end of the pool, to which nothing is owed, for tasks of any user.
     pub fn end<'p, R: Wait>(&'p self, rt: &'p R) -> LockEnd<'p, L, R>
         ensures seen { result.seen ≡ nothing_seen }
         ensures last { result.last ≡ blank_task }
         ensures counted { result.uncounted ≡ false }
+        ensures user { result.user ≡ None }
     {
-        LockEnd::new(rt, self)
+        LockEnd::new(rt, self, None)
+    }
+
+    /// Makes an end of the pool, to which nothing is owed, for tasks of one user. Once it is finished or dropped, the pool has no
+    /// entry of this user.
+    pub fn end_of<'p, R: Wait>(&'p self, rt: &'p R, user: u8) -> LockEnd<'p, L, R>
+        ensures seen { result.seen ≡ nothing_seen }
+        ensures last { result.last ≡ blank_task }
+        ensures counted { result.uncounted ≡ false }
+        ensures user { result.user ≡ Some user }
+    {
+        LockEnd::new(rt, self, Some(user))
     }
 
     /// Closes the pool: from now on no task is posted or taken and no result fetched.
@@ -116,9 +128,12 @@ impl<L: Ledger> LockPool<L> {
         lock_soon(rt, &self.state)
     }
 
-    /// Returns whether the pool is closed.
-    pub(crate) fn is_closed(&self) -> bool {
-        self.closed.load(Ordering::SeqCst)
+    /// Returns that the pool is closed, if it is. It takes the lock only then.
+    pub(crate) fn seen_closed<R: Wait>(&self, rt: &R) -> Option<LockClosed> {
+        if !self.closed.load(Ordering::SeqCst) {
+            return None;
+        }
+        self.lock(rt).closed()
     }
 
     /// Returns a blank result.
@@ -136,11 +151,11 @@ impl<L: Ledger> LockPool<L> {
         boxed: &mut Option<TaskBox>,
         task: &TaskRef<'_>,
         wait: bool,
-    ) -> Result<(), NotPosted>
+    ) -> Result<(), NotPosted<LockClosed>>
         requires { ForSome boxed.old (λ work. work ≡ task.now) }
         ensures out_of_hand { OnOk result (boxed.new ≡ None) }
         ensures handed_back { OnErr result (boxed.new ≡ boxed.old) }
-        ensures full { wait ≡ true → IfErr result (λ why. why ≡ Closed) }
+        ensures full { wait ≡ true → IfErr result IsPoolClosed }
     {
         let mut state = self.lock(rt);
         for _ in rt.forever() {
@@ -179,20 +194,27 @@ impl<L: Ledger> LockPool<L> {
     }
 
     /// Hands out the user's next result in hand. If there is none, waits until the book has results of the user, takes as many in
-    /// hand as there is room for, and hands out the first. `owed` results are owed to the end and not in its hand. Returns false
-    /// where the pool is closed.
+    /// hand as there is room for, and hands out the first. `owed` results are owed to the end and not in its hand.
+    ///
+    /// # Errors
+    /// The pool is closed.
     #[tactic(auto, using(crate::proofs::EndBoxLemmas::next_in_hand, crate::proofs::EndBoxLemmas::next_fetched))]
-    pub(crate) fn fetch<R: Wait>(&self, rt: &R, user: u8, owed: usize, own: &mut EndBoxes) -> bool
-        ensures next { result ≡ true
-            → IsSomeAnd own.new.last (λ done. IsNext user own.old.hand done own.new.hand) }
-        ensures freed { result ≡ true → cond (is_some own.old.last) 1 0 ≤ own.new.spare }
-        ensures same_results { result ≡ false → SameResults own.old own.new }
+    pub(crate) fn fetch<R: Wait>(
+        &self,
+        rt: &R,
+        user: u8,
+        owed: usize,
+        own: &mut EndBoxes,
+    ) -> Result<(), LockClosed>
+        ensures next { OnOk result (IsSomeAnd own.new.last (λ done. IsNext user own.old.hand done own.new.hand)) }
+        ensures freed { OnOk result (cond (is_some own.old.last) 1 0 ≤ own.new.spare) }
+        ensures same_results { OnErr result (SameResults own.old own.new) }
     {
-        if self.is_closed() {
-            return false;
+        if let Some(closed) = self.seen_closed(rt) {
+            return Err(closed);
         }
         if own.hand_out(user) {
-            return true;
+            return Ok(());
         }
         let mut state = self.lock(rt);
         for _ in rt.forever() {
@@ -216,7 +238,7 @@ impl<L: Ledger> LockPool<L> {
         ensures freed { result ≡ true → cond (is_some own.old.last) 1 0 ≤ own.new.spare }
         ensures same_results { result ≡ false → SameResults own.old own.new }
     {
-        if self.is_closed() {
+        if self.closed.load(Ordering::SeqCst) {
             return false;
         }
         if own.hand_out(user) {
@@ -226,23 +248,23 @@ impl<L: Ledger> LockPool<L> {
             return false;
         }
         let state = self.lock(rt);
-        self.fetch_from(state, user, own).unwrap_or(false)
+        matches!(self.fetch_from(state, user, own), Ok(Ok(())))
     }
 
     /// Adds the spare boxes of the end to those of the pool, takes as many results of the user in hand as there is room for, and
     /// unlocks the state. Wakes ends that wait for room if there is some now, and, unless there may be further results, workers for
-    /// the tasks that none was woken for. Returns false where the pool is closed.
+    /// the tasks that none was woken for. The result is that of a fetch.
     ///
     /// # Errors
-    /// The state, where there is no result yet.
+    /// The state, where there is no result yet and the pool is open.
     fn fetch_from<'d>(
         &self,
         state: MutexGuard<'d, PoolState<L>>,
         user: u8,
         own: &mut EndBoxes,
-    ) -> Result<bool, MutexGuard<'d, PoolState<L>>>
-        ensures taken { IfOk result (λ fetched. fetched ≡ true → TakesInHand user own.old own.new) }
-        ensures none { IfOk result (λ fetched. fetched ≡ false → SameResults own.old own.new) }
+    ) -> Result<Result<(), LockClosed>, MutexGuard<'d, PoolState<L>>>
+        ensures taken { IfOk result (λ fetched. OnOk fetched (TakesInHand user own.old own.new)) }
+        ensures none { IfOk result (λ fetched. OnErr fetched (SameResults own.old own.new)) }
         ensures same_results { OnErr result (SameResults own.old own.new) }
     {
         let mut state = state;
@@ -252,7 +274,10 @@ impl<L: Ledger> LockPool<L> {
         if was_full && (fetched || puts_by) {
             self.not_full.notify_all();
         }
-        if !fetched && !state.is_closed() {
+        if !fetched {
+            if let Some(closed) = state.closed() {
+                return Ok(Err(closed));
+            }
             wake(&self.not_empty, state.take_woken(1));
             return Err(state);
         }
@@ -263,7 +288,7 @@ impl<L: Ledger> LockPool<L> {
         };
         drop(state);
         wake(&self.not_empty, workers);
-        Ok(fetched)
+        Ok(Ok(()))
     }
 
     /// Gives a result, which is credited to the share if it is accepted. Then takes an open task, and waits until there is one.
@@ -338,7 +363,7 @@ impl<L: Ledger> LockPool<L> {
         let mut state = self.lock(rt);
         for _ in rt.forever() {
             let taken = state.take();
-            if taken.is_some() || state.is_closed() {
+            if taken.is_some() || state.closed().is_some() {
                 return taken;
             }
             state.note_idle();
@@ -347,11 +372,11 @@ impl<L: Ledger> LockPool<L> {
         unreachable!()
     }
 
-    /// Adds all boxes of an end to the spare ones of the pool.
-    pub(crate) fn put_all_by<R: Wait>(&self, rt: &R, own: EndBoxes) {
+    /// Takes home what an end had: its boxes, and every entry of its user if it was for one user.
+    pub(crate) fn take_home<R: Wait>(&self, rt: &R, own: EndBoxes, user: Option<u8>) {
         let mut state = self.lock(rt);
         let was_full = state.is_full();
-        state.put_all_by(own);
+        state.take_home(own, user);
         drop(state);
         if was_full {
             self.not_full.notify_all();

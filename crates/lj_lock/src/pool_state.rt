@@ -1,23 +1,27 @@
 //! The state under the lock of a pool.
-ghost use Rattle.std.specs.Prelude.{◌≡◌, ◌≢◌, ◌+◌, ◌-◌, ◌%◌, ◌^◌, ◌≤◌, ◌<◌, ◌↔◌, ◌⊎◌, ◌++◌, ℕ, List, None, true, false, length, min, slice_index_or, take, IsOk, IsTrue, IfErr, IfNone, IfSome, OnErr, OnOk};
+ghost use Rattle.std.specs.Prelude.{◌≡◌, ◌≢◌, ◌+◌, ◌-◌, ◌%◌, ◌^◌, ◌≤◌, ◌<◌, ◌↔◌, ◌⊎◌, ◌++◌, ℕ, List, None, true, false, is_some, length, min, slice_index_or, take, IsOk, IsTrue, IfErr, IfNone, IfSome, OnErr, OnOk};
 ghost use Rattle.std.specs.List.{All};
 ghost use Rattle.std.specs.Option.{ForSome};
-ghost use Rattle.lj_book.specs.Book.{entry_count, user_of, HasRoom, IsOpenAt};
+ghost use Rattle.lj_book.specs.Book.{entry_count, user_of_task, HasRoom, IsOpenAt};
 ghost use Rattle.lj_book.specs.Boxes.{boxes as boxes_of, GivesBox, HandsBackBox, IsOut, TakesBox, WithdrawsBox};
 ghost use Rattle.lj_book.specs.Picks.{IsPick};
-ghost use Rattle.lj_tile.specs.Task.{Task};
-ghost use Rattle.lj_end.specs.declared.pool.NotPosted.TheVariants.{Closed};
-ghost use Rattle.lj_lock.specs.EndBoxes.{SameResults, box_count};
-ghost use Rattle.lj_lock.specs.PoolStates.{FetchesEach, FetchesInHand, HasBox, HasNoResult, HasPosted, NoneIsLost, PostsEach, PostsIn, PutsBy, open_pool};
+ghost use Rattle.lj_task.specs.Task.{Task};
+ghost use Rattle.lj_end.specs.RefusedPosts.{IsPoolClosed};
+ghost use Rattle.lj_lock.specs.EndBoxes.{SameResults, end_box_count};
+ghost use Rattle.lj_lock.specs.PoolStates.{FetchesEach, FetchesInHand, HasBox, HasNoResult, HasPosted, NoneIsLost, PostsEach, PostsIn, PutsBy, TakesHome, open_pool};
 ghost use Rattle.lj_lock.specs.Copies.{AreCopies, HandsOver};
 ghost use Rattle.lj_end.specs.Waking.{due_at, due_of, with_given, with_waiting, woken_for};
 
 use crate::end_boxes::{EndBoxes, MAX_IN_HAND, TaskCopies};
 use lj_book::{BoxBook, Counts, Key, LentDone, LentTask, MAX_ENTRIES, TaskBox};
 use lj_end::{IdleWorkers, NotPosted, Share, TaskList, UnsignalledPosts, WaitQueues};
-use lj_tile::TaskRef;
+use lj_task::TaskRef;
 use std::marker::Model;
 use std::sync::ledger::{self, Ledger};
+
+/// That a pool is closed. Only the state of a closed pool makes one.
+#[derive(Clone, Copy, Debug)]
+pub struct LockClosed(());
 
 /// The book of a pool, and the ledger's book of the results given to it.
 #[derive(Drop)]
@@ -73,20 +77,20 @@ impl<L: Ledger> PoolState<L> {
         &mut self,
         boxed: &mut Option<TaskBox>,
         task: &TaskRef<'_>,
-    ) -> Result<(), NotPosted>
+    ) -> Result<(), NotPosted<LockClosed>>
         requires { ForSome boxed.old (λ work. work ≡ task.now) }
         ensures room { IsOk result
             ↔ ((self.old.closed ≡ false) × HasRoom self.old.book.inner × HasBox self.old.book boxed.old) }
         ensures posts { OnOk result (PostsIn boxed.old task.now self.old.book self.new.book) }
         ensures unsignalled { OnOk result (1 ≤ self.new.unsignalled) }
         ensures out_of_hand { OnOk result (boxed.new ≡ None) }
-        ensures closed { IfErr result (λ why. (why ≡ Closed) ↔ (self.old.closed ≡ true)) }
+        ensures closed { IfErr result (λ why. IsPoolClosed why ↔ (self.old.closed ≡ true)) }
         ensures unchanged { OnErr result (self.new ≡ self.old) }
         ensures handed_back { OnErr result (boxed.new ≡ boxed.old) }
         ensures stays { self.new ≡ record self.old { book = self.new.book; unsignalled = self.new.unsignalled } }
     {
-        if self.closed {
-            return Err(NotPosted::Closed);
+        if let Some(closed) = self.closed() {
+            return Err(NotPosted::Closed(closed));
         }
         let Some(at_hand) = boxed.take() else {
             return self.post_copy(task);
@@ -125,7 +129,7 @@ impl<L: Ledger> PoolState<L> {
         here: usize,
         copies: &mut TaskCopies,
         task: &TaskRef<'_>,
-    ) -> Result<(), NotPosted>
+    ) -> Result<(), NotPosted<LockClosed>>
         requires { ForSome (slice_index_or copies.old.items here None) (λ work. work ≡ task.now) }
         ensures posts { OnOk result (HasPosted task.now self.old.book self.new.book) }
         ensures unsignalled { OnOk result (1 ≤ self.new.unsignalled) }
@@ -145,11 +149,11 @@ impl<L: Ledger> PoolState<L> {
     }
 
     /// Posts a copy of a task in a spare box.
-    fn post_copy(&mut self, task: &TaskRef<'_>) -> Result<(), NotPosted>
+    fn post_copy(&mut self, task: &TaskRef<'_>) -> Result<(), NotPosted<LockClosed>>
         ensures room { IsOk result ↔ (HasRoom self.old.book.inner × (0 < self.old.book.spare)) }
         ensures posts { OnOk result (PostsIn None task.now self.old.book self.new.book) }
         ensures unsignalled { OnOk result (1 ≤ self.new.unsignalled) }
-        ensures open { IfErr result (λ why. why ≢ Closed) }
+        ensures open { IfErr result (λ why. ¬ IsPoolClosed why) }
         ensures unchanged { OnErr result (self.new ≡ self.old) }
         ensures stays { self.new ≡ record self.old { book = self.new.book; unsignalled = self.new.unsignalled } }
     {
@@ -273,7 +277,7 @@ impl<L: Ledger> PoolState<L> {
     fn fetch_more(&mut self, user: u8, own: &mut EndBoxes)
         requires { own.old.spare ≤ 1 }
         ensures fetches { (others : List Task) × (own.new ≡ record own.old { hand = own.old.hand ++ others })
-            × FetchesEach others self.old.book.inner self.new.book.inner × All (λ done. user_of done ≡ user) others }
+            × FetchesEach others self.old.book.inner self.new.book.inner × All (λ done. user_of_task done ≡ user) others }
         ensures all { (length own.new.hand ≡ MAX_IN_HAND) ⊎ HasNoResult user self.new.book.inner }
         ensures kept { boxes_of self.new.book + length own.new.hand
             ≡ boxes_of self.old.book + length own.old.hand }
@@ -290,8 +294,8 @@ impl<L: Ledger> PoolState<L> {
 
     /// Adds all boxes of an end to the spare ones of the pool.
     pub(crate) fn put_all_by(&mut self, own: EndBoxes)
-        ensures kept { boxes_of self.old.book + box_count own ≤ self.old.book.made
-            → boxes_of self.new.book ≡ boxes_of self.old.book + box_count own }
+        ensures kept { boxes_of self.old.book + end_box_count own ≤ self.old.book.made
+            → boxes_of self.new.book ≡ boxes_of self.old.book + end_box_count own }
         ensures stays { self.new ≡ record self.old { book = record self.old.book { spare = self.new.book.spare } } }
     {
         let mut left = own;
@@ -299,6 +303,17 @@ impl<L: Ledger> PoolState<L> {
             self.put_by(lent);
         }
         left.let_go();
+    }
+
+    /// Takes home what an end had: adds its boxes to the spare ones, and withdraws every entry of its user if it was for one user.
+    pub(crate) fn take_home(&mut self, own: EndBoxes, user: Option<u8>)
+        ensures book { TakesHome own user self.old.book self.new.book }
+        ensures stays { self.new ≡ record self.old { book = self.new.book } }
+    {
+        self.put_all_by(own);
+        if let Some(user) = user {
+            self.withdraw(user);
+        }
     }
 
     /// Notes that a worker waits for a task.
@@ -351,11 +366,11 @@ impl<L: Ledger> PoolState<L> {
         self.closed = true;
     }
 
-    /// Returns whether the pool is closed.
-    pub(crate) fn is_closed(&self) -> bool
-        ensures { result ≡ self.now.closed }
+    /// Returns that the pool is closed, if it is.
+    pub(crate) fn closed(&self) -> Option<LockClosed>
+        ensures { is_some result ≡ self.now.closed }
     {
-        self.closed
+        self.closed.then_some(LockClosed(()))
     }
 
     /// Returns whether no task can be posted before an entry leaves the book or a box becomes spare.

@@ -4,6 +4,7 @@ ghost use Rattle.std.specs.Prelude.{◌≡◌, ◌≤◌, sum, vec_len};
 use crate::lock_pool::LockPool;
 use lj_end::{Gate, Share, merged};
 use lj_table::Table;
+use lj_tile::TableKernel;
 use std::sync::Wait;
 use std::sync::ledger::Ledger;
 
@@ -18,6 +19,7 @@ pub fn work<L: Ledger, G: Gate, R: Wait>(
 ) -> Share<L>
     ensures { share ≤ result }
 {
+    let kernel = TableKernel::new(table);
     let mut share = share;
     let mut taken = pool.take(rt);
     for _ in rt.forever() {
@@ -28,7 +30,7 @@ pub fn work<L: Ledger, G: Gate, R: Wait>(
             taken = pool.hand_back(rt, lent);
         } else {
             gate.between(lent.task().name());
-            taken = pool.exchange(rt, lent.compute(table), &mut share);
+            taken = pool.exchange(rt, lent.compute(&kernel), &mut share);
         }
     }
     share

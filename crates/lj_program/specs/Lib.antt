@@ -1,6 +1,6 @@
 pub mod Outcomes
 pub mod Conversations
-pub mod Named
+pub mod NamedUsers
 pub mod Printed
 pub mod Limits
-pub mod Entries
+pub mod Admissions

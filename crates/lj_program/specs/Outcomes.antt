@@ -1,8 +1,10 @@
 -- The outcome of a run, and the faults of the program.
-use Rattle.std.specs.Prelude.{◌≡◌, ℕ, Result, Ok, Err}
+use Rattle.std.specs.Prelude.{◌≡◌, ℕ, Bool, true, false, Result, Ok, Err}
 use Rattle.lj_engine.specs.declared.served.Served.{Served}
 use Rattle.lj_engine.specs.declared.served.Served.TheVariants.{End, Bye, Ended, ReadFault, WriteFault}
 use Rattle.lj_engine.specs.declared.served.Served.TheVariants.{PoolClosed, TooManyStrays}
+use Rattle.lj_visit.specs.declared.visiting.Visited.{Visited}
+use Rattle.lj_visit.specs.declared.visiting.Visited.TheVariants.{NotWelcomed, Attended}
 use Rattle.lj_program.specs.declared.input.text.TextFault.{TextFault}
 use Rattle.lj_program.specs.declared.input.text.TextFault.TheVariants as texts
 use Rattle.lj_program.specs.declared.program_fault.ProgramFault.{ProgramFault}
@@ -20,6 +22,12 @@ ComesTo ReadFault outcome = outcome ≡ Err Read
 ComesTo WriteFault outcome = outcome ≡ Err Write
 ComesTo PoolClosed outcome = ⊥
 ComesTo TooManyStrays outcome = ⊥
+
+-- a write has failed in a visit
+abbrev pub is_write_fault : Visited → Bool
+is_write_fault NotWelcomed = true
+is_write_fault (Attended WriteFault) = true
+is_write_fault visited = false
 
 -- the exit status of a program that failed
 abbrev pub status_of : ProgramFault → ℕ

@@ -5,12 +5,12 @@ use Rattle.std.specs.Fmt.{decimal}
 use Rattle.std.specs.List.{flat_map}
 use Rattle.std.specs.Io.KnownBytes.{Appends}
 use Rattle.bstr.specs.Text.{lines_of}
-use Rattle.lj_access.specs.Users.{names}
+use Rattle.lj_access.specs.UserLists.{user_names}
 use Rattle.lj_access.specs.declared.user.User.{User}
 use Rattle.lj_world.specs.declared.event.Event.{Event}
 use Rattle.lj_world.specs.declared.transcript.Entry.{Entry}
 use Rattle.lj_world.specs.Runs.{IsTranscript}
-use Rattle.lj_world.specs.Laws.{AgreesWithEveryRun}
+use Rattle.lj_world.specs.RunLaws.{AgreesWithEveryRun}
 
 -- the prefix of each line: the name of the user and the number of the connection, a blank after each
 abbrev pub head : List ℕ → ℕ → List ℕ
@@ -40,7 +40,7 @@ pub record IsPrintedRun (bytes : List ℕ) : Type 0 where
   pub entries : List Entry
   pub is_run : IsTranscript users events entries
   pub headline : AgreesWithEveryRun users events entries
-  pub printed_so : bytes ≡ printed (names users) entries
+  pub printed_so : bytes ≡ printed (user_names users) entries
 
 -- what was written is a printed run
 abbrev pub WritesRun : Option (List ℕ) → Option (List ℕ) → Type 0

@@ -1,8 +1,9 @@
 //! One user served over a reader and a writer.
-ghost use Rattle.std.specs.Prelude.{◌≡◌, IfErr};
+ghost use Rattle.std.specs.Prelude.{◌≡◌, false, Err, IfErr};
 ghost use Rattle.lj_wire.specs.Ends.{Rises};
 ghost use Rattle.lj_program.specs.Conversations.{Converses};
 ghost use Rattle.lj_program.specs.Outcomes.{ComesTo, IsOfRun};
+ghost use Rattle.lj_program.specs.declared.program_fault.ProgramFault.TheVariants.{Write};
 ghost use Rattle.lj_engine.specs.declared.served.Served.TheVariants.{PoolClosed, ReadFault, TooManyStrays, WriteFault};
 
 use crate::program_fault::ProgramFault;
@@ -34,10 +35,7 @@ pub fn run<R: Read + Drop, W: Write + Drop>(
     let source = CountedReading::new(Asked::reader(reader));
     let sink = HeldWriting::new(alloc, Asked::writer(writer))?;
     let (served, _, mut sink) = converse(alloc, quota, source, sink);
-    if served != Served::WriteFault && sink.flush().is_err() {
-        return Err(ProgramFault::Write);
-    }
-    outcome(served)
+    finish(served, &mut sink)
 }
 
 /// Answers the items of a source on a sink, as those of one user with this quota and no sessions, until the input
@@ -59,6 +57,20 @@ fn converse<R: Source + Drop, W: Sink>(
     let state = UserState::new(alloc, quota);
     let (_, served, source) = serve(alloc, state, ONLY_USER, source, &mut sink, &mut pool);
     (served, source, sink)
+}
+
+/// Flushes the last replies, unless a write has failed, and returns the outcome of the run.
+fn finish<W: Sink>(served: Served, sink: &mut W) -> Result<(), ProgramFault<'static>>
+    requires never_closed { served ≡ PoolClosed → ⊥ }
+    requires few_strays { served ≡ TooManyStrays → ⊥ }
+    ensures sent { (result ≡ Err Write → ⊥) → W.unflushed sink.new ≡ false }
+    ensures outcome { (result ≡ Err Write → ⊥) → ComesTo served result }
+    ensures fault { IfErr result IsOfRun }
+{
+    if served != Served::WriteFault && sink.flush().is_err() {
+        return Err(ProgramFault::Write);
+    }
+    outcome(served)
 }
 
 /// Returns the outcome of a run whose replies are written, by how serving ended.

@@ -1,6 +1,6 @@
 //! Replay of schedules: their events happen in a world, and the replies are printed.
 ghost use Rattle.std.specs.Prelude.{◌≡◌, ◌≢◌, ◌++◌, IfOk, IfErr, OnOk};
-ghost use Rattle.lj_access.specs.Users as listed;
+ghost use Rattle.lj_access.specs.UserLists as listed;
 ghost use Rattle.lj_wire.specs.Ends.{Rises};
 ghost use Rattle.lj_program.specs.Printed.{printed, printed_among, printed_entry};
 ghost use Rattle.lj_program.specs.Printed.{IsPrintedRun, WritesRun, BeginsRun};
@@ -54,7 +54,7 @@ fn printed_run(alloc: Global, bytes: &[u8]) -> Result<Vec<u8>, ReplayFault>
 
 /// Returns the names of users, in their order.
 fn names(alloc: Global, users: &[User]) -> Result<Vec<Name>, AllocError>
-    ensures { IfOk result (λ names. names.items ≡ listed.names users.now) }
+    ensures { IfOk result (λ names. names.items ≡ listed.user_names users.now) }
 {
     users.iter().map(|user| user.name.copy()).collect(alloc)
 }

@@ -9,7 +9,7 @@ use Rattle.crossbeam_queue.specs.Fifo.{Pushes, Pops, Forks, Merges, Learns}
 use Rattle.crossbeam_queue.proofs.Lists.{at_set, at_snoc}
 use Rattle.lj_queue.specs.declared.open_task.OpenTask.{OpenTask}
 use Rattle.lj_queue.specs.declared.rule.PassHistory.{PassHistory}
-use Rattle.lj_queue.specs.Balance.{Balanced, IdleIsEmpty, Leaves, all_parts, history_of, joined_history, with_popped, with_pushed}
+use Rattle.lj_queue.specs.Balance.{Balanced, IdleIsEmpty, LeavesTasks, all_parts, history_of, joined_history, with_popped, with_pushed}
 
 -- a sum after a change of one view
 total_set : (f : PassHistory → ℕ) (views : List PassHistory) (port : ℕ) (v w : PassHistory) → get_elem? views port ≡ some v
@@ -165,7 +165,7 @@ alone f empty views port v at whole idle =
     spent = history_of 0 [] []
 
 pub learns : (port : ℕ) (v : PassHistory) → v.parts ≡ all_parts
-    → Learns Balanced port v (λ items. Leaves v.pushed v.popped items)
+    → Learns Balanced port v (λ items. LeavesTasks v.pushed v.popped items)
 learns port v all items views b at h =
     let whole = b.parts ∙ sym all in
     let pushed = alone (pushed_weight h) (λ u e. ap (sum_by h) e.0) views port v at whole b.idle in

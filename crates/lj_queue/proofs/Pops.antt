@@ -3,7 +3,7 @@ use Rattle.std.proofs.Common.{◌≡◌, ℕ, ◌+◌, ◌-◌, ◌≤◌, [], �
 use Rattle.std.proofs.lemmas.List.{length-append}
 use Rattle.std.proofs.lemmas.List.Elements.{All-nil, All-push}
 use Rattle.std.proofs.lemmas.List.Sums.{sum_by_push}
-use Rattle.lj_tile.specs.declared.task_name.TaskName.{TaskName}
+use Rattle.lj_task.specs.declared.task_name.TaskName.{TaskName}
 use Rattle.lj_queue.specs.declared.open_task.OpenTask.{OpenTask}
 use Rattle.lj_queue.specs.PoolPass.{PopsFor, PoolPass, with_pop, with_push}
 

@@ -8,9 +8,9 @@ use Rattle.crossbeam_queue.specs.Fifo.{Held}
 use Rattle.crossbeam_queue.specs.Passes.{Pass, view, IsSamePass}
 use Rattle.lj_queue.specs.declared.open_task.OpenTask.{OpenTask}
 use Rattle.lj_queue.specs.declared.rule.PassHistory.{PassHistory}
-use Rattle.lj_queue.specs.Balance.{Leaves, all_parts, joined_history}
+use Rattle.lj_queue.specs.Balance.{LeavesTasks, all_parts, joined_history}
 use Rattle.lj_queue.specs.PoolPass.{IsCounted, PoolPass, pass_of}
-use Rattle.lj_queue.specs.Settling.{Gathers, LeavesOf}
+use Rattle.lj_queue.specs.Settling.{GathersPasses, LeavesOf}
 
 no_item : {X : Type 0} (xs : List X) → length xs ≡ 0 → xs ≡ []
 no_item [] none = refl
@@ -41,10 +41,10 @@ module _ (of : PassHistory → List OpenTask) (its : PoolPass → List OpenTask)
 
 module _ (table : TableId) (count : ℕ) (all : List PoolPass) where
   pub takes_in : (rest later : List PoolPass) (x : PoolPass) (into new other : Pass OpenTask PassHistory) (pushed popped p q : ℕ)
-      → Gathers table count all rest into pushed popped → rest ≡ x ∷ later → IsSamePass into new
+      → GathersPasses table count all rest into pushed popped → rest ≡ x ∷ later → IsSamePass into new
       → view new ≡ joined_history (view into) (view other) → pass_of x.number other ≡ x
       → IsCounted table other (length x.pushed) (length x.popped) → p ≡ length x.pushed → q ≡ length x.popped
-      → p < 2 ^ 64 → q < 2 ^ 64 → Gathers table count all later new (pushed + p) (popped + q)
+      → p < 2 ^ 64 → q < 2 ^ 64 → GathersPasses table count all later new (pushed + p) (popped + q)
   takes_in rest later x into new other pushed popped p q was is same both trace counted p_is q_is p_most q_most =
       record {
         is_of = record {
@@ -63,37 +63,37 @@ module _ (table : TableId) (count : ℕ) (all : List PoolPass) where
         popped_weight = λ h. weighs (λ v. v.popped) (λ t. t.popped) into new other x both trace refl refl h later _ (at.popped_weight h);
       }
     where
-      at : Gathers table count all (x ∷ later) into pushed popped
-      at = subst (λ l. Gathers table count all l into pushed popped) is was
+      at : GathersPasses table count all (x ∷ later) into pushed popped
+      at = subst (λ l. GathersPasses table count all l into pushed popped) is was
 
   -- the pass that takes them in has some part: fewer than all are left
   pub some_part : (rest : List PoolPass) (into : Pass OpenTask PassHistory) (pushed popped : ℕ)
-      → Gathers table count all rest into pushed popped → 0 < (view into).parts
+      → GathersPasses table count all rest into pushed popped → 0 < (view into).parts
   some_part rest into pushed popped at =
       omega (arith, at.parts, at.most, at.pushed_most)
 
   -- the pass that took all in has every part
   pub every_part : (rest : List PoolPass) (into : Pass OpenTask PassHistory) (pushed popped : ℕ)
-      → Gathers table count all rest into pushed popped → length rest ≡ 0 → (view into).parts ≡ all_parts
+      → GathersPasses table count all rest into pushed popped → length rest ≡ 0 → (view into).parts ≡ all_parts
   every_part rest into pushed popped at is = omega (arith, at.parts, is)
 
   pub leaves_of : (rest : List PoolPass) (into : Pass OpenTask PassHistory) (pushed popped left : ℕ)
-      → Gathers table count all rest into pushed popped → length rest ≡ 0
-      → Held left (λ items. Leaves (view into).pushed (view into).popped items) → LeavesOf all left
+      → GathersPasses table count all rest into pushed popped → length rest ≡ 0
+      → Held left (λ items. LeavesTasks (view into).pushed (view into).popped items) → LeavesOf all left
   leaves_of rest into pushed popped left was is held = record {
     tickets = held.0;
     are_left = held.1;
     same = λ h. omega (arith, held.2 h, at.pushed_weight h, at.popped_weight h);
   }
     where
-      at : Gathers table count all [] into pushed popped
-      at = subst (λ l. Gathers table count all l into pushed popped) (no_item rest is) was
+      at : GathersPasses table count all [] into pushed popped
+      at = subst (λ l. GathersPasses table count all l into pushed popped) (no_item rest is) was
 
 ones : {X : Type 0} (xs : List X) → sum_by (λ _. 1) xs ≡ length xs
 ones [] = refl
 ones (x ∷ xs) = omega (arith, sum_by-cons (λ _. 1) x xs, ones xs)
 
 pub left_is : (pushed popped left : ℕ) (ps qs : List OpenTask) → pushed ≡ length ps → popped ≡ length qs
-    → Held left (λ items. Leaves ps qs items) → pushed ≡ popped + left
+    → Held left (λ items. LeavesTasks ps qs items) → pushed ≡ popped + left
 left_is pushed popped left ps qs p q held =
     omega (arith, p, q, held.1, held.2 (λ _. 1), ones ps, ones qs, ones held.0)

@@ -27,8 +27,8 @@ abbrev pub joined_history : PassHistory → PassHistory → PassHistory
 joined_history v w = history_of (v.parts + w.parts) (v.pushed ++ w.pushed) (v.popped ++ w.popped)
 
 -- the pushed tasks are those popped together with these, each as often: for every weight the sums agree
-abbrev pub Leaves : List OpenTask → List OpenTask → List OpenTask → Type 0
-Leaves pushed popped tickets = (h : OpenTask → ℕ) → sum_by h pushed ≡ sum_by h popped + sum_by h tickets
+abbrev pub LeavesTasks : List OpenTask → List OpenTask → List OpenTask → Type 0
+LeavesTasks pushed popped tickets = (h : OpenTask → ℕ) → sum_by h pushed ≡ sum_by h popped + sum_by h tickets
 
 -- a pass without parts has pushed and popped nothing
 abbrev pub IdleIsEmpty : List PassHistory → Type 0

@@ -1,6 +1,6 @@
 -- The state under the lock of a pool with a queue: for each user a list of results and the number of the present end.
 use Rattle.std.specs.Prelude.{ℕ, ◌+◌, ◌%◌, Bool, false, List, replicate, slice_index_or, slice_set, Option, None}
-use Rattle.lj_tile.specs.Task.{Task}
+use Rattle.lj_task.specs.Task.{Task}
 use Rattle.lj_end.specs.declared.waking.TheConstants.{WAIT_QUEUES}
 use Rattle.lj_queue.specs.ResultList.{ResultList, empty_list, with_last}
 use Rattle.lj_queue.specs.declared.mailboxes.TheConstants.{USERS}

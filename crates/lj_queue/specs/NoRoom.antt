@@ -1,8 +1,9 @@
 -- Why a task was not posted to a pool with a queue.
 use Rattle.std.specs.Prelude.{◌≡◌, ◌-◌, ◌^◌, ⊤, ℕ, Option, cond, is_some}
-use Rattle.lj_tile.specs.Task.{Task}
+use Rattle.lj_task.specs.Task.{Task}
 use Rattle.lj_end.specs.declared.pool.NotPosted.{NotPosted}
 use Rattle.lj_end.specs.declared.pool.NotPosted.TheVariants.{Closed, Full}
+use Rattle.lj_queue.specs.declared.mailboxes.QueueClosed.{QueueClosed}
 use Rattle.lj_queue.specs.declared.no_room.FullCause.{FullCause}
 use Rattle.lj_queue.specs.declared.no_room.FullCause.TheVariants.{NoBox, PassSpent, QueueFull}
 use Rattle.lj_queue.specs.declared.no_room.PostFault.{PostFault}
@@ -22,9 +23,14 @@ IsCause (QueueFull refused) boxes pushed = refused.pushed ≡ pushed
 -- the pool is closed, or there was this cause
 abbrev pub IsCauseOf : PostFault → ℕ → ℕ → Type 0
 IsCauseOf (NoRoom cause) boxes pushed = IsCause cause boxes pushed
-IsCauseOf PoolClosed boxes pushed = ⊤
+IsCauseOf (PoolClosed closed) boxes pushed = ⊤
+
+-- the pool is closed
+abbrev pub SaysClosed : PostFault → Type 0
+SaysClosed (NoRoom cause) = ⊥
+SaysClosed (PoolClosed closed) = ⊤
 
 -- the reason that a post returns: the pool is closed, or full
-abbrev pub reason_of : PostFault → NotPosted
+abbrev pub reason_of : PostFault → NotPosted QueueClosed
 reason_of (NoRoom cause) = Full
-reason_of PoolClosed = Closed
+reason_of (PoolClosed closed) = Closed closed

@@ -1,6 +1,6 @@
 -- Open tasks.
 use Rattle.std.specs.Prelude.{ℕ}
-use Rattle.lj_tile.specs.Task.{Task}
+use Rattle.lj_task.specs.Task.{Task}
 
 -- a task, with the number of the end that posted it and that end's user
 pub record OpenTask : Type 0 where

@@ -3,13 +3,13 @@ use Rattle.std.specs.Prelude.{◌≡◌, ℕ, ◌+◌, ◌-◌, ◌<◌, ◌≤�
 use Rattle.std.specs.List.{All}
 use Rattle.atomic_table.specs.Seated.{TableId}
 use Rattle.crossbeam_queue.specs.Passes.{Pass, view}
-use Rattle.lj_tile.specs.Task.{Task}
-use Rattle.lj_tile.specs.declared.task_name.TaskName.{TaskName}
+use Rattle.lj_task.specs.Task.{Task}
+use Rattle.lj_task.specs.declared.task_name.TaskName.{TaskName}
 use Rattle.lj_end.specs.Seen.{Seen}
 use Rattle.lj_queue.specs.declared.open_task.OpenTask.{OpenTask}
 use Rattle.lj_queue.specs.declared.kept_boxes.TheConstants.{MAX_SPARE_BOXES}
 use Rattle.lj_queue.specs.declared.rule.PassHistory.{PassHistory}
-use Rattle.lj_queue.specs.Balance.{all_parts, history_of, Leaves}
+use Rattle.lj_queue.specs.Balance.{all_parts, history_of, LeavesTasks}
 
 -- an open task that an end posted for its user
 abbrev pub open_task_of : ℕ → ℕ → Task → OpenTask
@@ -128,6 +128,6 @@ pub record PopsFor (results : ℕ) (may_send_back : TaskName → Type 0) (old ne
   pub others : List OpenTask
   pub popped : new.popped ≡ old.popped ++ more
   pub pushed : new.pushed ≡ old.pushed ++ again
-  pub each : Leaves more again others
+  pub each : LeavesTasks more again others
   pub sent_back : All (λ ticket. may_send_back ticket.task.name) again
   pub enough : results ≤ length others

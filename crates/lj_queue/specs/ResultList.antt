@@ -4,7 +4,7 @@ use Rattle.std.specs.List.{All}
 use Rattle.std.specs.Global.{Global}
 use Rattle.std.specs.VecDeque.{deque_len, deque_capacity}
 use Rattle.std.specs.declared.collections.VecDeque.{VecDeque}
-use Rattle.lj_tile.specs.Task.{Task}
+use Rattle.lj_task.specs.Task.{Task}
 use Rattle.lj_queue.specs.declared.result_list.TheConstants.{MAX_RESULTS}
 
 -- a user, and the tasks of the results kept for the user, in the order in which they are fetched
@@ -31,7 +31,7 @@ pub record HasPlaces (user : ℕ) (results : VecDeque Task Global) : Type 0 wher
   pub whose : All (λ done. done.name.label.user ≡ user) results.items
 
 -- Where results of this user were fetched, there are some in the list; else it is as it was.
-pub record Fetches (user : ℕ) (fetched : Bool) (old new : ResultList) : Type 0 where
+pub record FetchesResults (user : ℕ) (fetched : Bool) (old new : ResultList) : Type 0 where
   pub whose : new.user ≡ user
   pub some : fetched ≡ true → 0 < length new.results
   pub stays_empty : fetched ≡ false → new ≡ old

@@ -28,7 +28,7 @@ pub record LeavesOf (passes : List PoolPass) (left : ℕ) : Type 0 where
 
 -- One pass takes in all passes, one after the other: those in `rest` are still to come, and the others pushed `pushed` tasks and
 -- popped `popped`.
-pub record Gathers (table : TableId) (count : ℕ) (all rest : List PoolPass) (into : Pass OpenTask PassHistory) (pushed popped : ℕ)
+pub record GathersPasses (table : TableId) (count : ℕ) (all rest : List PoolPass) (into : Pass OpenTask PassHistory) (pushed popped : ℕ)
     : Type 0 where
   pub is_of : IsOf table into
   pub most : count < 2 ^ 64

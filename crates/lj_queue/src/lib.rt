@@ -1,6 +1,7 @@
 //! A pool of workers whose open tasks lie in a queue that no lock guards.
 #![tactic(auto)]
 
+mod free_passes;
 mod kept_boxes;
 mod mailboxes;
 mod no_room;
@@ -16,6 +17,8 @@ mod rule;
 mod settled;
 mod spares;
 
+pub use free_passes::FreePasses;
+pub use mailboxes::QueueClosed;
 pub use open_task::OpenTask;
 pub use pass::{PoolIdentity, PoolPass};
 pub use queue_end::QueueEnd;

@@ -1,5 +1,5 @@
 //! The state under the lock of a pool: results for its users, and the ledger's book of all results.
-ghost use Rattle.std.specs.Prelude.{◌≡◌, ◌+◌, ◌-◌, ◌<◌, ◌^◌, ◌↔◌, [], None, Some, length, true, false, unwrap_or, vec_len, IfErr, IfNone, IfOk, IfSome, IsOk, IsTrue, OnErr, OnOk};
+ghost use Rattle.std.specs.Prelude.{◌≡◌, ◌+◌, ◌-◌, ◌<◌, ◌^◌, ◌↔◌, [], None, Some, is_some, length, true, false, unwrap_or, vec_len, IfErr, IfNone, IfOk, IfSome, IsOk, IsTrue, OnErr, OnOk};
 ghost use Rattle.std.specs.List.{All};
 ghost use Rattle.lj_queue.specs.ResultList.{empty_list};
 ghost use Rattle.lj_queue.specs.Mailboxes.{mailbox_of, list_of, new_mailboxes, present_of, with_end, with_result, without_results};
@@ -25,6 +25,10 @@ pub(crate) fn mailbox_of(user: u8) -> usize
 {
     usize::from(user) % USERS
 }
+
+/// That a pool is closed. Only the mailboxes of a closed pool make one.
+#[derive(Clone, Copy, Debug)]
+pub struct QueueClosed(());
 
 /// The results and the present end of each user, and the ledger's book of the results that were given.
 #[derive(Drop)]
@@ -179,11 +183,11 @@ impl<L: Ledger> Mailboxes<L> {
         self.closed = true;
     }
 
-    /// Returns whether the pool is closed.
-    pub(crate) fn is_closed(&self) -> bool
-        ensures { result ≡ self.now.closed }
+    /// Returns that the pool is closed, if it is.
+    pub(crate) fn closed(&self) -> Option<QueueClosed>
+        ensures { is_some result ≡ self.now.closed }
     {
-        self.closed
+        self.closed.then_some(QueueClosed(()))
     }
 
     /// Returns the number of results given, which is the amount of all parts of the ledger together.

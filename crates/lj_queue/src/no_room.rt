@@ -2,6 +2,7 @@
 ghost use Rattle.std.specs.Prelude.{◌≡◌};
 ghost use Rattle.lj_queue.specs.NoRoom.{reason_of};
 
+use crate::mailboxes::QueueClosed;
 use crate::pass::RefusedPush;
 use lj_end::NotPosted;
 
@@ -22,16 +23,16 @@ pub(crate) enum PostFault {
     /// There was no room for it.
     NoRoom(FullCause),
     /// The pool is closed.
-    Closed,
+    Closed(QueueClosed),
 }
 
-impl From<PostFault> for NotPosted {
+impl From<PostFault> for NotPosted<QueueClosed> {
     ghost from_gives = { λ fault reason. reason ≡ reason_of fault };
 
-    fn from(fault: PostFault) -> NotPosted {
+    fn from(fault: PostFault) -> NotPosted<QueueClosed> {
         match fault {
             PostFault::NoRoom(_) => NotPosted::Full,
-            PostFault::Closed => NotPosted::Closed,
+            PostFault::Closed(closed) => NotPosted::Closed(closed),
         }
     }
 }

@@ -1,33 +1,36 @@
 //! One connection's end of a pool with a queue.
-ghost use Rattle.std.specs.Prelude.{◌≡◌, ◌+◌, ◌<◌, ◌≤◌, ◌↔◌, [], ◌∷◌, true, false, length, IfErr, IsTrue, OnErr, OnOk};
-ghost use Rattle.lj_end.specs.declared.pool.NotPosted.TheVariants.{Closed};
+ghost use Rattle.std.specs.Prelude.{◌≡◌, ◌+◌, ◌<◌, ◌≤◌, ◌↔◌, [], ◌∷◌, true, false, length, IfErr, IfNone, IsTrue, OnErr, OnOk, OnSome};
 ghost use Rattle.lj_end.specs.Accounts.{IsKnownByName};
+ghost use Rattle.lj_end.specs.RefusedPosts.{IsPoolClosed};
 ghost use Rattle.lj_end.specs.Seen.{IsHandedOut, IsPosted, SameOwed, StaysClosed, nothing_seen};
-ghost use Rattle.lj_queue.specs.declared.no_room.PostFault.TheVariants.{Closed as PoolClosed};
-ghost use Rattle.lj_queue.specs.NoRoom.{IsCauseOf};
+ghost use Rattle.lj_queue.specs.NoRoom.{IsCauseOf, SaysClosed};
 ghost use Rattle.lj_queue.specs.PoolPass.{HasPushed, HasPushedNothing, IsSameEnd};
 
+use crate::free_passes::FreePasses;
 use crate::kept_boxes::MAX_SPARE_BOXES;
+use crate::mailboxes::QueueClosed;
 use crate::no_room::PostFault;
 use crate::pass::{PassBoxes, PoolIdentity, PoolPass};
 use crate::poster::Poster;
 use crate::queue_pool::QueuePool;
 use lj_book::TaskBox;
-use lj_end::{Account, MAX_OWED, NotPosted, Pool, TASKS_AT_ONCE, UnsignalledPosts};
-use lj_tile::{DoneRef, SharedFrame, TaskRef};
+use lj_end::{Account, MAX_OWED, NotPosted, PoolEnd, TASKS_AT_ONCE, UnsignalledPosts};
+use lj_task::{DoneRef, SharedFrame, TaskRef};
 use std::marker::Model;
 use std::mem;
 use std::sync::Wait;
 
 /// An end of a pool for one user, with a pass. It keeps a copy of each task that is owed to it, and allocates no memory. It
-/// hands out results of its user's tasks alone; the result of another user's task that it posted is dropped.
+/// hands out results of its user's tasks alone; the result of another user's task that it posted is dropped. Where one with a free
+/// pass is dropped, the pass is free again, and its user's results leave the pool.
 ///
-/// Promise: it is a `Pool`, for every number of workers, so what is served over it is the same dialogue.
-#[derive(Drop)]
+/// Promise: it is a `PoolEnd`, for every number of workers, so what is served over it is the same dialogue.
 pub struct QueueEnd<'p, L: PoolIdentity, R: Wait> {
     rt: &'p R,
     pool: &'p QueuePool<L>,
-    account: Account,
+    /// Where its pass goes, if that was a free one.
+    free: Option<&'p FreePasses<L>>,
+    account: Account<QueueClosed>,
     /// Its pass, its number and its user.
     poster: Poster<L>,
     /// The result that was handed out last, the results that are handed out next, and boxes for the next tasks.
@@ -66,6 +69,7 @@ impl<'p, L: PoolIdentity, R: Wait> QueueEnd<'p, L, R> {
     pub(crate) fn new(
         rt: &'p R,
         pool: &'p QueuePool<L>,
+        free: Option<&'p FreePasses<L>>,
         pass: PoolPass<L>,
         number: u64,
         user: u8,
@@ -82,6 +86,7 @@ impl<'p, L: PoolIdentity, R: Wait> QueueEnd<'p, L, R> {
         QueueEnd {
             rt,
             pool,
+            free,
             account: Account::new(),
             poster: Poster {
                 counted,
@@ -104,10 +109,14 @@ impl<'p, L: PoolIdentity, R: Wait> QueueEnd<'p, L, R> {
         let QueueEnd {
             rt,
             pool,
+            free: _free,
+            account: _account,
             poster,
             mut boxes,
+            is_uncounted: _is_uncounted,
             mut unsignalled,
-            ..
+            took_all: _took_all,
+            older_frame: _older_frame,
         } = self;
         pool.wake_workers(rt, unsignalled.take_due(1));
         let Poster { counted, user, .. } = poster;
@@ -116,7 +125,22 @@ impl<'p, L: PoolIdentity, R: Wait> QueueEnd<'p, L, R> {
     }
 }
 
-impl<'p, L: PoolIdentity, R: Wait> Pool for QueueEnd<'p, L, R> {
+impl<L: PoolIdentity, R: Wait> Drop for QueueEnd<'_, L, R> {
+    /// Finishes the end. If it has a free pass, its user's results leave the pool, and the pass is free again.
+    fn drop(self) {
+        let (rt, pool, free) = (self.rt, self.pool, self.free);
+        let user = self.poster.user;
+        let pass = self.finish();
+        if let Some(free) = free {
+            pool.withdraw(rt, user);
+            free.give_back(rt, pass);
+        }
+    }
+}
+
+impl<'p, L: PoolIdentity, R: Wait> PoolEnd for QueueEnd<'p, L, R> {
+    type Closed = QueueClosed;
+
     ghost use Rattle.lj_end.specs.declared.pool.TheConstants.{MAX_OWED};
 
     ghost seen = { λ end. end.seen };
@@ -129,7 +153,7 @@ impl<'p, L: PoolIdentity, R: Wait> Pool for QueueEnd<'p, L, R> {
 
     ghost uncounted = { λ end. end.uncounted };
 
-    fn post_from(&mut self, task: &TaskRef<'_>, wait: bool) -> Result<(), NotPosted>
+    fn post_from(&mut self, task: &TaskRef<'_>, wait: bool) -> Result<(), NotPosted<QueueClosed>>
         requires room { length self.old.seen.owed < MAX_OWED }
         ensures pushed { OnOk result (HasPushed task.now self.old self.new) }
         ensures nothing { OnErr result (HasPushedNothing self.old self.new) }
@@ -137,8 +161,8 @@ impl<'p, L: PoolIdentity, R: Wait> Pool for QueueEnd<'p, L, R> {
         ensures kept { self.new.uncounted ≡ self.old.uncounted }
         ensures posted { OnOk result (IsPosted task.now self.old.seen self.new.seen) }
         ensures unchanged { OnErr result (SameOwed self.old.seen self.new.seen) }
-        ensures full { wait ≡ true → IfErr result (λ why. why ≡ Closed) }
-        ensures closed { IfErr result (λ why. why ≡ Closed → self.new.seen.closed ≡ true) }
+        ensures full { wait ≡ true → IfErr result IsPoolClosed }
+        ensures closed { IfErr result (λ why. IsPoolClosed why → self.new.seen.closed ≡ true) }
         ensures stays_closed { StaysClosed self.old.seen self.new.seen }
     {
         let posted = self.push(task, wait).map_err(NotPosted::from);
@@ -150,45 +174,32 @@ impl<'p, L: PoolIdentity, R: Wait> Pool for QueueEnd<'p, L, R> {
         posted
     }
 
-    fn fetch_uncounted(&mut self, _user: u8) -> bool
+    fn fetch_uncounted(&mut self, _user: u8) -> Result<(), QueueClosed>
         ensures pass { self.new.pass ≡ self.old.pass }
         ensures same_end { IsSameEnd self.old self.new }
-        ensures uncounted { result ≡ true → self.new.uncounted ≡ true }
-        ensures as_before { result ≡ false → self.new.uncounted ≡ self.old.uncounted }
+        ensures uncounted { OnOk result (self.new.uncounted ≡ true) }
+        ensures as_before { OnErr result (self.new.uncounted ≡ self.old.uncounted) }
         ensures again { self.old.uncounted ≡ true → self.new.last ≡ self.old.last }
-        ensures last { result ≡ false → self.new.last ≡ self.old.last }
-        ensures whose { self.old.uncounted ≡ false → result ≡ true → self.new.last.name.label.user ≡ self.old.user }
+        ensures last { OnErr result (self.new.last ≡ self.old.last) }
+        ensures whose { self.old.uncounted ≡ false → OnOk result (self.new.last.name.label.user ≡ self.old.user) }
         ensures boxes { self.old.boxes ≤ self.new.boxes }
-        ensures box_freed { self.old.uncounted ≡ false → result ≡ true → self.old.boxes < MAX_SPARE_BOXES
-            → self.new.boxes ≡ self.old.boxes + 1 }
-        ensures in_hand { self.old.uncounted ≡ false → result ≡ true → 0 < length self.old.hand
-            → self.old.hand ≡ self.new.last ∷ self.new.hand }
+        ensures box_freed { self.old.uncounted ≡ false → OnOk result (self.old.boxes < MAX_SPARE_BOXES
+            → self.new.boxes ≡ self.old.boxes + 1) }
+        ensures in_hand { self.old.uncounted ≡ false → OnOk result (0 < length self.old.hand
+            → self.old.hand ≡ self.new.last ∷ self.new.hand) }
         ensures unchanged { SameOwed self.old.seen self.new.seen }
-        ensures closed { result ≡ false → self.new.seen.closed ≡ true }
+        ensures closed { OnErr result (self.new.seen.closed ≡ true) }
         ensures stays_closed { StaysClosed self.old.seen self.new.seen }
     {
         if self.is_uncounted {
-            return true;
+            return Ok(());
         }
-        if self.is_closed() {
-            self.account.close();
-            return false;
-        }
-        if !self.refill_hand() {
-            self.wake_workers(1);
-            self.pool.fetch(
-                self.rt,
-                self.poster.user,
-                self.account.owed(),
-                &mut self.boxes.hand,
-            );
-            self.took_all = true;
+        if let Err(closed) = self.fill_hand() {
+            self.account.close(closed);
+            return Err(closed);
         }
         self.is_uncounted = self.hand_out();
-        if !self.is_uncounted {
-            self.account.close();
-        }
-        self.is_uncounted
+        Ok(())
     }
 
     fn poll_uncounted(&mut self, _user: u8) -> bool
@@ -211,32 +222,22 @@ impl<'p, L: PoolIdentity, R: Wait> Pool for QueueEnd<'p, L, R> {
         if self.is_uncounted {
             return true;
         }
-        self.is_uncounted = !self.is_closed() && self.refill_hand() && self.hand_out();
+        self.is_uncounted = self.note_closed().is_none() && self.refill_hand() && self.hand_out();
         if !self.is_uncounted {
             self.wake_workers(1);
         }
         self.is_uncounted
     }
 
-    fn count(&mut self)
+    fn count(&mut self, by_name: bool)
+        requires { by_name ≡ true → IsKnownByName self.old.seen.owed self.old.last }
         ensures unchanged { self.new ≡ record self.old { seen = self.new.seen; uncounted = false } }
         ensures handed_out { IsHandedOut self.old.last self.old.seen self.new.seen }
         ensures closed { self.new.seen.closed ≡ self.old.seen.closed }
         ensures stays_closed { StaysClosed self.old.seen self.new.seen }
     {
         self.is_uncounted = false;
-        self.account.count(self.boxes.last.done().task());
-    }
-
-    fn count_by_name(&mut self)
-        requires { IsKnownByName self.old.seen.owed self.old.last }
-        ensures unchanged { self.new ≡ record self.old { seen = self.new.seen; uncounted = false } }
-        ensures handed_out { IsHandedOut self.old.last self.old.seen self.new.seen }
-        ensures closed { self.new.seen.closed ≡ self.old.seen.closed }
-        ensures stays_closed { StaysClosed self.old.seen self.new.seen }
-    {
-        self.is_uncounted = false;
-        self.account.count_by_name(self.boxes.last.done().task());
+        self.account.count(self.boxes.last.done().task(), by_name);
     }
 
     fn fetched(&self) -> DoneRef<'_> {
@@ -247,37 +248,59 @@ impl<'p, L: PoolIdentity, R: Wait> Pool for QueueEnd<'p, L, R> {
         self.account.owed()
     }
 
-    fn is_full(&self) -> bool {
-        self.account.is_full()
-    }
-
     fn room(&self) -> usize
         ensures all { length self.now.seen.owed + result ≡ MAX_OWED }
         ensures none { result ≡ 0 ↔ (length self.now.seen.owed ≡ MAX_OWED) }
+        ensures owes { result ≡ 0 → 0 < length self.now.seen.owed }
         ensures within { 0 < result → length self.now.seen.owed + result ≤ MAX_OWED }
     {
-        MAX_OWED - self.account.owed()
+        self.account.room()
     }
 
-    fn closed(&self) -> bool {
+    fn is_closed(&self) -> bool {
         self.account.is_closed()
     }
 }
 
 impl<'p, L: PoolIdentity, R: Wait> QueueEnd<'p, L, R> {
-    /// Returns whether the pool is closed. If it is, the end drops the results in hand.
-    fn is_closed(&mut self) -> bool
-        ensures dropped { result ≡ true → self.new.hand ≡ [] }
-        ensures kept { result ≡ false → self.new.hand ≡ self.old.hand }
+    /// Returns that the pool is closed, if it is. Then the end drops the results in hand.
+    fn note_closed(&mut self) -> Option<QueueClosed>
+        ensures dropped { OnSome result (self.new.hand ≡ []) }
+        ensures kept { IfNone result (self.new.hand ≡ self.old.hand) }
         ensures unchanged { self.new ≡ record self.old { hand = self.new.hand } }
     {
-        let is_closed = self.pool.is_closed();
-        if is_closed {
+        let closed = self.pool.seen_closed(self.rt);
+        if closed.is_some() {
             self.pool
                 .spares
                 .clear(self.rt, &mut self.boxes.hand, self.poster.user);
         }
-        is_closed
+        closed
+    }
+
+    /// Fetches results if none is in hand, and waits until there is one.
+    ///
+    /// # Errors
+    /// The pool is closed.
+    fn fill_hand(&mut self) -> Result<(), QueueClosed>
+        ensures some { OnOk result (0 < length self.new.hand) }
+        ensures kept { OnOk result (0 < length self.old.hand → self.new.hand ≡ self.old.hand) }
+        ensures unchanged { self.new ≡ record self.old { hand = self.new.hand } }
+    {
+        if let Some(closed) = self.note_closed() {
+            return Err(closed);
+        }
+        if self.refill_hand() {
+            return Ok(());
+        }
+        self.wake_workers(1);
+        self.took_all = true;
+        self.pool.fetch(
+            self.rt,
+            self.poster.user,
+            self.account.owed(),
+            &mut self.boxes.hand,
+        )
     }
 
     /// Fetches the results that are there if none is in hand, unless all were fetched since the last call. Returns whether some are
@@ -327,7 +350,7 @@ impl<'p, L: PoolIdentity, R: Wait> QueueEnd<'p, L, R> {
         ensures nothing { OnErr result (HasPushedNothing self.old self.new) }
         ensures unchanged { self.new ≡ record self.old { pass = self.new.pass; boxes = self.new.boxes } }
         ensures cause { IfErr result (λ fault. IsCauseOf fault self.old.boxes (length self.old.pass.pushed)) }
-        ensures full { wait ≡ true → IfErr result (λ fault. fault ≡ PoolClosed) }
+        ensures full { wait ≡ true → IfErr result SaysClosed }
     {
         if self.poster.next.is_none() {
             self.poster.next = self.boxes.spare.pop();

@@ -2,12 +2,12 @@
 ghost use Rattle.std.specs.Prelude.{◌≡◌, ◌+◌, ◌≤◌, ◌<◌, None, Some, true, false, length, vec_len, IfErr, IfNone, IfOk, IfSome, IsSomeAnd, OnErr, OnOk};
 ghost use Rattle.std.specs.List.{All};
 ghost use Rattle.lj_end.specs.Seen.{nothing_seen};
-ghost use Rattle.lj_queue.specs.declared.no_room.PostFault.TheVariants.{Closed};
-ghost use Rattle.lj_queue.specs.NoRoom.{IsCause, IsCauseOf, boxes_in};
-ghost use Rattle.lj_queue.specs.ResultList.{Fetches, empty_list};
+ghost use Rattle.lj_queue.specs.NoRoom.{IsCause, IsCauseOf, SaysClosed, boxes_in};
+ghost use Rattle.lj_queue.specs.ResultList.{FetchesResults, empty_list};
 ghost use Rattle.lj_queue.specs.PoolPass.{AreUntouched, IsRootPass, with_post, with_push, with_pop};
 
-use crate::mailboxes::Mailboxes;
+use crate::free_passes::FreePasses;
+use crate::mailboxes::{Mailboxes, QueueClosed};
 use crate::no_room::{FullCause, PostFault};
 use crate::open_task::OpenTask;
 use crate::pass::{CountedPass, NotPushed, PoolIdentity, PoolPass};
@@ -21,7 +21,7 @@ use lj_book::{DoneBox, MAX_ENTRIES, TaskBox};
 use lj_end::{
     IdleWorkers, LOOKS, MAX_ENDS, Share, WAIT_QUEUES, lock_soon, shares_of, wait_queue_of, wake,
 };
-use lj_tile::TaskRef;
+use lj_task::TaskRef;
 use std::alloc::{AllocError, Global};
 use std::marker::Model;
 use std::sync::atomic::{AtomicBool, AtomicUsize, Ordering};
@@ -156,11 +156,33 @@ impl<L: PoolIdentity> QueuePool<L> {
         ensures pass { result.pass ≡ pass }
         ensures user { result.user ≡ user }
     {
+        let number = self.enter(rt, user);
+        QueueEnd::new(rt, self, None, pass, number, user)
+    }
+
+    /// Makes an end of the pool as `end` does, with a free pass, and waits until one is free. Once it is dropped, the pool has no
+    /// result of its user, and the pass is free again.
+    pub fn end_of<'p, R: Wait>(
+        &'p self,
+        rt: &'p R,
+        free: &'p FreePasses<L>,
+        user: u8,
+    ) -> QueueEnd<'p, L, R>
+        ensures seen { result.seen ≡ nothing_seen }
+        ensures user { result.user ≡ user }
+    {
+        let pass = free.take(rt);
+        let number = self.enter(rt, user);
+        QueueEnd::new(rt, self, Some(free), pass, number, user)
+    }
+
+    /// Gives the user's next end a number. After 2^64 - 1 ends it closes the pool, and the number is 0.
+    fn enter<R: Wait>(&self, rt: &R, user: u8) -> u64 {
         let entered = self.lock_mailboxes(rt).enter(rt, user, &self.spares);
         if entered.is_none() {
             self.close(rt);
         }
-        QueueEnd::new(rt, self, pass, entered.unwrap_or(0), user)
+        entered.unwrap_or(0)
     }
 
     /// Closes the pool: from now on no task is posted or taken and no result fetched.
@@ -194,10 +216,10 @@ impl<L: PoolIdentity> QueuePool<L> {
         ensures nothing { OnErr result (poster.new ≡ record poster.old { next = poster.new.next }) }
         ensures box_kept { OnErr result (boxes_in poster.old.next ≤ boxes_in poster.new.next) }
         ensures cause { IfErr result (λ fault. IsCauseOf fault (boxes_in poster.old.next) (length poster.old.pass.pushed)) }
-        ensures full { wait ≡ true → IfErr result (λ fault. fault ≡ Closed) }
+        ensures full { wait ≡ true → IfErr result SaysClosed }
     {
-        if self.is_closed() {
-            return Err(PostFault::Closed);
+        if let Some(closed) = self.seen_closed(rt) {
+            return Err(PostFault::Closed(closed));
         }
         match self.try_post(rt, poster, task) {
             Ok(()) => Ok(()),
@@ -277,14 +299,14 @@ impl<L: PoolIdentity> QueuePool<L> {
         ensures pushed { OnOk result (poster.new ≡ record (with_post poster.old task.now) { next = poster.new.next }) }
         ensures nothing { OnErr result (poster.new ≡ record poster.old { next = poster.new.next }) }
         ensures box_kept { OnErr result (boxes_in poster.old.next ≤ boxes_in poster.new.next) }
-        ensures closed { IfErr result (λ fault. fault ≡ Closed) }
+        ensures closed { IfErr result SaysClosed }
     {
         let mut mailboxes = self.lock_mailboxes(rt);
         self.waiting_posters.fetch_add(1, Ordering::SeqCst);
         for _ in rt.forever() {
-            if mailboxes.is_closed() {
+            if let Some(closed) = mailboxes.closed() {
                 self.waiting_posters.fetch_sub(1, Ordering::SeqCst);
-                return Err(PostFault::Closed);
+                return Err(PostFault::Closed(closed));
             }
             if self.try_post(rt, poster, task).is_ok() {
                 self.waiting_posters.fetch_sub(1, Ordering::SeqCst);
@@ -430,28 +452,42 @@ impl<L: PoolIdentity> QueuePool<L> {
         lock_soon(rt, &self.mailboxes)
     }
 
-    /// Returns whether the pool is closed.
-    pub(crate) fn is_closed(&self) -> bool {
+    /// Returns whether the pool is closed, or about to be.
+    fn is_closed(&self) -> bool {
         self.closed.load(Ordering::SeqCst)
     }
 
+    /// Returns that the pool is closed, if it is. It takes the lock of the mailboxes only then.
+    pub(crate) fn seen_closed<R: Wait>(&self, rt: &R) -> Option<QueueClosed> {
+        if !self.is_closed() {
+            return None;
+        }
+        self.lock_mailboxes(rt).closed()
+    }
+
     /// Fetches all results of the user that are there, in exchange for an empty list, and waits until there is one. `owed`
-    /// results are owed to the end. Returns false where the pool is closed.
+    /// results are owed to the end.
+    ///
+    /// # Errors
+    /// The pool is closed.
     pub(crate) fn fetch<R: Wait>(
         &self,
         rt: &R,
         user: u8,
         owed: usize,
         hand: &mut ResultList,
-    ) -> bool
+    ) -> Result<(), QueueClosed>
         requires { hand.old ≡ empty_list user }
-        ensures { Fetches user result hand.old hand.new }
+        ensures fetched { OnOk result (FetchesResults user true hand.old hand.new) }
+        ensures none { OnErr result (FetchesResults user false hand.old hand.new) }
     {
         let mut mailboxes = self.lock_mailboxes(rt);
         for _ in rt.forever() {
-            let fetched = mailboxes.hand_out(user, hand);
-            if fetched || mailboxes.is_closed() {
-                return fetched;
+            if mailboxes.hand_out(user, hand) {
+                return Ok(());
+            }
+            if let Some(closed) = mailboxes.closed() {
+                return Err(closed);
             }
             mailboxes.wait_queues.note_waiting(user, owed);
             mailboxes = self.results_ready[wait_queue_of(user)].wait(rt, mailboxes);
@@ -463,7 +499,7 @@ impl<L: PoolIdentity> QueuePool<L> {
     /// the pool is closed.
     pub(crate) fn poll<R: Wait>(&self, rt: &R, user: u8, hand: &mut ResultList) -> bool
         requires { hand.old ≡ empty_list user }
-        ensures { Fetches user result hand.old hand.new }
+        ensures { FetchesResults user result hand.old hand.new }
     {
         self.lock_mailboxes(rt).hand_out(user, hand)
     }

@@ -7,6 +7,7 @@ use crate::pass::{CountedPass, PoolIdentity, PoolPass};
 use crate::queue_pool::QueuePool;
 use lj_end::{Gate, Share, merged};
 use lj_table::Table;
+use lj_tile::TableKernel;
 use std::sync::Wait;
 
 /// Computes tasks of the pool until it is closed; each task passes the gate after it is taken and before it is computed. Returns
@@ -27,6 +28,7 @@ pub fn work_queue<L: PoolIdentity, G: Gate, R: Wait>(
     ensures never_falls { share ≤ result.0 }
     ensures of_its_own { PopsFor (result.0 - share) (G.sends_back gate.now) pass result.1 }
 {
+    let kernel = TableKernel::new(table);
     let mut share = share;
     let (mut counted, boxes) = pass.into_parts();
     for _ in rt.forever() {
@@ -36,7 +38,7 @@ pub fn work_queue<L: PoolIdentity, G: Gate, R: Wait>(
         if let Some(ticket) = kept(rt, pool, &mut counted, gate, ticket) {
             gate.between(ticket.task.task().name());
             let OpenTask { end, user, task } = ticket;
-            pool.give_or_put_by(rt, end, user, task.compute(table), &mut share);
+            pool.give_or_put_by(rt, end, user, task.compute(&kernel), &mut share);
         }
     }
     (share, PoolPass::new(counted, boxes))

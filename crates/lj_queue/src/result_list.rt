@@ -4,7 +4,7 @@ ghost use Rattle.lj_queue.specs.ResultList.{empty_list, with_first, with_last};
 
 use lj_book::DoneBox;
 use lj_end::MAX_OWED;
-use lj_tile::DoneRef;
+use lj_task::DoneRef;
 use std::alloc::{AllocError, Global};
 use std::collections::VecDeque;
 use std::marker::Model;

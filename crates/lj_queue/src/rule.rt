@@ -81,9 +81,9 @@ impl Lesson<OpenTask, PassHistory> for Popped {
 pub struct Total;
 
 impl Lesson<OpenTask, PassHistory> for Total {
-    ghost use Rattle.lj_queue.specs.Balance.{Leaves};
+    ghost use Rattle.lj_queue.specs.Balance.{LeavesTasks};
 
-    ghost fact = { λ v items. Leaves v.pushed v.popped items };
+    ghost fact = { λ v items. LeavesTasks v.pushed v.popped items };
 }
 
 /// The open tasks, in the order of their posts.

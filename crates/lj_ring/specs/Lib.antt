@@ -3,6 +3,7 @@ pub mod Places
 pub mod Arcs
 pub mod Spans
 pub mod Scale
+pub mod LaneArithmetic
 pub mod Bins
 pub mod Mix
 pub mod Kept

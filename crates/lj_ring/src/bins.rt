@@ -2,10 +2,9 @@
 ghost use Rattle.std.specs.Prelude.{ℕ, ◌≡◌, ◌≤◌, ◌<◌, ◌+◌, ◌-◌, ◌*◌, ◌/◌, ◌%◌, ◌^◌, slice_index};
 ghost use Rattle.lj_ring.specs.declared.scales.TheConstants.{MIN_SIGMA, CUTOFF_HALVES, BINS_TO_SQUARE};
 ghost use Rattle.lj_ring.specs.Kept as kept;
+ghost use Rattle.lj_ring.specs.LaneArithmetic.{lane_square};
 
-use crate::lane_arithmetic::{
-    differences, least, low, products, shifted_left, shifted_right, splat, squares, sums,
-};
+use crate::lanes::{u32_lanes, u64_lanes};
 use crate::scales::CUTOFF_HALVES;
 use std::simd::prelude::*;
 
@@ -45,8 +44,20 @@ pub(crate) fn squares_cut_off(x: u32x8, y: u32x8, z: u32x8, cut: u32) -> u64x8
     ensures { (k : ℕ) → k < 8
         → slice_index result k ≡ kept.cut_sum cut (slice_index x k) (slice_index y k) (slice_index z k) }
 {
-    let (x, y, z) = (least(x, cut), least(y, cut), least(z, cut));
-    sums(sums(squares(x), squares(y)), squares(z))
+    let cut = u32_lanes::splat(cut);
+    let x = squares(u32_lanes::min(x, cut));
+    let y = squares(u32_lanes::min(y, cut));
+    let z = squares(u32_lanes::min(z, cut));
+    u64_lanes::add(u64_lanes::add(x, y), z)
+}
+
+/// Returns the squares, in wider lanes.
+#[inline(always)]
+fn squares(v: u32x8) -> u64x8
+    ensures { (k : ℕ) → k < 8 → slice_index result k ≡ lane_square v k }
+{
+    let wide = u32_lanes::cast_u64(v);
+    u64_lanes::mul(wide, wide)
 }
 
 /// Returns `128 s / sigma_square` in each lane: a guess that is right or one too small, then a correction. The
@@ -64,9 +75,9 @@ pub(crate) fn quotients(squared: u64x8, sigma_square: u64, shift: u64, reciproca
     ensures within { (k : ℕ) → k < 8 → slice_index result k ≤ 2 ^ 13 }
 {
     let guess = guesses(squared, shift, reciprocal);
-    let rest = differences(shifted_left(squared, 7), multiples(guess, sigma_square));
-    let beyond = differences(splat(sigma_square - 1), rest);
-    sums(guess, shifted_right(beyond, 63))
+    let rest = u64_lanes::sub(u64_lanes::shl(squared, 7), multiples(guess, sigma_square));
+    let beyond = u64_lanes::sub(u64_lanes::splat(sigma_square - 1), rest);
+    u64_lanes::add(guess, u64_lanes::shr(beyond, 63))
 }
 
 #[inline(always)]
@@ -77,8 +88,9 @@ fn guesses(squared: u64x8, shift: u64, reciprocal: u64) -> u64x8
     ensures { (k : ℕ) → k < 8
         → slice_index result k ≡ slice_index squared k / 2 ^ shift * reciprocal / 2 ^ 51 }
 {
-    let product = products(low(shifted_right(squared, shift)), low(splat(reciprocal)));
-    shifted_right(product, 51)
+    let scaled = u64_lanes::low_half(u64_lanes::shr(squared, shift));
+    let reciprocal = u64_lanes::low_half(u64_lanes::splat(reciprocal));
+    u64_lanes::shr(u64_lanes::mul(scaled, reciprocal), 51)
 }
 
 /// Multiplies the lanes by a number modulo 2^64, by its upper and its lower half.
@@ -86,7 +98,8 @@ fn guesses(squared: u64x8, shift: u64, reciprocal: u64) -> u64x8
 fn multiples(v: u64x8, number: u64) -> u64x8
     ensures { (k : ℕ) → k < 8 → slice_index result k ≡ slice_index v k * number % 2 ^ 64 }
 {
-    let number = splat(number);
-    let upper = products(v, shifted_right(number, 32));
-    sums(products(v, low(number)), shifted_left(upper, 32))
+    let number = u64_lanes::splat(number);
+    let upper = u64_lanes::mul(v, u64_lanes::high_half(number));
+    let lower = u64_lanes::mul(v, u64_lanes::low_half(number));
+    u64_lanes::add(lower, u64_lanes::shl(upper, 32))
 }

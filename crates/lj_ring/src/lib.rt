@@ -5,7 +5,7 @@
 mod arcs;
 mod bins;
 mod coordinates;
-mod lane_arithmetic;
+pub mod lanes;
 mod mixes;
 mod scales;
 

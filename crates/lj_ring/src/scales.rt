@@ -1,12 +1,13 @@
 //! The edge of the box, and the scale of a simulation.
 ghost use Rattle.std.specs.Prelude.{ℕ, ◌≡◌, ◌≤◌, ◌<◌, ◌+◌, ◌*◌, ◌/◌, ◌^◌, ◌⊎◌, ◌↔◌, IsTrue, IsFalse, IfSome, MatchOption};
 ghost use Rattle.std.specs.Prelude.{SomeIff, unsigned_abs, nat_lt, true, false, slice_index};
-ghost use Rattle.lj_ring.specs.Bins.{near_bin, lane_square};
+ghost use Rattle.lj_ring.specs.Bins.{near_bin};
+ghost use Rattle.lj_ring.specs.LaneArithmetic.{lane_square};
 ghost use Rattle.lj_ring.specs.Places.{units_of};
 ghost use Rattle.lj_ring.specs.Scale.{is_edge, is_sigma, is_step_factor, scale_of, bin, is_in_cutoff, least_scale, IsScale};
 
 use crate::bins::{cut_of, quotients, reciprocal_of, shift_of, squares_cut_off};
-use crate::lane_arithmetic::{least, narrowed};
+use crate::lanes::{u32_lanes, u64_lanes};
 use lj_fixed::{MAX_NANO, Nano};
 use std::fmt;
 use std::marker::Model;
@@ -255,7 +256,10 @@ impl Scale {
     {
         let squared = squares_cut_off(x, y, z, self.cut);
         let quotients = quotients(squared, self.sigma_square, self.shift, self.reciprocal);
-        least(narrowed(quotients), BINS as u32)
+        u32_lanes::min(
+            u64_lanes::cast_u32(quotients),
+            u32_lanes::splat(BINS as u32),
+        )
     }
 
     /// Returns the bin, below [`BINS`], of a pair at squared distance `s`, or None if it does not interact.

@@ -15,30 +15,30 @@ use Rattle.lj_session.specs.declared.command.Command.TheVariants.{ListBranches, 
 use Rattle.lj_branch.specs.Named.{value_named}
 use Rattle.lj_session.specs.Answers.{can_advance}
 use Rattle.lj_session.specs.Turns.{turns, waits_for}
-use Rattle.lj_session.specs.UserState.{LiveSession, UserState, settled_session, user_of, names, live_session, live_session_at, pending_in, index_waited_for, steps_before, turns_before}
+use Rattle.lj_session.specs.UserState.{LiveSession, UserState, settled_session, user_of, loaded_names, live_session, live_session_at, pending_in, index_waited_for, steps_before, turns_before}
 use Rattle.lj_session.proofs.Holding.{named-absent, named-held}
 use Rattle.lj_session.proofs.Turning.{advance-turns-none, advance-turns-far, advance-turns-near, measure-turns-none, measure-turns-one, no-turns}
 use Rattle.lj_session.proofs.Waiting.{nothing-turns}
 
 module _ (state : UserState) (name : List ℕ) where
   -- no index, no session
-  pub index-none : position (bytes_eq name) (names state) ≡ None → live_session state name ≡ None
+  pub index-none : position (bytes_eq name) (loaded_names state) ≡ None → live_session state name ≡ None
   index-none e = (Missing-position (bytes_eq name) state.sessions e).value
 
-  pub index-within : (i : ℕ) → position (bytes_eq name) (names state) ≡ Some i → i < length state.sessions
+  pub index-within : (i : ℕ) → position (bytes_eq name) (loaded_names state) ≡ Some i → i < length state.sessions
   index-within i e = (Found-position (bytes_eq name) state.sessions i e).within
 
   -- the session of the name stands at its index
-  pub index-held : (i : ℕ) → position (bytes_eq name) (names state) ≡ Some i → live_session state name ≡ live_session_at state i
+  pub index-held : (i : ℕ) → position (bytes_eq name) (loaded_names state) ≡ Some i → live_session state name ≡ live_session_at state i
   index-held i e =
       (Found-position (bytes_eq name) state.sessions i e).value ∙ slice_get-map (λ entry. entry.1) state.sessions i
 
   -- the name stands at its index
-  pub index-named : (i : ℕ) → position (bytes_eq name) (names state) ≡ Some i → slice_get (names state) i ≡ Some name
+  pub index-named : (i : ℕ) → position (bytes_eq name) (loaded_names state) ≡ Some i → slice_get (loaded_names state) i ≡ Some name
   index-named i e =
-      let found = position-Some (bytes_eq name) (names state) i [] e in
-      let same = (bytes_eq-Decides name (get_or (names state) i [])).0 found.1 in
-      slice_get-get_or (names state) i [] found.0 ∙ ap (λ n. Some n) (sym same)
+      let found = position-Some (bytes_eq name) (loaded_names state) i [] e in
+      let same = (bytes_eq-Decides name (get_or (loaded_names state) i [])).0 found.1 in
+      slice_get-get_or (loaded_names state) i [] found.0 ∙ ap (λ n. Some n) (sym same)
 
 -- a name that stands first is found there
 pub first-named : {A : Type 0} (es : List (List ℕ × A)) (name : List ℕ) (entry : List ℕ × A) → slice_get es 0 ≡ Some entry
@@ -69,10 +69,10 @@ waited_at state command i e = by (waits_for command) refl
     none_some k = cc
 
     by : (o : Option (List ℕ)) → waits_for command ≡ o → WaitedAt state command i
-    by None w = absurd (none_some (sym (ap (option_and_then (λ name. position (bytes_eq name) (names state))) w) ∙ e))
+    by None w = absurd (none_some (sym (ap (option_and_then (λ name. position (bytes_eq name) (loaded_names state))) w) ∙ e))
     by (Some name) w =
-        let at : position (bytes_eq name) (names state) ≡ Some i =
-        sym (ap (option_and_then (λ name. position (bytes_eq name) (names state))) w) ∙ e in record {
+        let at : position (bytes_eq name) (loaded_names state) ≡ Some i =
+        sym (ap (option_and_then (λ name. position (bytes_eq name) (loaded_names state))) w) ∙ e in record {
           name = name;
           waits = w;
           within = index-within state name i at;
@@ -105,7 +105,7 @@ nothing-before state command e = by (waits_for command) refl
   where
     absent : (session : List ℕ) → waits_for command ≡ Some session → live_session state session ≡ None
     absent session w =
-        index-none state session (sym (ap (option_and_then (λ name. position (bytes_eq name) (names state))) w) ∙ e)
+        index-none state session (sym (ap (option_and_then (λ name. position (bytes_eq name) (loaded_names state))) w) ∙ e)
 
     none : turns (user_of state) command ≡ 0
     none = turnless state command absent
@@ -120,65 +120,65 @@ nothing-before state command e = by (waits_for command) refl
         omega (arith, none, steps)
 
 -- how many turns come before a command whose session stands at an index: those that are pending there, and its own
-pub before-at : (state : UserState) (command : Command) (i : ℕ) (held : LiveSession) → index_waited_for state command ≡ Some i
-    → live_session_at state i ≡ Some held → turns_before state command ≡ held.pending + turns (user_of state) command
-before-at state command i held e there =
+pub before-at : (state : UserState) (command : Command) (i : ℕ) (session : LiveSession) → index_waited_for state command ≡ Some i
+    → live_session_at state i ≡ Some session → turns_before state command ≡ session.pending + turns (user_of state) command
+before-at state command i session e there =
     let at = waited_at state command i e in
-    let steps : steps_before state command ≡ held.pending = ap (λ o. option_map_or (pending_in state) o 0) at.waits
+    let steps : steps_before state command ≡ session.pending = ap (λ o. option_map_or (pending_in state) o 0) at.waits
     ∙ ap (λ o. option_map_or (λ (h : LiveSession). h.pending) o 0) (at.held ∙ there) in
     omega (arith, steps)
 
 -- the session of an ADVANCE, or of a MEASURE, stands at the index
-advance-held : (state : UserState) (command : Command) (i : ℕ) (held : LiveSession) → index_waited_for state command ≡ Some i
-    → live_session_at state i ≡ Some held → (name : List ℕ) (n : ℕ) → command ≡ Advance name n
-    → value_named name (user_of state).sessions ≡ Some (settled_session held)
+advance-held : (state : UserState) (command : Command) (i : ℕ) (session : LiveSession) → index_waited_for state command ≡ Some i
+    → live_session_at state i ≡ Some session → (name : List ℕ) (n : ℕ) → command ≡ Advance name n
+    → value_named name (user_of state).sessions ≡ Some (settled_session session)
 unfolding waits_for
-advance-held state command i held e there name n is =
+advance-held state command i session e there name n is =
     let at = waited_at state command i e in
     let same : name ≡ at.name = same_Some name at.name (sym (ap waits_for is) ∙ at.waits) in
-    named-held state name held (ap (live_session state) same ∙ at.held ∙ there)
+    named-held state name session (ap (live_session state) same ∙ at.held ∙ there)
 
-measure-held : (state : UserState) (command : Command) (i : ℕ) (held : LiveSession) → index_waited_for state command ≡ Some i
-    → live_session_at state i ≡ Some held → (name : List ℕ) → command ≡ Measure name
-    → value_named name (user_of state).sessions ≡ Some (settled_session held)
+measure-held : (state : UserState) (command : Command) (i : ℕ) (session : LiveSession) → index_waited_for state command ≡ Some i
+    → live_session_at state i ≡ Some session → (name : List ℕ) → command ≡ Measure name
+    → value_named name (user_of state).sessions ≡ Some (settled_session session)
 unfolding waits_for
-measure-held state command i held e there name is =
+measure-held state command i session e there name is =
     let at = waited_at state command i e in
     let same : name ≡ at.name = same_Some name at.name (sym (ap waits_for is) ∙ at.waits) in
-    named-held state name held (ap (live_session state) same ∙ at.held ∙ there)
+    named-held state name session (ap (live_session state) same ∙ at.held ∙ there)
 
-module _ (state : UserState) (command : Command) (i : ℕ) (held : LiveSession) (e : index_waited_for state command ≡ Some i)
-    (there : live_session_at state i ≡ Some held) where
+module _ (state : UserState) (command : Command) (i : ℕ) (session : LiveSession) (e : index_waited_for state command ≡ Some i)
+    (there : live_session_at state i ≡ Some session) where
   -- where steps are pending there it waits
-  pub before-pending : 0 < held.pending → 0 < turns_before state command
-  before-pending some = let all = before-at state command i held e there in omega (arith, some, all)
+  pub before-pending : 0 < session.pending → 0 < turns_before state command
+  before-pending some = let all = before-at state command i session e there in omega (arith, some, all)
 
-  module _ (none : held.pending ≡ 0) where
+  module _ (none : session.pending ≡ 0) where
     own : turns_before state command ≡ turns (user_of state) command
-    own = let all = before-at state command i held e there in omega (arith, none, all)
+    own = let all = before-at state command i session e there in omega (arith, none, all)
 
     pub before-nothing : (name : List ℕ) (n : ℕ) → command ≡ Advance name n → n ≡ 0 → turns_before state command ≡ 0
     before-nothing name n is zero_steps =
         own ∙ ap (turns (user_of state)) (is ∙ ap (Advance name) zero_steps) ∙ nothing-turns (user_of state) name
 
-    pub before-far : (name : List ℕ) (n : ℕ) → command ≡ Advance name n → can_advance (settled_session held) n ≡ false
+    pub before-far : (name : List ℕ) (n : ℕ) → command ≡ Advance name n → can_advance (settled_session session) n ≡ false
         → turns_before state command ≡ 0
     before-far name n is far =
         own ∙ ap (turns (user_of state)) is
-        ∙ advance-turns-far (user_of state) name n (settled_session held)
-        (advance-held state command i held e there name n is) far
+        ∙ advance-turns-far (user_of state) name n (settled_session session)
+        (advance-held state command i session e there name n is) far
 
-    pub before-near : (name : List ℕ) (n : ℕ) → command ≡ Advance name n → can_advance (settled_session held) n ≡ true
+    pub before-near : (name : List ℕ) (n : ℕ) → command ≡ Advance name n → can_advance (settled_session session) n ≡ true
         → turns_before state command ≡ n
     before-near name n is near =
         own ∙ ap (turns (user_of state)) is
-        ∙ advance-turns-near (user_of state) name n (settled_session held)
-        (advance-held state command i held e there name n is) near
+        ∙ advance-turns-near (user_of state) name n (settled_session session)
+        (advance-held state command i session e there name n is) near
 
     pub before-measure : (name : List ℕ) → command ≡ Measure name → turns_before state command ≡ 1
     before-measure name is =
         own ∙ ap (turns (user_of state)) is
-        ∙ measure-turns-one (user_of state) name (settled_session held) (measure-held state command i held e there name is)
+        ∙ measure-turns-one (user_of state) name (settled_session session) (measure-held state command i session e there name is)
 
     pub before-other : ((name : List ℕ) (n : ℕ) → command ≡ Advance name n → ⊥)
         → ((name : List ℕ) → command ≡ Measure name → ⊥) → turns_before state command ≡ 0

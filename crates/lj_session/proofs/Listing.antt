@@ -15,7 +15,7 @@ use Rattle.lj_session.specs.Interactions.{load_reply}
 use Rattle.lj_session.specs.Users.{Session, User, atoms_of, branches_used}
 use Rattle.lj_session.specs.Loads.{admission, body_or_refusal, session_read, refusal_unless}
 use Rattle.lj_session.specs.Answers.{value_or_refusal, session_of, simulation_saved, atom_or_refusal, can_advance, command_result, answer, reply_and_user}
-use Rattle.lj_session.specs.Laws.{session_listed}
+use Rattle.lj_session.specs.OwnerLaws.{session_listed}
 
 -- what a command comes to
 abbrev Outcome : Type 0

@@ -11,7 +11,7 @@ use Rattle.lj_xyz.specs.declared.xyz_fault.XyzError.{XyzError}
 use Rattle.lj_xyz.specs.declared.xyz_fault.XyzError.TheVariants as errors
 use Rattle.lj_xyz.specs.declared.atom_row.AtomRow.{AtomRow}
 use Rattle.lj_xyz.specs.Lines.{lines_of}
-use Rattle.lj_xyz.specs.Reading.{reading, Fails}
+use Rattle.lj_xyz.specs.Reading.{reading, FailsAs}
 use Rattle.lj_xyz.specs.Symbols.{SymbolPair}
 use Rattle.lj_session.specs.declared.body.LoadBody.{LoadBody}
 use Rattle.lj_session.specs.declared.body.LoadBody.TheVariants.{Unread, Lost, Read}
@@ -83,11 +83,11 @@ module _ (user : User) (load : Load) where
     unfolding command_result
     load-memory = rw (is_mix, body-refused load.body) refl
 
-    module _ (body : List ℕ) (held : load.body ≡ Read body) where
+    module _ (body : List ℕ) (session : load.body ≡ Read body) where
       pub load-fault : (fault : XyzFault) → reading (symbols_of load.interactions) (reading_mode load.mode) (lines_of body) ≡ Err fault
           → command_result user (commands.Load load) false ≡ Err (Xyz fault)
       unfolding command_result
-      load-fault fault read = rw (is_mix, held, read) refl
+      load-fault fault read = rw (is_mix, session, read) refl
 
       module _ (first : List AtomRow) (second : Option (List AtomRow))
           (read : reading (symbols_of load.interactions) (reading_mode load.mode) (lines_of body) ≡ Ok (frames_of first second)) where
@@ -97,13 +97,13 @@ module _ (user : User) (load : Load) where
         pub load-over : nat_le (atoms_used user + atoms_of session_loaded) user.quota.atoms ≡ false
             → command_result user (commands.Load load) false ≡ Err QuotaAtoms
         unfolding command_result
-        load-over over = rw (is_mix, held, read, session-frames mix (symbols_of load.interactions) first second, over) refl
+        load-over over = rw (is_mix, session, read, session-frames mix (symbols_of load.interactions) first second, over) refl
 
         pub load-done : nat_le (atoms_used user + atoms_of session_loaded) user.quota.atoms ≡ true
             → command_result user (commands.Load load) false
             ≡ Ok (load_reply load.interactions load.name (atoms_of session_loaded), with_session load.name session_loaded user)
         unfolding command_result
-        load-done room = rw (is_mix, held, read, session-frames mix (symbols_of load.interactions) first second, room) refl
+        load-done room = rw (is_mix, session, read, session-frames mix (symbols_of load.interactions) first second, room) refl
 
 -- how many atoms a session has that opens with frames of one count
 pub atoms-opened : (mix : Mix) (symbols : Option SymbolPair) (first last : List AtomRow) → length last ≡ length first
@@ -129,17 +129,17 @@ module _ (old new : UserState) (load : Load) (mix : Mix) (is_mix : admission (us
     where
       none-held : (o : Option LiveSession) → is_some (option_map settled_session o) ≡ false → o ≡ None
       none-held None h = refl
-      none-held (Some held) h = absurd (true≢false h)
+      none-held (Some session) h = absurd (true≢false h)
 
   pub load-starved : Performs old (commands.Load load) (Err Memory) new
   load-starved = starved old new _ (load-memory (user_of old) load mix is_mix)
 
-  module _ (body : List ℕ) (held : load.body ≡ Read body) where
+  module _ (body : List ℕ) (session : load.body ≡ Read body) where
     -- a body that is not read is refused for its fault, or for want of memory
-    pub not-read : (error : XyzError) → Fails error (reading (symbols_of load.interactions) (reading_mode load.mode) (lines_of body))
+    pub not-read : (error : XyzError) → FailsAs error (reading (symbols_of load.interactions) (reading_mode load.mode) (lines_of body))
         → Performs old (commands.Load load) (Err (xyz_refusal error)) new
     not-read (errors.Fault fault) read =
-        refused old new _ _ (load-fault (user_of old) load mix is_mix body held fault read)
+        refused old new _ _ (load-fault (user_of old) load mix is_mix body session fault read)
     not-read errors.Memory read = load-starved
 
     module _ (first : List AtomRow) (second : Option (List AtomRow))
@@ -147,7 +147,7 @@ module _ (old new : UserState) (load : Load) (mix : Mix) (is_mix : admission (us
         (same : length (last_of first second) ≡ length first) where
       pub too-many : nat_le (atoms_used (user_of old) + length first) old.quota.atoms ≡ false
           → Performs old (commands.Load load) (Err QuotaAtoms) new
-      too-many over = refused old new _ _ (load-over (user_of old) load mix is_mix body held first second read
+      too-many over = refused old new _ _ (load-over (user_of old) load mix is_mix body session first second read
           (ap (λ n. nat_le (atoms_used (user_of old) + n) old.quota.atoms)
           (atoms-opened mix (symbols_of load.interactions) first (last_of first second) same) ∙ over))
 
@@ -156,7 +156,7 @@ module _ (old new : UserState) (load : Load) (mix : Mix) (is_mix : admission (us
           → new ≡ with_live_session load.name (held_from mix (symbols_of load.interactions) first (last_of first second)) old
           → Performs old (commands.Load load) (Ok (load_reply load.interactions load.name atoms)) new
       load-loads atoms its room is = done old new _ _
-          (load-done (user_of old) load mix is_mix body held first second read
+          (load-done (user_of old) load mix is_mix body session first second read
           (ap (λ n. nat_le (atoms_used (user_of old) + n) old.quota.atoms) count ∙ room)
           ∙ (ap (λ n. Ok (
             load_reply load.interactions load.name n,

@@ -19,7 +19,7 @@ use Rattle.lj_session.specs.Users.{User, atoms_of, branches_used}
 use Rattle.lj_session.specs.Answers.{session_of, simulation_saved, atom_or_refusal, can_advance, command_result, session_named}
 use Rattle.lj_session.specs.Loads.{admission, body_or_refusal, session_read, refusal_unless}
 use Rattle.lj_session.specs.Begins.{OnRefusal, reply_of}
-use Rattle.lj_session.specs.UserState.{LiveSession, UserState, OthersKept, Reads, StepsAfter, Performs, live_session, with_live_session, with_session_changed, names, pending_in, steps_before}
+use Rattle.lj_session.specs.UserState.{LiveSession, UserState, OthersKept, Reads, StepsAfter, Performs, live_session, with_live_session, with_session_changed, loaded_names, pending_in, steps_before}
 use Rattle.lj_session.specs.Owner.{IsSettled}
 use Rattle.lj_session.specs.Turns.{waits_for}
 use Rattle.lj_session.proofs.Entries.{named-put_other, named-taken_other, names-put}
@@ -29,9 +29,9 @@ module _ (state : UserState) (name : List ℕ) where
   apart_of other apart same = apart (ap (λ (n : List ℕ). Some n) same)
 
   -- one session put, changed or taken out leaves the others
-  pub others-put : (held : LiveSession) (other : List ℕ) → Some name ≢ Some other
-      → live_session (with_live_session name held state) other ≡ live_session state other
-  others-put held other apart = named-put_other name other (apart_of other apart) state.sessions held
+  pub others-put : (session : LiveSession) (other : List ℕ) → Some name ≢ Some other
+      → live_session (with_live_session name session state) other ≡ live_session state other
+  others-put session other apart = named-put_other name other (apart_of other apart) state.sessions session
 
   pub others-changed : (change : LiveSession → LiveSession) (other : List ℕ) → Some name ≢ Some other
       → live_session (with_session_changed name change state) other ≡ live_session state other
@@ -40,16 +40,16 @@ module _ (state : UserState) (name : List ℕ) where
       by : (found : Option LiveSession) → live_session state name ≡ found
           → live_session (with_session_changed name change state) other ≡ live_session state other
       by None e = rw e refl
-      by (Some held) e = rw e (others-put (change held) other apart)
+      by (Some session) e = rw e (others-put (change session) other apart)
 
   -- a session changed keeps its name
-  pub names-changed : (change : LiveSession → LiveSession) → names (with_session_changed name change state) ≡ names state
-  names-changed change = by (live_session state name) refl
+  pub loaded_names-changed : (change : LiveSession → LiveSession) → loaded_names (with_session_changed name change state) ≡ loaded_names state
+  loaded_names-changed change = by (live_session state name) refl
     where
       by : (found : Option LiveSession) → live_session state name ≡ found
-          → names (with_session_changed name change state) ≡ names state
+          → loaded_names (with_session_changed name change state) ≡ loaded_names state
       by None e = rw e refl
-      by (Some held) e = rw e (names-put name state.sessions held (change held) e)
+      by (Some session) e = rw e (names-put name state.sessions session (change session) e)
 
   pub others-taken : (other : List ℕ) → Some name ≢ Some other
       → live_session (record state { sessions = without_value name state.sessions }) other ≡ live_session state other
@@ -157,16 +157,16 @@ settled-performed old new command (Ok made) performs none = by made
         before : pending_in old name ≡ 0
         before = rw is at none
 
-        pending : (held : LiveSession) (o : Option LiveSession) → live_session old name ≡ o → StepsAfter (Dump name) o held → held.pending ≡ 0
-        pending held o e (inl idle) = idle.pending
-        pending held None e (inr lacking) = absurd lacking
-        pending held (Some was) e (inr same) =
+        pending : (session : LiveSession) (o : Option LiveSession) → live_session old name ≡ o → StepsAfter (Dump name) o session → session.pending ≡ 0
+        pending session o e (inl idle) = idle.pending
+        pending session None e (inr lacking) = absurd lacking
+        pending session (Some was) e (inr same) =
             same.pending ∙ (sym (ap (λ o. option_map_or (λ (h : LiveSession). h.pending) o 0) e) ∙ before)
 
         there : (o : Option LiveSession) → live_session new name ≡ o → pending_in new name ≡ 0
         there None e = rw e refl
-        there (Some held) e = rw e (pending held (live_session old name) refl
-            (subst (λ (k : Command). StepsAfter k (live_session old name) held) is (performs.steps name held (ap session_named is) e)))
+        there (Some session) e = rw e (pending session (live_session old name) refl
+            (subst (λ (k : Command). StepsAfter k (live_session old name) session) is (performs.steps name session (ap session_named is) e)))
 
     by : (made : Reply) → DumpsOwn command made → IsSettled new made
     by (reply.Dumped name) h = told name h

@@ -24,10 +24,10 @@ use Rattle.lj_session.proofs.PendingSteps.{meant-settled, meant-added}
 use Rattle.lj_session.proofs.Others.{others-put, others-taken}
 use Rattle.lj_session.proofs.Performing as performing
 
-module _ (old : UserState) (name : List ℕ) (held : LiveSession) (found : live_session old name ≡ Some held) where
+module _ (old : UserState) (name : List ℕ) (session : LiveSession) (found : live_session old name ≡ Some session) where
   -- the steps of a session that was put
   steps-put : (command : Command) (new : LiveSession) → session_named command ≡ Some name
-      → StepsAfter command (Some held) new → StepsFollow command old (with_live_session name new old)
+      → StepsAfter command (Some session) new → StepsFollow command old (with_live_session name new old)
   steps-put command new is steps other after value_named there =
       let one : name ≡ other = same_name name other (sym is ∙ value_named) in
       let new_is : new ≡ after =
@@ -45,94 +45,94 @@ module _ (old : UserState) (name : List ℕ) (held : LiveSession) (found : live_
   -- a command that puts its session
   put_in : (command : Command) (made : Reply) (new : LiveSession) → session_named command ≡ Some name
       → command_result (user_of old) command false ≡ Ok (made, with_session name (settled_session new) (user_of old))
-      → StepsAfter command (Some held) new
+      → StepsAfter command (Some session) new
       → Performs old command (Ok made) (with_live_session name new old)
   put_in command made new is h steps = performing.done old _ command made
       (h ∙ ap (λ (u : User). Ok (made, u)) (sym (user_of-put old name new)))
       (λ other apart. others-put old name new other (rw is at apart))
       (steps-put command new is steps)
 
-  pub forget : (branch : List ℕ) (sim : Simulation) → value_named branch held.saved ≡ Some sim
+  pub forget : (branch : List ℕ) (sim : Simulation) → value_named branch session.saved ≡ Some sim
       → Performs old (Forget name branch) (Ok (reply.Forgotten name branch))
-      (with_live_session name (with_saved held (without_value branch held.saved)) old)
-  forget branch sim saved = put_in _ _ (with_saved held (without_value branch held.saved)) refl
-      (performing.forget-done (user_of old) name false (settled_session held) (named-held old name held found) branch sim saved)
+      (with_live_session name (with_saved session (without_value branch session.saved)) old)
+  forget branch sim saved = put_in _ _ (with_saved session (without_value branch session.saved)) refl
+      (performing.forget-done (user_of old) name false (settled_session session) (named-held old name session found) branch sim saved)
       (record { live = refl; passed = refl; pending = refl })
 
-  pub start : (n : ℕ) → can_advance (settled_session held) n ≡ true
-      → Performs old (Start name n) (Ok (reply.Started name (settled_session (with_more_pending n held)).sim.step))
-      (with_live_session name (with_more_pending n held) old)
-  start n near = put_in _ _ (with_more_pending n held) refl
-      ((performing.steps-done (user_of old) name false (settled_session held) (named-held old name held found) n near).1
+  pub start : (n : ℕ) → can_advance (settled_session session) n ≡ true
+      → Performs old (Start name n) (Ok (reply.Started name (settled_session (with_more_pending n session)).sim.step))
+      (with_live_session name (with_more_pending n session) old)
+  start n near = put_in _ _ (with_more_pending n session) refl
+      ((performing.steps-done (user_of old) name false (settled_session session) (named-held old name session found) n near).1
       ∙ ap (λ (s : Session). Ok (reply.Started name s.sim.step, with_session name s (user_of old)))
-      (sym (meant-added n held)))
+      (sym (meant-added n session)))
       (rw near refl)
 
   -- the steps of an ADVANCE, pending in its session
-  pub pending-user : (n : ℕ) → can_advance (settled_session held) n ≡ true
-      → user_of (with_live_session name (with_more_pending n held) old) ≡ (answer (user_of old) (Advance name n) false).1
+  pub pending-user : (n : ℕ) → can_advance (settled_session session) n ≡ true
+      → user_of (with_live_session name (with_more_pending n session) old) ≡ (answer (user_of old) (Advance name n) false).1
   pending-user n near =
-      user_of-put old name (with_more_pending n held)
-      ∙ ap (λ (s : Session). with_session name s (user_of old)) (meant-added n held)
+      user_of-put old name (with_more_pending n session)
+      ∙ ap (λ (s : Session). with_session name s (user_of old)) (meant-added n session)
       ∙ sym (ap (λ r. (reply_and_user (user_of old) r).1)
-      (performing.steps-done (user_of old) name false (settled_session held) (named-held old name held found) n near).0)
+      (performing.steps-done (user_of old) name false (settled_session session) (named-held old name session found) n near).0)
 
   -- an ADVANCE by 0 leaves the user
-  pub advance-nothing : can_advance (settled_session held) 0 ≡ true → (mark : Bool)
-      → command_result (user_of old) (Advance name 0) mark ≡ Ok (reply.Advanced name (settled_session held).sim.step, user_of old)
+  pub advance-nothing : can_advance (settled_session session) 0 ≡ true → (mark : Bool)
+      → command_result (user_of old) (Advance name 0) mark ≡ Ok (reply.Advanced name (settled_session session).sim.step, user_of old)
   advance-nothing near mark =
-      let session = named-held old name held found in
-      (performing.steps-done (user_of old) name mark (settled_session held) session 0 near).0
+      let session_found = named-held old name session found in
+      (performing.steps-done (user_of old) name mark (settled_session session) session_found 0 near).0
       ∙ ap (λ (s : List (List ℕ × Session)). Ok (
-        reply.Advanced name (settled_session held).sim.step,
+        reply.Advanced name (settled_session session).sim.step,
         record { quota = old.quota; sessions = s },
       ))
-      (put-same name (user_of old).sessions (settled_session held) session)
+      (put-same name (user_of old).sessions (settled_session session) session_found)
 
   -- commands of a session with no pending steps
-  module _ (none : held.pending ≡ 0) where
-    session : value_named name (user_of old).sessions ≡ Some (as_session held)
-    session = named-settled old name held found none
+  module _ (none : session.pending ≡ 0) where
+    session_found : value_named name (user_of old).sessions ≡ Some (as_session session)
+    session_found = named-settled old name session found none
 
     -- with another simulation, and no step open
     move : (command : Command) (made : Reply) (sim : Simulation) → session_named command ≡ Some name
-        → command_result (user_of old) command false ≡ Ok (made, with_sim name (as_session held) sim (user_of old))
-        → StepsAfter command (Some held) (with_simulation held sim)
-        → Performs old command (Ok made) (with_live_session name (with_simulation held sim) old)
-    move command made sim is h steps = put_in command made (with_simulation held sim) is
+        → command_result (user_of old) command false ≡ Ok (made, with_sim name (as_session session) sim (user_of old))
+        → StepsAfter command (Some session) (with_simulation session sim)
+        → Performs old command (Ok made) (with_live_session name (with_simulation session sim) old)
+    move command made sim is h steps = put_in command made (with_simulation session sim) is
         (h ∙ ap (λ (s : Session). Ok (made, with_session name s (user_of old)))
-        (sym (meant-settled (with_simulation held sim) none)))
+        (sym (meant-settled (with_simulation session sim) none)))
         steps
 
-    pub reverse : Performs old (Reverse name) (Ok (reply.Reversed name (reversal held.live.sim).step))
-        (with_live_session name (with_simulation held (reversal held.live.sim)) old)
-    reverse = move _ _ (reversal held.live.sim) refl
-        (performing.reverse-done (user_of old) name false (as_session held) session)
+    pub reverse : Performs old (Reverse name) (Ok (reply.Reversed name (reversal session.live.sim).step))
+        (with_live_session name (with_simulation session (reversal session.live.sim)) old)
+    reverse = move _ _ (reversal session.live.sim) refl
+        (performing.reverse-done (user_of old) name false (as_session session) session_found)
         (inl (record { pending = none; closed = refl }))
 
-    pub tug : (atom : ℕ) (x y z : ℤ) → nat_lt atom (length held.live.sim.cur) ≡ true
-        → Performs old (Tug name atom x y z) (Ok (reply.Tugged name atom held.live.sim.step))
-        (with_live_session name (with_simulation held (with_tug atom (record { x = x; y = y; z = z }) held.live.sim)) old)
-    tug atom x y z there = move _ _ (with_tug atom (record { x = x; y = y; z = z }) held.live.sim) refl
-        (performing.tug-done (user_of old) name false (as_session held) session atom x y z there)
+    pub tug : (atom : ℕ) (x y z : ℤ) → nat_lt atom (length session.live.sim.cur) ≡ true
+        → Performs old (Tug name atom x y z) (Ok (reply.Tugged name atom session.live.sim.step))
+        (with_live_session name (with_simulation session (with_tug atom (record { x = x; y = y; z = z }) session.live.sim)) old)
+    tug atom x y z there = move _ _ (with_tug atom (record { x = x; y = y; z = z }) session.live.sim) refl
+        (performing.tug-done (user_of old) name false (as_session session) session_found atom x y z there)
         (inl (record { pending = none; closed = refl }))
 
-    pub restore : (branch : List ℕ) (sim : Simulation) → value_named branch held.saved ≡ Some sim
+    pub restore : (branch : List ℕ) (sim : Simulation) → value_named branch session.saved ≡ Some sim
         → Performs old (Restore name branch) (Ok (reply.Restored name branch sim.step))
-        (with_live_session name (with_simulation held sim) old)
+        (with_live_session name (with_simulation session sim) old)
     restore branch sim saved = move _ _ sim refl
-        (performing.restore-done (user_of old) name false (as_session held) session branch sim saved)
+        (performing.restore-done (user_of old) name false (as_session session) session_found branch sim saved)
         (inl (record { pending = none; closed = refl }))
 
-    pub branch : (saved_as : List ℕ) → is_some (value_named saved_as held.saved) ≡ false
+    pub branch : (saved_as : List ℕ) → is_some (value_named saved_as session.saved) ≡ false
         → nat_lt (branches_used (user_of old)) old.quota.branches ≡ true
-        → Performs old (Branch name saved_as) (Ok (reply.Branched name saved_as held.live.sim.step))
-        (with_live_session name (with_saved held (with_value saved_as held.live.sim held.saved)) old)
+        → Performs old (Branch name saved_as) (Ok (reply.Branched name saved_as session.live.sim.step))
+        (with_live_session name (with_saved session (with_value saved_as session.live.sim session.saved)) old)
     branch saved_as new room =
-        let next = with_saved held (with_value saved_as held.live.sim held.saved) in
+        let next = with_saved session (with_value saved_as session.live.sim session.saved) in
         put_in _ _ next refl
-        (performing.branch-done (user_of old) name (as_session held) session saved_as new room
-        ∙ ap (λ (s : Session). Ok (reply.Branched name saved_as held.live.sim.step, with_session name s (user_of old)))
+        (performing.branch-done (user_of old) name (as_session session) session_found saved_as new room
+        ∙ ap (λ (s : Session). Ok (reply.Branched name saved_as session.live.sim.step, with_session name s (user_of old)))
         (sym (meant-settled next none)))
         (inr (record { live = refl; passed = refl; pending = refl }))
 
@@ -140,7 +140,7 @@ module _ (old : UserState) (name : List ℕ) (held : LiveSession) (found : live_
         → Performs old (Unload name) (Ok (reply.Unloaded name))
         (record old { sessions = without_value name old.sessions })
     unload gone = performing.done old _ _ _
-        (performing.unload-done (user_of old) name false (as_session held) session
+        (performing.unload-done (user_of old) name false (as_session session) session_found
         ∙ ap (λ (u : User). Ok (reply.Unloaded name, u)) (sym (user_of-taken old name)))
         (others-taken old name)
         (λ other after is there. absurd (none_some after (sym gone

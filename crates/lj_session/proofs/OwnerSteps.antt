@@ -6,7 +6,7 @@ use Rattle.std.specs.Prelude.{IfSome, OnOk, OnErr}
 use Rattle.std.specs.Option.{option_map_or}
 use Rattle.std.specs.Str.{bytes_eq}
 use Rattle.std.proofs.lemmas.Slice.Eq.{bytes_eq-Decides}
-use Rattle.lj_tile.specs.declared.task_name.Kind.{Kind}
+use Rattle.lj_task.specs.declared.task_name.Kind.{Kind}
 use Rattle.lj_session.specs.declared.command.Command.{Command}
 use Rattle.lj_session.specs.Users.{User}
 use Rattle.lj_session.specs.Turns.{turns, waits_for}
@@ -24,7 +24,7 @@ either-way (Ok a) x y good bad = good x
 either-way (Err b) x y good bad = bad y
 
 -- the number of pending steps of a session, where it stays
-pub pending-changed : (state : UserState) (name : List ℕ) (change : LiveSession → LiveSession) → ((held : LiveSession) → (change held).pending ≡ held.pending)
+pub pending-changed : (state : UserState) (name : List ℕ) (change : LiveSession → LiveSession) → ((session : LiveSession) → (change session).pending ≡ session.pending)
     → (other : List ℕ) → pending_in (with_session_changed name change state) other ≡ pending_in state other
 pending-changed state name change same other = by (live_session state name) refl
   where
@@ -33,12 +33,12 @@ pending-changed state name change same other = by (live_session state name) refl
 
     by : (o : Option LiveSession) → live_session state name ≡ o → pending_in (with_session_changed name change state) other ≡ pending_in state other
     by None e = ap (λ (x : UserState). pending_in x other) (changed-none state name change e)
-    by (Some held) e = ap (λ (x : UserState). pending_in x other) (changed-some state name change held e) ∙ by_test (bytes_eq name other)
+    by (Some session) e = ap (λ (x : UserState). pending_in x other) (changed-some state name change session e) ∙ by_test (bytes_eq name other)
         (λ t. let is = (bytes_eq-Decides name other).0 t in
-        ap (λ (n : List ℕ). pending_in (with_live_session name (change held) state) n) (sym is)
-        ∙ ap pending (named-put_any name state.sessions (change held)) ∙ same held ∙ sym (ap pending e) ∙ ap (pending_in state) is)
+        ap (λ (n : List ℕ). pending_in (with_live_session name (change session) state) n) (sym is)
+        ∙ ap pending (named-put_any name state.sessions (change session)) ∙ same session ∙ sym (ap pending e) ∙ ap (pending_in state) is)
         (λ t. ap pending (named-put_other name other (λ is. true≢false (sym ((bytes_eq-Decides name other).1 is) ∙ t))
-        state.sessions (change held)))
+        state.sessions (change session)))
 
 -- and to another session than the one that changes
 pub pending-apart : (state : UserState) (name other : List ℕ) (change : LiveSession → LiveSession) → name ≢ other
@@ -78,13 +78,13 @@ whole-pending owner name whole work = by_test (nat_lt 0 (pending_in owner.state 
 
     measured : nat_lt 0 (pending_in owner.state name) ≡ false → has_pending owner name ≡ true
     measured t = by_test (is_measured owner.waiting name) (λ m. rw (t, m) refl)
-        (λ m. absurd (none_some o.kind (sym (kind-none owner.waiting name o.held none m) ∙ o.pending)))
+        (λ m. absurd (none_some o.kind (sym (kind-none owner.waiting name o.session none m) ∙ o.pending)))
       where
         none_some : (kind : Kind) → None ≡ Some kind → ⊥
         none_some kind e = cc
 
-        none : o.held.pending ≡ 0
-        none = sym (pending-held owner.state name o.held o.there)
+        none : o.session.pending ≡ 0
+        none = sym (pending-held owner.state name o.session o.there)
             ∙ (let z = ltb-false 0 (pending_in owner.state name) t in let n : pending_in owner.state name ≡ 0 = omega (arith, z) in n)
 
 -- what is measured is waited for
@@ -111,7 +111,7 @@ unwaited-pending waiting state name not whole work = by_test (nat_lt 0 (pending_
 pub unwaited-work : (waiting : Option Command) (state : UserState) (name : List ℕ) → is_waited_for waiting name ≡ false
     → IsAtWork waiting state → IsAtWork waiting (with_session_changed name with_step_finished state)
 unwaited-work waiting state name not work = at_work-changed waiting state name with_step_finished
-    (λ held e. kind-passed waiting name held (unwaited-quiet waiting name not)) work
+    (λ session e. kind-passed waiting name session (unwaited-quiet waiting name not)) work
 
 pub unwaited-apart : (command : Command) (name other : List ℕ) → waits_for command ≡ Some other
     → is_waited_for (Some command) name ≡ false → name ≢ other

@@ -5,8 +5,8 @@ use Rattle.std.specs.Prelude.{IsSomeAnd}
 use Rattle.std.specs.Option.{option_map_or}
 use Rattle.std.specs.Str.{bytes_eq}
 use Rattle.std.proofs.lemmas.Slice.Eq.{bytes_eq-Decides}
-use Rattle.lj_tile.specs.declared.task_name.Kind.{Kind}
-use Rattle.lj_tile.specs.declared.task_name.Kind.TheVariants.{Force, Energy}
+use Rattle.lj_task.specs.declared.task_name.Kind.{Kind}
+use Rattle.lj_task.specs.declared.task_name.Kind.TheVariants.{Force, Energy}
 use Rattle.lj_step.specs.Sim.{OpenStep}
 use Rattle.lj_step.specs.OpenSteps.{kind_of, is_whole}
 use Rattle.lj_session.specs.declared.command.Command.{Command}
@@ -16,7 +16,7 @@ use Rattle.lj_session.specs.declared.command.Command.TheVariants.{ListBranches, 
 use Rattle.lj_session.specs.declared.reply.Reply.{Reply}
 use Rattle.lj_session.specs.Answers.{command_result, reply_and_user, session_named}
 use Rattle.lj_session.specs.Turns.{turns, waits_for}
-use Rattle.lj_session.specs.UserState.{LiveSession, UserState, OthersKept, OtherSessionsKept, StepsFollow, StepsAfter, SameSteps, IsIdle, IsIdleIn, IsAtWork, IsWhole, Reads, user_of, live_session, pending_in, with_session_changed, with_live_session, with_step_finished, with_no_step, is_whole_in, is_measured, kind_pending, turns_before}
+use Rattle.lj_session.specs.UserState.{LiveSession, UserState, OthersKept, OtherSessionsKept, StepsFollow, StepsAfter, SameSteps, IsIdle, IsIdleIn, IsAtWork, HasWholeStep, Reads, user_of, live_session, pending_in, with_session_changed, with_live_session, with_step_finished, with_no_step, is_whole_in, is_measured, kind_pending, turns_before}
 use Rattle.lj_session.specs.Owner.{IsAnswered}
 use Rattle.lj_session.proofs.AtWork.{kind-none, kind-passed}
 use Rattle.lj_session.proofs.Entries.{by_test, named-put_any, named-put_other}
@@ -29,54 +29,54 @@ same_Some x y e = cc
 
 -- a session whose open step is whole, and its pending step
 pub record Open (waiting : Option Command) (state : UserState) (name : List ℕ) : Type 0 where
-  pub held : LiveSession
-  pub there : live_session state name ≡ Some held
+  pub session : LiveSession
+  pub there : live_session state name ≡ Some session
   pub kind : Kind
-  pub is : kind_of held.live.part ≡ Some kind
-  pub whole : is_whole held.live.part ≡ true
-  pub pending : kind_pending waiting name held ≡ Some kind
+  pub is : kind_of session.live.part ≡ Some kind
+  pub whole : is_whole session.live.part ≡ true
+  pub pending : kind_pending waiting name session ≡ Some kind
 
 pub opens : (waiting : Option Command) (state : UserState) (name : List ℕ) → is_whole_in state name ≡ true
     → IsAtWork waiting state → Open waiting state name
 opens waiting state name whole work = by (live_session state name) refl
   where
-    of : (held : LiveSession) (part : Option OpenStep) → live_session state name ≡ Some held → held.live.part ≡ part → is_whole part ≡ true
+    of : (session : LiveSession) (part : Option OpenStep) → live_session state name ≡ Some session → session.live.part ≡ part → is_whole part ≡ true
         → Open waiting state name
-    of held None e is all = absurd (true≢false (sym all))
-    of held (Some p) e is all = record {
-      held = held;
+    of session None e is all = absurd (true≢false (sym all))
+    of session (Some p) e is all = record {
+      session = session;
       there = e;
       kind = p.kind;
       is = ap kind_of is;
       whole = ap is_whole is ∙ all;
-      pending = sym (work name held e) ∙ ap kind_of is;
+      pending = sym (work name session e) ∙ ap kind_of is;
     }
 
     by : (o : Option LiveSession) → live_session state name ≡ o → Open waiting state name
     by None e = absurd (true≢false (sym (rw e at whole)))
-    by (Some held) e = of held held.live.part e refl (rw e at whole)
+    by (Some session) e = of session session.live.part e refl (rw e at whole)
 
-pub pending-held : (state : UserState) (name : List ℕ) (held : LiveSession) → live_session state name ≡ Some held → pending_in state name ≡ held.pending
-pending-held state name held e = ap (λ o. option_map_or (λ (h : LiveSession). h.pending) o 0) e
+pub pending-held : (state : UserState) (name : List ℕ) (session : LiveSession) → live_session state name ≡ Some session → pending_in state name ≡ session.pending
+pending-held state name session e = ap (λ o. option_map_or (λ (h : LiveSession). h.pending) o 0) e
 
 -- where steps are pending it is one of pushes
 pub forces : (waiting : Option Command) (state : UserState) (name : List ℕ) → is_whole_in state name ≡ true
-    → IsAtWork waiting state → 0 < pending_in state name → (held : LiveSession) → live_session state name ≡ Some held → IsWhole Force held
-forces waiting state name whole work some held e =
+    → IsAtWork waiting state → 0 < pending_in state name → (session : LiveSession) → live_session state name ≡ Some session → HasWholeStep Force session
+forces waiting state name whole work some session e =
     let o = opens waiting state name whole work in
-    let is : o.held ≡ held = same_Some o.held held (sym o.there ∙ e) in
-    subst (λ (h : LiveSession). IsWhole Force h) is
-    (record { kind = o.is ∙ sym o.pending ∙ kind o.held (subst (λ n. 0 < n) (pending-held state name o.held o.there) some); whole = o.whole })
+    let is : o.session ≡ session = same_Some o.session session (sym o.there ∙ e) in
+    subst (λ (h : LiveSession). HasWholeStep Force h) is
+    (record { kind = o.is ∙ sym o.pending ∙ kind o.session (subst (λ n. 0 < n) (pending-held state name o.session o.there) some); whole = o.whole })
   where
     kind : (h : LiveSession) → 0 < h.pending → kind_pending waiting name h ≡ Some Force
     kind h more = rw (lt-ltb 0 h.pending more) refl
 
 -- where none are it is one of energies, since what waits measures the session
 pub record Energies (waiting : Option Command) (state : UserState) (name : List ℕ) : Type 0 where
-  pub held : LiveSession
-  pub there : live_session state name ≡ Some held
-  pub none : held.pending ≡ 0
-  pub whole : IsWhole Energy held
+  pub session : LiveSession
+  pub there : live_session state name ≡ Some session
+  pub none : session.pending ≡ 0
+  pub whole : HasWholeStep Energy session
   pub measured : is_measured waiting name ≡ true
 
 pub energies : (waiting : Option Command) (state : UserState) (name : List ℕ) → is_whole_in state name ≡ true
@@ -86,13 +86,13 @@ energies waiting state name whole work none = by_test (is_measured waiting name)
     o : Open waiting state name
     o = opens waiting state name whole work
 
-    nothing : o.held.pending ≡ 0
-    nothing = sym (pending-held state name o.held o.there) ∙ none
+    nothing : o.session.pending ≡ 0
+    nothing = sym (pending-held state name o.session o.there) ∙ none
 
     some : is_measured waiting name ≡ true → Energies waiting state name
     some t =
-        let kind : kind_pending waiting name o.held ≡ Some Energy = rw (nothing, t) refl in record {
-          held = o.held;
+        let kind : kind_pending waiting name o.session ≡ Some Energy = rw (nothing, t) refl in record {
+          session = o.session;
           there = o.there;
           none = nothing;
           whole = record { kind = o.is ∙ sym o.pending ∙ kind; whole = o.whole };
@@ -101,7 +101,7 @@ energies waiting state name whole work none = by_test (is_measured waiting name)
 
     lacking : is_measured waiting name ≡ false → Energies waiting state name
     lacking t =
-        let kind : kind_pending waiting name o.held ≡ None = rw (nothing, t) refl in
+        let kind : kind_pending waiting name o.session ≡ None = rw (nothing, t) refl in
         absurd (none_some o.kind (sym kind ∙ o.pending))
       where
         none_some : (k : Kind) → None ≡ Some k → ⊥
@@ -139,8 +139,8 @@ pub measured_last : (command : Command) (state : UserState) (name : List ℕ) �
 unfolding waits_for
 measured_last command state name e =
     let is = measures command name e.measured in
-    let pending : pending_in state name ≡ 0 = pending-held state name e.held e.there ∙ e.none in
-    let one = measure-turns-one (user_of state) name _ (named-held state name e.held e.there) in
+    let pending : pending_in state name ≡ 0 = pending-held state name e.session e.there ∙ e.none in
+    let one = measure-turns-one (user_of state) name _ (named-held state name e.session e.there) in
     ap (turns_before state) is ∙ (let sum : pending_in state name + turns (user_of state) (Measure name) ≡ 1 = omega (arith, pending, one) in sum)
 
 pub measured_answered : (command : Command) (state next : UserState) (name : List ℕ) (reply : Reply) → command ≡ Measure name
@@ -158,14 +158,14 @@ pub at_work-closed : (command : Command) (state : UserState) (name : List ℕ) �
     → Energies (Some command) state name → IsAtWork (Some command) state → IsAtWork None (with_session_changed name with_no_step state)
 at_work-closed command state name waits en work other h e = by_test (bytes_eq name other) here there
   where
-    now : with_session_changed name with_no_step state ≡ with_live_session name (with_no_step en.held) state
-    now = changed-some state name with_no_step en.held en.there
+    now : with_session_changed name with_no_step state ≡ with_live_session name (with_no_step en.session) state
+    now = changed-some state name with_no_step en.session en.there
 
     here : bytes_eq name other ≡ true → kind_of h.live.part ≡ kind_pending None other h
     here t =
         let same = (bytes_eq-Decides name other).0 t in
-        let is : with_no_step en.held ≡ h =
-        same_Some (with_no_step en.held) h (sym (named-put_any name state.sessions (with_no_step en.held))
+        let is : with_no_step en.session ≡ h =
+        same_Some (with_no_step en.session) h (sym (named-put_any name state.sessions (with_no_step en.session))
         ∙ ap (λ (o : UserState). live_session o name) (sym now)
         ∙ ap (live_session (with_session_changed name with_no_step state)) same ∙ e) in
         subst (λ (x : LiveSession). kind_of x.live.part ≡ kind_pending None other x) is (rw en.none refl)
@@ -174,7 +174,7 @@ at_work-closed command state name waits en work other h e = by_test (bytes_eq na
     there t =
         let apart : name ≢ other = λ same. true≢false (sym ((bytes_eq-Decides name other).1 same) ∙ t) in
         let was : live_session state other ≡ Some h =
-        sym (named-put_other name other apart state.sessions (with_no_step en.held))
+        sym (named-put_other name other apart state.sessions (with_no_step en.session))
         ∙ ap (λ (o : UserState). live_session o other) (sym now) ∙ e in
         work other h was ∙ rw (unmeasured command name other waits apart) refl
 
@@ -251,10 +251,10 @@ waited_named Bye name e = absurd (none_some e)
 pub rests-followed : (command : Command) (old new : UserState) (name : List ℕ) → waits_for command ≡ Some name
     → turns_before old command ≡ 0 → IsAtWork None old → StepsFollow command old new → IsIdleIn new name
 unfolding waits_for
-rests-followed command old new name waits none work steps held there =
-    after command waits (steps name held (waited_named command name waits) there)
+rests-followed command old new name waits none work steps session there =
+    after command waits (steps name session (waited_named command name waits) there)
   where
-    same : (o : Option LiveSession) → live_session old name ≡ o → IsSomeAnd o (λ before. SameSteps before held) → IsIdle held
+    same : (o : Option LiveSession) → live_session old name ≡ o → IsSomeAnd o (λ before. SameSteps before session) → IsIdle session
     same None h lacking = absurd lacking
     same (Some before) h s =
         let pending : before.pending ≡ 0 = sym (pending-held old name before h) ∙ none-before old command name waits none in record {
@@ -265,27 +265,27 @@ rests-followed command old new name waits none work steps held there =
     none_some : None ≡ Some name → ⊥
     none_some e = cc
 
-    after : (command : Command) → waits_for command ≡ Some name → StepsAfter command (live_session old name) held → IsIdle held
+    after : (command : Command) → waits_for command ≡ Some name → StepsAfter command (live_session old name) session → IsIdle session
     after (Load load) w s = absurd (none_some w)
-    after (Start session n) w s = absurd (none_some w)
-    after (Forget session branch) w s = absurd (none_some w)
-    after (ListBranches session) w s = absurd (none_some w)
+    after (Start session_name n) w s = absurd (none_some w)
+    after (Forget session_name branch) w s = absurd (none_some w)
+    after (ListBranches session_name) w s = absurd (none_some w)
     after command w s = either s
       where
-        either : IsIdle held ⊎ IsSomeAnd (live_session old name) (λ before. SameSteps before held) → IsIdle held
+        either : IsIdle session ⊎ IsSomeAnd (live_session old name) (λ before. SameSteps before session) → IsIdle session
         either (inl i) = i
         either (inr s) = same (live_session old name) refl s
 
 pub rests-closed : (old : UserState) (name : List ℕ) → pending_in old name ≡ 0 → IsIdleIn (with_session_changed name with_no_step old) name
-rests-closed old name none held there = by (live_session old name) refl
+rests-closed old name none session there = by (live_session old name) refl
   where
     none_some : (x : LiveSession) → None ≡ Some x → ⊥
     none_some x e = cc
 
-    by : (o : Option LiveSession) → live_session old name ≡ o → IsIdle held
-    by None e = absurd (none_some held (sym e ∙ ap (λ (o : UserState). live_session o name) (sym (changed-none old name with_no_step e)) ∙ there))
+    by : (o : Option LiveSession) → live_session old name ≡ o → IsIdle session
+    by None e = absurd (none_some session (sym e ∙ ap (λ (o : UserState). live_session o name) (sym (changed-none old name with_no_step e)) ∙ there))
     by (Some was) e =
-        let is : with_no_step was ≡ held = same_Some (with_no_step was) held (sym (named-put_any name old.sessions (with_no_step was))
+        let is : with_no_step was ≡ session = same_Some (with_no_step was) session (sym (named-put_any name old.sessions (with_no_step was))
         ∙ ap (λ (o : UserState). live_session o name) (sym (changed-some old name with_no_step was e)) ∙ there) in
         subst IsIdle is (record { pending = sym (pending-held old name was e) ∙ none; closed = refl })
 

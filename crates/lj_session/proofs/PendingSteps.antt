@@ -1,7 +1,7 @@
 -- Pending steps: their number, the count of atoms, and the session that is meant.
 use Rattle.std.proofs.Common.{◌≡◌, ℕ, zero, suc, ◌+◌, ◌-◌, ◌<◌, ◌&&◌, nat_le, nat_lt, pos, ◌+ℤ◌, ◌*ℤ◌, length, refl, sym, ◌∙◌, ap, arith}
 use Rattle.std.proofs.lemmas.Int.{ints}
-use Rattle.lj_tile.specs.Species.{Composition}
+use Rattle.lj_task.specs.Species.{Composition}
 use Rattle.lj_step.specs.Motion.{Simulation, next_simulation, steps}
 use Rattle.lj_session.specs.Users.{atoms_of}
 use Rattle.lj_session.specs.UserState.{LiveSession, as_session, settled_session, with_more_pending, with_step_finished, with_step_taken, with_step_restarted, with_posted}
@@ -25,12 +25,12 @@ step-steps u (suc n) sim =
     next ∙ same
 
 -- the step number that a session is going to
-pub target_is : (held : LiveSession) → (settled_session held).sim.step ≡ held.live.sim.step +ℤ held.live.sim.dir *ℤ pos held.pending
-target_is held = step-steps held.live.composition held.pending held.live.sim
+pub target_is : (session : LiveSession) → (settled_session session).sim.step ≡ session.live.sim.step +ℤ session.live.sim.dir *ℤ pos session.pending
+target_is session = step-steps session.live.composition session.pending session.live.sim
 
 -- and its direction
-pub dir_is : (held : LiveSession) → (settled_session held).sim.dir ≡ held.live.sim.dir
-dir_is held = dir-steps held.live.composition held.pending held.live.sim
+pub dir_is : (session : LiveSession) → (settled_session session).sim.dir ≡ session.live.sim.dir
+dir_is session = dir-steps session.live.composition session.pending session.live.sim
 
 pub steps-add : (u : Composition) (m n : ℕ) (sim : Simulation) → steps u (m + n) sim ≡ steps u n (steps u m sim)
 steps-add u zero n sim = ap (λ m. steps u m sim) (let same : 0 + n ≡ n = omega arith in same)
@@ -38,60 +38,60 @@ steps-add u (suc m) n sim =
     ap (λ k. steps u k sim) (let same : suc m + n ≡ suc (m + n) = omega arith in same) ∙ steps-add u m n (next_simulation u sim)
 
 -- where no step is pending, the session that is meant is the one that is held
-pub meant-settled : (held : LiveSession) → held.pending ≡ 0 → settled_session held ≡ as_session held
-meant-settled held none = rw none refl
+pub meant-settled : (session : LiveSession) → session.pending ≡ 0 → settled_session session ≡ as_session session
+meant-settled session none = rw none refl
 
-pub count-meant : (held : LiveSession) → atoms_of (settled_session held) ≡ length held.live.sim.cur
-count-meant held = count-steps held.live.composition held.pending held.live.sim
+pub count-meant : (session : LiveSession) → atoms_of (settled_session session) ≡ length session.live.sim.cur
+count-meant session = count-steps session.live.composition session.pending session.live.sim
 
 -- more pending steps are more steps done in the end
-pub meant-added : (n : ℕ) (held : LiveSession) → settled_session (with_more_pending n held)
-    ≡ record (settled_session held) { sim = steps held.live.composition n (settled_session held).sim }
-meant-added n held =
-    let added = ap (λ (sim : Simulation). record (settled_session held) { sim = sim })
-    (steps-add held.live.composition held.pending n held.live.sim) in
-    by_test (nat_lt 0 n && nat_le held.pending 0) (λ t. rw t added) (λ t. rw t added)
+pub meant-added : (n : ℕ) (session : LiveSession) → settled_session (with_more_pending n session)
+    ≡ record (settled_session session) { sim = steps session.live.composition n (settled_session session).sim }
+meant-added n session =
+    let added = ap (λ (sim : Simulation). record (settled_session session) { sim = sim })
+    (steps-add session.live.composition session.pending n session.live.sim) in
+    by_test (nat_lt 0 n && nat_le session.pending 0) (λ t. rw t added) (λ t. rw t added)
 
 -- a step that was pending is done
-pub meant-turned : (held : LiveSession) → 0 < held.pending → settled_session (with_step_taken held) ≡ settled_session held
-meant-turned held some = by held.pending refl
+pub meant-turned : (session : LiveSession) → 0 < session.pending → settled_session (with_step_taken session) ≡ settled_session session
+meant-turned session some = by session.pending refl
   where
-    by : (n : ℕ) → held.pending ≡ n → settled_session (with_step_taken held) ≡ settled_session held
+    by : (n : ℕ) → session.pending ≡ n → settled_session (with_step_taken session) ≡ settled_session session
     by zero e = absurd (omega (arith, some, e))
     by (suc n) e =
-        let less : held.pending - 1 ≡ n = omega (arith, e) in
-        ap (λ m. record (settled_session (with_step_taken held)) { sim = steps held.live.composition m (next_simulation held.live.composition held.live.sim) }) less
-        ∙ sym (ap (λ m. record (settled_session held) { sim = steps held.live.composition m held.live.sim }) e)
+        let less : session.pending - 1 ≡ n = omega (arith, e) in
+        ap (λ m. record (settled_session (with_step_taken session)) { sim = steps session.live.composition m (next_simulation session.live.composition session.live.sim) }) less
+        ∙ sym (ap (λ m. record (settled_session session) { sim = steps session.live.composition m session.live.sim }) e)
 
-pub meant-passed : (held : LiveSession) → 0 < held.pending → settled_session (with_step_finished held) ≡ settled_session held
-meant-passed held some =
-    by_test (nat_lt 0 (with_step_taken held).pending) (λ t. rw t (meant-turned held some)) (λ t. rw t (meant-turned held some))
+pub meant-passed : (session : LiveSession) → 0 < session.pending → settled_session (with_step_finished session) ≡ settled_session session
+meant-passed session some =
+    by_test (nat_lt 0 (with_step_taken session).pending) (λ t. rw t (meant-turned session some)) (λ t. rw t (meant-turned session some))
 
 -- a step begun anew leaves what is meant
-pub meant-rest : (held : LiveSession) → settled_session (with_step_restarted held) ≡ settled_session held
-meant-rest held = by_test (nat_lt 0 held.pending) (λ t. rw t refl) (λ t. rw t refl)
+pub meant-rest : (session : LiveSession) → settled_session (with_step_restarted session) ≡ settled_session session
+meant-rest session = by_test (nat_lt 0 session.pending) (λ t. rw t refl) (λ t. rw t refl)
 
 -- noting a tile as posted leaves it
-pub meant-posted : (held : LiveSession) → settled_session (with_posted held) ≡ settled_session held
-meant-posted = posted-same settled_session (λ n held. refl)
+pub meant-posted : (session : LiveSession) → settled_session (with_posted session) ≡ settled_session session
+meant-posted = posted-same settled_session (λ n session. refl)
 
 -- what is pending and passed leaves the count of atoms, and what is saved
-pub count-added : (n : ℕ) (held : LiveSession) → length (with_more_pending n held).live.sim.cur ≡ length held.live.sim.cur
-count-added n held = by_test (nat_lt 0 n && nat_le held.pending 0) (λ t. rw t refl) (λ t. rw t refl)
+pub count-added : (n : ℕ) (session : LiveSession) → length (with_more_pending n session).live.sim.cur ≡ length session.live.sim.cur
+count-added n session = by_test (nat_lt 0 n && nat_le session.pending 0) (λ t. rw t refl) (λ t. rw t refl)
 
-pub saved-added : (n : ℕ) (held : LiveSession) → length (with_more_pending n held).saved ≡ length held.saved
-saved-added n held = by_test (nat_lt 0 n && nat_le held.pending 0) (λ t. rw t refl) (λ t. rw t refl)
+pub saved-added : (n : ℕ) (session : LiveSession) → length (with_more_pending n session).saved ≡ length session.saved
+saved-added n session = by_test (nat_lt 0 n && nat_le session.pending 0) (λ t. rw t refl) (λ t. rw t refl)
 
-pub count-passed : (held : LiveSession) → length (with_step_finished held).live.sim.cur ≡ length held.live.sim.cur
-count-passed held =
-    let one = count-stepped held.live.composition held.live.sim in
-    by_test (nat_lt 0 (with_step_taken held).pending) (λ t. rw t one) (λ t. rw t one)
+pub count-passed : (session : LiveSession) → length (with_step_finished session).live.sim.cur ≡ length session.live.sim.cur
+count-passed session =
+    let one = count-stepped session.live.composition session.live.sim in
+    by_test (nat_lt 0 (with_step_taken session).pending) (λ t. rw t one) (λ t. rw t one)
 
-pub saved-passed : (held : LiveSession) → length (with_step_finished held).saved ≡ length held.saved
-saved-passed held = by_test (nat_lt 0 (with_step_taken held).pending) (λ t. rw t refl) (λ t. rw t refl)
+pub saved-passed : (session : LiveSession) → length (with_step_finished session).saved ≡ length session.saved
+saved-passed session = by_test (nat_lt 0 (with_step_taken session).pending) (λ t. rw t refl) (λ t. rw t refl)
 
-pub count-rest : (held : LiveSession) → length (with_step_restarted held).live.sim.cur ≡ length held.live.sim.cur
-count-rest held = by_test (nat_lt 0 held.pending) (λ t. rw t refl) (λ t. rw t refl)
+pub count-rest : (session : LiveSession) → length (with_step_restarted session).live.sim.cur ≡ length session.live.sim.cur
+count-rest session = by_test (nat_lt 0 session.pending) (λ t. rw t refl) (λ t. rw t refl)
 
-pub pending-added : (n : ℕ) (held : LiveSession) → (with_more_pending n held).pending ≡ held.pending + n
-pending-added n held = by_test (nat_lt 0 n && nat_le held.pending 0) (λ t. rw t refl) (λ t. rw t refl)
+pub pending-added : (n : ℕ) (session : LiveSession) → (with_more_pending n session).pending ≡ session.pending + n
+pending-added n session = by_test (nat_lt 0 n && nat_le session.pending 0) (λ t. rw t refl) (λ t. rw t refl)

@@ -27,24 +27,24 @@ done old new command reply h others steps =
 
 -- a START that the range does not allow, or another command
 abbrev pub IsFar : Command → LiveSession → Type 0
-IsFar (Start name n) held = can_advance (settled_session held) n ≡ false
-IsFar command held = Unit {0}
+IsFar (Start name n) session = can_advance (settled_session session) n ≡ false
+IsFar command session = Unit {0}
 
 abbrev pub IsFarIn : UserState → Command → Type 0
 IsFarIn state command =
-    (name : List ℕ) (held : LiveSession) → session_named command ≡ Some name → live_session state name ≡ Some held → IsFar command held
+    (name : List ℕ) (session : LiveSession) → session_named command ≡ Some name → live_session state name ≡ Some session → IsFar command session
 
 -- nothing has changed
-same-after : (command : Command) (held : LiveSession) → IsFar command held → StepsAfter command (Some held) held
-same-after (Load load) held far = record { live = refl; passed = refl; pending = refl }
-same-after (Start name n) held far = rw far refl
-same-after (Forget name branch) held far = record { live = refl; passed = refl; pending = refl }
-same-after (ListBranches name) held far = record { live = refl; passed = refl; pending = refl }
-same-after command held far = inr (record { live = refl; passed = refl; pending = refl })
+same-after : (command : Command) (session : LiveSession) → IsFar command session → StepsAfter command (Some session) session
+same-after (Load load) session far = record { live = refl; passed = refl; pending = refl }
+same-after (Start name n) session far = rw far refl
+same-after (Forget name branch) session far = record { live = refl; passed = refl; pending = refl }
+same-after (ListBranches name) session far = record { live = refl; passed = refl; pending = refl }
+same-after command session far = inr (record { live = refl; passed = refl; pending = refl })
 
 pub steps-same : (state : UserState) (command : Command) → IsFarIn state command → StepsFollow command state state
-steps-same state command far name held is there =
-    subst (λ (o : Option LiveSession). StepsAfter command o held) (sym there) (same-after command held (far name held is there))
+steps-same state command far name session is there =
+    subst (λ (o : Option LiveSession). StepsAfter command o session) (sym there) (same-after command session (far name session is there))
 
 -- a command that is refused without it
 pub refused : (old new : UserState) (command : Command) (refusal : Refusal)

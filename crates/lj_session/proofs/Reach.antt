@@ -8,7 +8,7 @@ use Rattle.lj_step.specs.Motion.{Simulation, next_simulation}
 use Rattle.lj_step.specs.Sim.{Sim}
 use Rattle.lj_session.specs.declared.live_session.LiveSession.TheInside.{Inside}
 use Rattle.lj_session.specs.Answers.{can_advance}
-use Rattle.lj_session.specs.Kept.{IsHeld, session_of_kept}
+use Rattle.lj_session.specs.KeptSessions.{IsHeld, session_of_kept}
 use Rattle.lj_session.specs.UserState.{HasCount, settled_session}
 use Rattle.lj_session.proofs.Counts.{count-stepped}
 use Rattle.lj_session.proofs.PendingSteps.{target_is, dir-steps}

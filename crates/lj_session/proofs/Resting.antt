@@ -24,16 +24,16 @@ rested_at (suc i) [] = refl
 rested_at (suc i) (e ∷ es) = rested_at i es
 
 -- and put at rest it is one more
-pub rested_next : (i : ℕ) (es : List (List ℕ × LiveSession)) (held : LiveSession) → slice_get (map (λ e. e.1) es) i ≡ Some held
-    → set_value_at (rested_to i es) i (with_step_restarted held) ≡ rested_to (suc i) es
-rested_next zero [] held there = refl
-rested_next zero (e ∷ es) held there =
-    ap (λ h. (e.0, with_step_restarted h) ∷ es) (sym (same e.1 held there))
+pub rested_next : (i : ℕ) (es : List (List ℕ × LiveSession)) (session : LiveSession) → slice_get (map (λ e. e.1) es) i ≡ Some session
+    → set_value_at (rested_to i es) i (with_step_restarted session) ≡ rested_to (suc i) es
+rested_next zero [] session there = refl
+rested_next zero (e ∷ es) session there =
+    ap (λ h. (e.0, with_step_restarted h) ∷ es) (sym (same e.1 session there))
   where
     same : (a b : LiveSession) → Some a ≡ Some b → a ≡ b
     same a b k = cc
-rested_next (suc i) [] held there = refl
-rested_next (suc i) (e ∷ es) held there = ap (λ l. (e.0, with_step_restarted e.1) ∷ l) (rested_next i es held there)
+rested_next (suc i) [] session there = refl
+rested_next (suc i) (e ∷ es) session there = ap (λ l. (e.0, with_step_restarted e.1) ∷ l) (rested_next i es session there)
 
 pub rested_all : (i : ℕ) (es : List (List ℕ × LiveSession)) → i ≡ length es
     → rested_to i es ≡ map (λ e. (e.0, with_step_restarted e.1)) es

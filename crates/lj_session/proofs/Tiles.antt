@@ -8,7 +8,7 @@ use Rattle.std.specs.List.{find, range_with_len}
 use Rattle.lj_base.specs.declared.names.Label.{Label}
 use Rattle.lj_step.specs.Sim.{Sim, OpenStep}
 use Rattle.lj_step.specs.OpenSteps.{is_tile_awaited, cover, task_at, tiles_of}
-use Rattle.lj_session.specs.UserState.{LiveSession, as_session, next_of, next_tile, with_passed_to, with_posted}
+use Rattle.lj_session.specs.UserState.{LiveSession, next_of, next_tile, with_passed_to, with_posted}
 
 pub find-step : (test : ℕ → Bool) (i n : ℕ) → i < n
     → find test (range_with_len i (n - i)) ≡ cond (test i) (Some i) (find test (range_with_len (i + 1) (n - (i + 1))))
@@ -32,20 +32,17 @@ find-here test i n o below passes found =
     sym (find-step test i n below ∙ ap (λ b. cond b (Some i) (find test (range_with_len (i + 1) (n - (i + 1))))) passes)
     ∙ found
 
--- noting a tile as posted leaves all that does not depend on how many are, as the simulation and the session
-pub posted-same : {A : Type 0} (read : LiveSession → A) → ((n : ℕ) (held : LiveSession) → read (record held { passed = n }) ≡ read held)
-    → (held : LiveSession) → read (with_posted held) ≡ read held
-posted-same read same held = by (next_tile held)
+-- noting a tile as posted leaves all that does not depend on how many are, as the simulation
+pub posted-same : {A : Type 0} (read : LiveSession → A) → ((n : ℕ) (session : LiveSession) → read (record session { passed = n }) ≡ read session)
+    → (session : LiveSession) → read (with_posted session) ≡ read session
+posted-same read same session = by (next_tile session)
   where
-    by : (o : Option ℕ) → read (with_passed_to o held) ≡ read held
+    by : (o : Option ℕ) → read (with_passed_to o session) ≡ read session
     by None = refl
-    by (Some i) = same (i + 1) held
+    by (Some i) = same (i + 1) session
 
-pub posted-live : (held : LiveSession) → (with_posted held).live ≡ held.live
-posted-live = posted-same (λ held. held.live) (λ n held. refl)
-
-pub posted-session : (held : LiveSession) → as_session (with_posted held) ≡ as_session held
-posted-session = posted-same as_session (λ n held. refl)
+pub posted-live : (session : LiveSession) → (with_posted session).live ≡ session.live
+posted-live = posted-same (λ session. session.live) (λ n session. refl)
 
 -- what is found passes the test
 pub find-passes : {A : Type 0} (test : A → Bool) (xs : List A) (x : A) → find test xs ≡ Some x → test x ≡ true
@@ -76,11 +73,11 @@ awaited-task live label i h = by live.part refl
     by (Some p) e = with_part p e (slice_get (cover live.composition live.sim.cur) i) refl
 
 -- so there is a next task exactly where a tile is found
-pub found-task : (held : LiveSession) (label : Label) → is_some (next_of label (Some held)) ≡ is_some (next_tile held)
-found-task held label = by (next_tile held) refl
+pub found-task : (session : LiveSession) (label : Label) → is_some (next_of label (Some session)) ≡ is_some (next_tile session)
+found-task session label = by (next_tile session) refl
   where
-    by : (o : Option ℕ) → next_tile held ≡ o → is_some (next_of label (Some held)) ≡ is_some o
+    by : (o : Option ℕ) → next_tile session ≡ o → is_some (next_of label (Some session)) ≡ is_some o
     by None e = rw e refl
     by (Some i) e =
-        ap (λ o. is_some (option_and_then (task_at held.live label) o)) e
-        ∙ awaited-task held.live label i (find-passes (is_tile_awaited held.live) (range_with_len held.passed (tiles_of held.live - held.passed)) i e)
+        ap (λ o. is_some (option_and_then (task_at session.live label) o)) e
+        ∙ awaited-task session.live label i (find-passes (is_tile_awaited session.live) (range_with_len session.passed (tiles_of session.live - session.passed)) i e)

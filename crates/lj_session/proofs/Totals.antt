@@ -26,30 +26,30 @@ module _ (old : UserState) (name : List ℕ) (new : LiveSession) where
   put_used = ap user_used (user_of-put old name new)
 
   -- a session changed
-  module _ (held : LiveSession) (found : live_session old name ≡ Some held) where
-    session : value_named name (user_of old).sessions ≡ Some (settled_session held)
-    session = named-held old name held found
+  module _ (session : LiveSession) (found : live_session old name ≡ Some session) where
+    session_found : value_named name (user_of old).sessions ≡ Some (settled_session session)
+    session_found = named-held old name session found
 
     pub sessions-changed : (used_by (with_live_session name new old)).sessions ≡ (used_by old).sessions
     sessions-changed = ap (λ (u : Used). u.sessions) put_used
-        ∙ length-put name (user_of old).sessions (settled_session held) (settled_session new) session
+        ∙ length-put name (user_of old).sessions (settled_session session) (settled_session new) session_found
 
-    pub atoms-changed : (used_by (with_live_session name new old)).atoms + length held.live.sim.cur
+    pub atoms-changed : (used_by (with_live_session name new old)).atoms + length session.live.sim.cur
         ≡ (used_by old).atoms + length new.live.sim.cur
     atoms-changed =
         let is = ap (λ (u : Used). u.atoms) put_used in
-        let sum = sum-put name atoms_of (user_of old).sessions (settled_session held) (settled_session new) session in
-        let was = count-meant held in
+        let sum = sum-put name atoms_of (user_of old).sessions (settled_session session) (settled_session new) session_found in
+        let was = count-meant session in
         let now = count-meant new in
         omega (arith, is, sum, was, now)
 
-    pub branches-changed : (used_by (with_live_session name new old)).branches + length held.saved
+    pub branches-changed : (used_by (with_live_session name new old)).branches + length session.saved
         ≡ (used_by old).branches + length new.saved
-    branches-changed = ap (λ (u : Used). u.branches + length held.saved) put_used
-        ∙ sum-put name saved_of (user_of old).sessions (settled_session held) (settled_session new) session
+    branches-changed = ap (λ (u : Used). u.branches + length session.saved) put_used
+        ∙ sum-put name saved_of (user_of old).sessions (settled_session session) (settled_session new) session_found
 
     -- with as many atoms and as many saved simulations as before
-    pub used-same : length new.live.sim.cur ≡ length held.live.sim.cur → length new.saved ≡ length held.saved
+    pub used-same : length new.live.sim.cur ≡ length session.live.sim.cur → length new.saved ≡ length session.saved
         → used_by (with_live_session name new old) ≡ used_by old
     used-same atoms saved = same_used (used_by (with_live_session name new old)) (used_by old) sessions-changed
         (let a = atoms-changed in omega (arith, a, atoms)) (let b = branches-changed in omega (arith, b, saved))
@@ -57,20 +57,20 @@ module _ (old : UserState) (name : List ℕ) (new : LiveSession) where
     pub sessions-taken : (used_by (record old { sessions = without_value name old.sessions })).sessions + 1
         ≡ (used_by old).sessions
     sessions-taken = ap (λ (u : User). sessions_used u + 1) (user_of-taken old name)
-        ∙ length-taken name (user_of old).sessions (settled_session held) session
+        ∙ length-taken name (user_of old).sessions (settled_session session) session_found
 
-    pub atoms-taken : (used_by (record old { sessions = without_value name old.sessions })).atoms + length held.live.sim.cur
+    pub atoms-taken : (used_by (record old { sessions = without_value name old.sessions })).atoms + length session.live.sim.cur
         ≡ (used_by old).atoms
     atoms-taken =
         let is = ap atoms_used (user_of-taken old name) in
-        let sum = sum-taken name atoms_of (user_of old).sessions (settled_session held) session in
-        let was = count-meant held in
+        let sum = sum-taken name atoms_of (user_of old).sessions (settled_session session) session_found in
+        let was = count-meant session in
         omega (arith, is, sum, was)
 
-    pub branches-taken : (used_by (record old { sessions = without_value name old.sessions })).branches + length held.saved
+    pub branches-taken : (used_by (record old { sessions = without_value name old.sessions })).branches + length session.saved
         ≡ (used_by old).branches
-    branches-taken = ap (λ (u : User). branches_used u + length held.saved) (user_of-taken old name)
-        ∙ sum-taken name saved_of (user_of old).sessions (settled_session held) session
+    branches-taken = ap (λ (u : User). branches_used u + length session.saved) (user_of-taken old name)
+        ∙ sum-taken name saved_of (user_of old).sessions (settled_session session) session_found
 
   -- a new session
   module _ (absent : live_session old name ≡ None) where
@@ -91,24 +91,24 @@ module _ (old : UserState) (name : List ℕ) (new : LiveSession) where
 
 -- The running totals, where a session is taken out and what is held becomes `next`.
 module _ (a : Inside) (old : UserState) (view : state_of_kept a ≡ old) (counted : a.used ≡ used_by (state_of_kept a))
-    (name : List ℕ) (held : LiveSession)
-    (found : live_session old name ≡ Some held) (next : UserState) where
+    (name : List ℕ) (session : LiveSession)
+    (found : live_session old name ≡ Some session) (next : UserState) where
   used-old : a.used ≡ used_by old
   used-old = counted ∙ ap used_by view
 
   -- the session is taken out
   module _ (is : next ≡ record old { sessions = without_value name old.sessions }) where
-    pub used-less : (sessions atoms branches : ℕ) → sessions ≡ 1 → atoms ≡ length held.live.sim.cur
-        → branches ≡ length held.saved
+    pub used-less : (sessions atoms branches : ℕ) → sessions ≡ 1 → atoms ≡ length session.live.sim.cur
+        → branches ≡ length session.saved
         → record {
           sessions = a.used.sessions - sessions;
           atoms = a.used.atoms - atoms;
           branches = a.used.branches - branches;
         } ≡ used_by next
     used-less sessions atoms branches one its saved =
-        let s = sessions-taken old name held held found in
-        let t = atoms-taken old name held held found in
-        let u = branches-taken old name held held found in
+        let s = sessions-taken old name session session found in
+        let t = atoms-taken old name session session found in
+        let u = branches-taken old name session session found in
         let before = used-old in
         same_used (record {
           sessions = a.used.sessions - sessions;
@@ -120,15 +120,15 @@ module _ (a : Inside) (old : UserState) (view : state_of_kept a ≡ old) (counte
         (let b = ap (λ (v : Used). v.branches) before in omega (arith, b, u, saved))
         ∙ ap used_by (sym is)
 
-  pub atoms-within : length held.live.sim.cur ≤ a.used.atoms
+  pub atoms-within : length session.live.sim.cur ≤ a.used.atoms
   atoms-within =
-      let t = atoms-taken old name held held found in
+      let t = atoms-taken old name session session found in
       let b = ap (λ (v : Used). v.atoms) used-old in
       omega (arith, b, t)
 
-  pub saved-within : length held.saved ≤ a.used.branches
+  pub saved-within : length session.saved ≤ a.used.branches
   saved-within =
-      let u = branches-taken old name held held found in
+      let u = branches-taken old name session session found in
       let b = ap (λ (v : Used). v.branches) used-old in
       omega (arith, b, u)
 

@@ -3,13 +3,13 @@
 use Rattle.std.proofs.Common.{◌≡◌, ℕ, ◌+◌, ◌<◌, true, List, Option, Some, None, Ok, sym, ap, ◌∙◌, subst, arith}
 use Rattle.std.specs.Prelude.{IfSome}
 use Rattle.std.specs.Option.{option_map_or}
-use Rattle.lj_tile.specs.declared.task_name.Kind.TheVariants.{Force, Energy}
+use Rattle.lj_task.specs.declared.task_name.Kind.TheVariants.{Force, Energy}
 use Rattle.lj_session.specs.declared.command.Command.{Command}
 use Rattle.lj_session.specs.declared.command.Command.TheVariants.{Measure}
 use Rattle.lj_session.specs.declared.reply.Reply.{Reply}
 use Rattle.lj_session.specs.Users.{User}
 use Rattle.lj_session.specs.Turns.{waits_for}
-use Rattle.lj_session.specs.UserState.{LiveSession, UserState, IsAtWork, IsIdleIn, IsWhole, OthersKept, OtherSessionsKept, Reads, StepsFollow, user_of, live_session, pending_in, with_session_changed, with_step_finished, with_no_step, is_whole_in, turns_before}
+use Rattle.lj_session.specs.UserState.{LiveSession, UserState, IsAtWork, IsIdleIn, HasWholeStep, OthersKept, OtherSessionsKept, Reads, StepsFollow, user_of, live_session, pending_in, with_session_changed, with_step_finished, with_no_step, is_whole_in, turns_before}
 use Rattle.lj_session.specs.Owner.{Owner, IsAnswered, IsLastTurn, IsReplied, is_waited_for, user_in}
 use Rattle.lj_session.proofs.Passing.{Energies, energies, forces, measures, measured_last, measured_answered, at_work-closed, at_work-passed, others-passed, rests-followed}
 use Rattle.lj_session.proofs.Waiting.{passed_turns, same_name}
@@ -39,9 +39,9 @@ module _ (old : Owner) (name : List ℕ) (command : Command) (waiting : Some com
     measured : Energies (Some command) old.state name
     measured = energies (Some command) old.state name whole at_work none
 
-    pub measured-whole : (held : LiveSession) → live_session old.state name ≡ Some held → IsWhole Energy held
-    measured-whole held there =
-        subst (λ (h : LiveSession). IsWhole Energy h) (same measured.held held (sym measured.there ∙ there)) measured.whole
+    pub measured-whole : (session : LiveSession) → live_session old.state name ≡ Some session → HasWholeStep Energy session
+    measured-whole session there =
+        subst (λ (h : LiveSession). HasWholeStep Energy h) (same measured.session session (sym measured.there ∙ there)) measured.whole
       where
         same : (a b : LiveSession) → Some a ≡ Some b → a ≡ b
         same a b k = cc
@@ -60,7 +60,7 @@ module _ (old : Owner) (name : List ℕ) (command : Command) (waiting : Some com
 
   -- a step that was pending
   module _ (some : 0 < pending_in old.state name) where
-    pub passed-whole : (held : LiveSession) → live_session old.state name ≡ Some held → IsWhole Force held
+    pub passed-whole : (session : LiveSession) → live_session old.state name ≡ Some session → HasWholeStep Force session
     passed-whole = forces (Some command) old.state name whole at_work some
 
     module _ (passed : UserState) (is : passed ≡ with_session_changed name with_step_finished old.state) where

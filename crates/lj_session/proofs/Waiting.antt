@@ -4,8 +4,8 @@ use Rattle.std.proofs.lemmas.Bool.{ltb-false, true≢false}
 use Rattle.std.specs.Option.{option_map_or}
 use Rattle.std.specs.Str.{bytes_eq}
 use Rattle.std.proofs.lemmas.Slice.Eq.{bytes_eq-Decides}
-use Rattle.lj_tile.specs.Task.{Task}
-use Rattle.lj_tile.specs.declared.task_name.Kind.TheVariants.{Energy}
+use Rattle.lj_task.specs.Task.{Task}
+use Rattle.lj_task.specs.declared.task_name.Kind.TheVariants.{Energy}
 use Rattle.lj_step.specs.OpenSteps.{tile_number_of}
 use Rattle.lj_branch.specs.Named.{value_named}
 use Rattle.lj_session.specs.declared.command.Command.{Command}
@@ -15,7 +15,7 @@ use Rattle.lj_session.specs.Answers.{answer, AnswersAlike, can_advance}
 use Rattle.lj_session.specs.Turns.{turns, waits_for, advance_turns}
 use Rattle.lj_session.specs.UserState.{LiveSession, UserState, user_of, as_entry, settled_session, live_session, with_session_changed, with_step, with_posted, with_tile_in, with_step_restarted, with_steps_restarted, with_more_pending, with_step_finished, pending_in, steps_before, turns_before}
 use Rattle.lj_session.specs.Owner.{Owner, user_in, state_begun, command_left, state_taking_up, rest_of, state_changed_in, next_session, with_task_posted, with_task_in, is_waited_for}
-use Rattle.lj_session.specs.Laws.{user_taking, BeginsAlike}
+use Rattle.lj_session.specs.OwnerLaws.{user_taking, BeginsAlike}
 use Rattle.lj_session.proofs.Advancing.{advanced, alike}
 use Rattle.lj_session.proofs.Entries.{by_test, named-put_any}
 use Rattle.lj_session.proofs.Holding.{named-held, named-absent, user_of-changed, user_of-kept, changed-some}
@@ -36,7 +36,7 @@ rested_user state =
     ap (λ (l : List (List ℕ × Session)). record { quota = state.quota; sessions = l }) (rested_entries state.sessions)
 
 changed_user : (name : Option (List ℕ)) (change : LiveSession → LiveSession) (state : UserState)
-    → ((held : LiveSession) → settled_session (change held) ≡ settled_session held) → user_of (state_changed_in name change state) ≡ user_of state
+    → ((session : LiveSession) → settled_session (change session) ≡ settled_session session) → user_of (state_changed_in name change state) ≡ user_of state
 changed_user None change state same = refl
 changed_user (Some name) change state same = user_of-changed state name change same
 
@@ -45,7 +45,7 @@ posted_user owner = changed_user (next_session owner) with_posted owner.state me
 
 pub taken_user : (work : Task) (owner : Owner) → user_in (with_task_in work owner) ≡ user_in owner
 taken_user work owner =
-    user_of-changed owner.state work.name.label.session (with_tile_in (tile_number_of work)) (λ held. refl)
+    user_of-changed owner.state work.name.label.session (with_tile_in (tile_number_of work)) (λ session. refl)
 
 -- a step that was pending is passed
 pub passed_user : (state : UserState) (name : List ℕ) → 0 < pending_in state name → user_of (with_session_changed name with_step_finished state) ≡ user_of state
@@ -53,59 +53,59 @@ passed_user state name some = by (live_session state name) refl
   where
     by : (o : Option LiveSession) → live_session state name ≡ o → user_of (with_session_changed name with_step_finished state) ≡ user_of state
     by None e = absurd (let none = rw e at some in omega (arith, none))
-    by (Some held) e =
-        ap user_of (changed-some state name with_step_finished held e)
-        ∙ user_of-kept state name held (with_step_finished held) e (meant-passed held (rw e at some))
+    by (Some session) e =
+        ap user_of (changed-some state name with_step_finished session e)
+        ∙ user_of-kept state name session (with_step_finished session) e (meant-passed session (rw e at some))
 
 -- and one step fewer is pending
 pub passed_pending : (state : UserState) (name : List ℕ) → 0 < pending_in state name
     → pending_in (with_session_changed name with_step_finished state) name + 1 ≡ pending_in state name
 passed_pending state name some = by (live_session state name) refl
   where
-    less : (held : LiveSession) → (with_step_finished held).pending + 1 ≡ held.pending - 1 + 1
-    less held = by_test (nat_lt 0 (held.pending - 1)) (λ t. rw t refl) (λ t. rw t refl)
+    less : (session : LiveSession) → (with_step_finished session).pending + 1 ≡ session.pending - 1 + 1
+    less session = by_test (nat_lt 0 (session.pending - 1)) (λ t. rw t refl) (λ t. rw t refl)
 
     by : (o : Option LiveSession) → live_session state name ≡ o → pending_in (with_session_changed name with_step_finished state) name + 1 ≡ pending_in state name
     by None e = absurd (let none = rw e at some in omega (arith, none))
-    by (Some held) e =
-        let there : live_session (with_session_changed name with_step_finished state) name ≡ Some (with_step_finished held) =
-        ap (λ (o : UserState). live_session o name) (changed-some state name with_step_finished held e) ∙ named-put_any name state.sessions (with_step_finished held) in
-        let one = less held in
-        let more : 0 < held.pending = rw e at some in
+    by (Some session) e =
+        let there : live_session (with_session_changed name with_step_finished state) name ≡ Some (with_step_finished session) =
+        ap (λ (o : UserState). live_session o name) (changed-some state name with_step_finished session e) ∙ named-put_any name state.sessions (with_step_finished session) in
+        let one = less session in
+        let more : 0 < session.pending = rw e at some in
         ap (λ o. option_map_or (λ (h : LiveSession). h.pending) o 0 + 1) there
-        ∙ (let n : (with_step_finished held).pending + 1 ≡ held.pending = omega (arith, one, more) in n)
+        ∙ (let n : (with_step_finished session).pending + 1 ≡ session.pending = omega (arith, one, more) in n)
         ∙ sym (ap (λ o. option_map_or (λ (h : LiveSession). h.pending) o 0) e)
 
 -- an ADVANCE that takes steps can go on by them
 pub record Goes (state : UserState) (name : List ℕ) (n : ℕ) : Type 0 where
-  pub held : LiveSession
-  pub there : live_session state name ≡ Some held
-  pub near : can_advance (settled_session held) n ≡ true
+  pub session : LiveSession
+  pub there : live_session state name ≡ Some session
+  pub near : can_advance (settled_session session) n ≡ true
 
 pub goes : (state : UserState) (name : List ℕ) (n : ℕ) → 0 < turns (user_of state) (Advance name n) → Goes state name n
 goes state name n some = by (live_session state name) refl
   where
     by : (o : Option LiveSession) → live_session state name ≡ o → Goes state name n
     by None e = absurd (let none = advance-turns-none (user_of state) name n (named-absent state name e) in omega (arith, none, some))
-    by (Some held) e = by_test (can_advance (settled_session held) n)
-        (λ near. record { held = held; there = e; near = near })
-        (λ far. absurd (let none = advance-turns-far (user_of state) name n (settled_session held) (named-held state name held e) far in
+    by (Some session) e = by_test (can_advance (settled_session session) n)
+        (λ near. record { session = session; there = e; near = near })
+        (λ far. absurd (let none = advance-turns-far (user_of state) name n (settled_session session) (named-held state name session e) far in
         omega (arith, none, some)))
 
 -- the pending steps of an ADVANCE are counted
 pub taken_user_of : (state : UserState) (name : List ℕ) (n : ℕ) → Goes state name n
     → user_of (with_session_changed name (with_more_pending n) state) ≡ (answer (user_of state) (Advance name n) false).1
 taken_user_of state name n g =
-    ap user_of (changed-some state name (with_more_pending n) g.held g.there) ∙ pending-user state name g.held g.there n g.near
+    ap user_of (changed-some state name (with_more_pending n) g.session g.there) ∙ pending-user state name g.session g.there n g.near
 
 -- and an ADVANCE by 0 is then answered as the whole
 pub taken_alike : (state : UserState) (name : List ℕ) (n : ℕ) → Goes state name n
     → AnswersAlike (user_of (with_session_changed name (with_more_pending n) state)) (Advance name 0) (user_of state) (Advance name n)
 taken_alike state name n g mark =
-    let found = named-held state name g.held g.there in
+    let found = named-held state name g.session g.there in
     ap (λ u. answer u (Advance name 0) mark) (taken_user_of state name n g
-    ∙ ap (λ a. a.1) (advanced (user_of state) name (settled_session g.held) found n g.near false))
-    ∙ alike (user_of state) name (settled_session g.held) found n g.near mark
+    ∙ ap (λ a. a.1) (advanced (user_of state) name (settled_session g.session) found n g.near false))
+    ∙ alike (user_of state) name (settled_session g.session) found n g.near mark
 
 -- what a command that takes steps of its own leaves
 takes : (command : Command) (owner : Owner) → 0 < turns (user_in owner) command
@@ -115,7 +115,7 @@ unfolding state_taking_up rest_of turns
 takes (Advance name n) owner some =
     let g = goes owner.state name n some in (taken_user_of owner.state name n g, taken_alike owner.state name n g)
 takes (Measure name) owner some =
-    let same = user_of-changed owner.state name (with_step Energy) (λ held. refl) in
+    let same = user_of-changed owner.state name (with_step Energy) (λ session. refl) in
     (same, λ mark. ap (λ u. answer u (Measure name) mark) same)
 takes command owner some = absurd (omega (arith, some))
 
@@ -173,32 +173,32 @@ pub taken_turns : (state : UserState) (name : List ℕ) (n : ℕ) → Goes state
     → turns_before (with_session_changed name (with_more_pending n) state) (Advance name 0) ≡ turns_before state (Advance name n)
 unfolding waits_for
 taken_turns state name n g none =
-    let there : live_session (with_session_changed name (with_more_pending n) state) name ≡ Some (with_more_pending n g.held) =
-    ap (λ (o : UserState). live_session o name) (changed-some state name (with_more_pending n) g.held g.there)
-    ∙ named-put_any name state.sessions (with_more_pending n g.held) in
-    let pending : pending_in (with_session_changed name (with_more_pending n) state) name ≡ g.held.pending + n =
-    ap (λ o. option_map_or (λ (h : LiveSession). h.pending) o 0) there ∙ pending-added n g.held in
-    let was : g.held.pending ≡ 0 = rw g.there at none in
+    let there : live_session (with_session_changed name (with_more_pending n) state) name ≡ Some (with_more_pending n g.session) =
+    ap (λ (o : UserState). live_session o name) (changed-some state name (with_more_pending n) g.session g.there)
+    ∙ named-put_any name state.sessions (with_more_pending n g.session) in
+    let pending : pending_in (with_session_changed name (with_more_pending n) state) name ≡ g.session.pending + n =
+    ap (λ o. option_map_or (λ (h : LiveSession). h.pending) o 0) there ∙ pending-added n g.session in
+    let was : g.session.pending ≡ 0 = rw g.there at none in
     let zero_more = nothing-turns (user_of (with_session_changed name (with_more_pending n) state)) name in
-    let own = advance-turns-near (user_of state) name n (settled_session g.held) (named-held state name g.held g.there) g.near in
+    let own = advance-turns-near (user_of state) name n (settled_session g.session) (named-held state name g.session g.there) g.near in
     omega (arith, pending, was, zero_more, own, none)
 
 -- a MEASURE that takes its turn has its session
 pub measured_there : (state : UserState) (name : List ℕ) → 0 < turns (user_of state) (Measure name)
-    → (held : LiveSession) × (live_session state name ≡ Some held)
+    → (session : LiveSession) × (live_session state name ≡ Some session)
 measured_there state name some = by (live_session state name) refl
   where
-    by : (o : Option LiveSession) → live_session state name ≡ o → (held : LiveSession) × (o ≡ Some held)
+    by : (o : Option LiveSession) → live_session state name ≡ o → (session : LiveSession) × (o ≡ Some session)
     by None e = absurd (let none = measure-turns-none (user_of state) name (named-absent state name e) in omega (arith, none, some))
-    by (Some held) e = (held, refl)
+    by (Some session) e = (session, refl)
 
-pub measured_turns : (state : UserState) (name : List ℕ) (held : LiveSession) → live_session state name ≡ Some held
+pub measured_turns : (state : UserState) (name : List ℕ) (session : LiveSession) → live_session state name ≡ Some session
     → turns_before (with_session_changed name (with_step Energy) state) (Measure name) ≡ turns_before state (Measure name)
 unfolding waits_for
-measured_turns state name held found =
-    let there : live_session (with_session_changed name (with_step Energy) state) name ≡ Some (with_step Energy held) =
-    ap (λ (o : UserState). live_session o name) (changed-some state name (with_step Energy) held found)
-    ∙ named-put_any name state.sessions (with_step Energy held) in
+measured_turns state name session found =
+    let there : live_session (with_session_changed name (with_step Energy) state) name ≡ Some (with_step Energy session) =
+    ap (λ (o : UserState). live_session o name) (changed-some state name (with_step Energy) session found)
+    ∙ named-put_any name state.sessions (with_step Energy session) in
     let now = ap (λ o. option_map_or (λ (h : LiveSession). h.pending) o 0) there in
     let was = ap (λ o. option_map_or (λ (h : LiveSession). h.pending) o 0) found in
     let same = ap (λ u. turns u (Measure name)) (user_of-changed state name (with_step Energy) (λ h. refl)) in

@@ -36,67 +36,67 @@ absent {a} {old} state view name h command new is =
     refused old new command NoSession (none (user_of old) command false (is (not_there a old view name h)))
 
 -- what is in the map is one
-pub is_there : (a : Inside) (old : UserState) → state_of_kept a ≡ old → (name : List ℕ) (held : LiveSession)
-    → Some held ≡ value_named name a.sessions.entries
-    → value_named name (user_of old).sessions ≡ Some (settled_session held)
-is_there a old view name held h = named-held old name held (looked_up a old view name (Some held) h)
+pub is_there : (a : Inside) (old : UserState) → state_of_kept a ≡ old → (name : List ℕ) (session : LiveSession)
+    → Some session ≡ value_named name a.sessions.entries
+    → value_named name (user_of old).sessions ≡ Some (settled_session session)
+is_there a old view name session h = named-held old name session (looked_up a old view name (Some session) h)
 
 -- with no pending steps, where there are none at its name
-pub none_pending : (a : Inside) (old : UserState) → state_of_kept a ≡ old → (name : List ℕ) (held : LiveSession)
-    → Some held ≡ value_named name a.sessions.entries → pending_in old name ≡ 0 → held.pending ≡ 0
-none_pending a old view name held h none = pending-of old name held (looked_up a old view name (Some held) h) none
+pub none_pending : (a : Inside) (old : UserState) → state_of_kept a ≡ old → (name : List ℕ) (session : LiveSession)
+    → Some session ≡ value_named name a.sessions.entries → pending_in old name ≡ 0 → session.pending ≡ 0
+none_pending a old view name session h none = pending-of old name session (looked_up a old view name (Some session) h) none
 
 -- with pending steps, where there are some at its name
-pub some_pending : (a : Inside) (old : UserState) → state_of_kept a ≡ old → (name : List ℕ) (held : LiveSession)
-    → Some held ≡ value_named name a.sessions.entries → 0 < pending_in old name → 0 < held.pending
-some_pending a old view name held h some = rw (looked_up a old view name (Some held) h) at some
+pub some_pending : (a : Inside) (old : UserState) → state_of_kept a ≡ old → (name : List ℕ) (session : LiveSession)
+    → Some session ≡ value_named name a.sessions.entries → 0 < pending_in old name → 0 < session.pending
+some_pending a old view name session h some = rw (looked_up a old view name (Some session) h) at some
 
-pub is_settled : (a : Inside) (old : UserState) → state_of_kept a ≡ old → (name : List ℕ) (held : LiveSession)
-    → Some held ≡ value_named name a.sessions.entries → pending_in old name ≡ 0
-    → value_named name (user_of old).sessions ≡ Some (as_session held)
-is_settled a old view name held h none =
-    let found = looked_up a old view name (Some held) h in named-settled old name held found (pending-of old name held found none)
+pub is_settled : (a : Inside) (old : UserState) → state_of_kept a ≡ old → (name : List ℕ) (session : LiveSession)
+    → Some session ≡ value_named name a.sessions.entries → pending_in old name ≡ 0
+    → value_named name (user_of old).sessions ≡ Some (as_session session)
+is_settled a old view name session h none =
+    let found = looked_up a old view name (Some session) h in named-settled old name session found (pending-of old name session found none)
 
 -- The session that a name stands for becomes another one, and `next` is held then.
-pub record Writes (a : Inside) (old : UserState) (name : List ℕ) (held new : LiveSession) (next : UserState) : Type 0 where
-  pub found : live_session old name ≡ Some held
+pub record Writes (a : Inside) (old : UserState) (name : List ℕ) (session new : LiveSession) (next : UserState) : Type 0 where
+  pub found : live_session old name ≡ Some session
   pub is : next ≡ with_live_session name new old
   pub counted : a.used ≡ used_by old
   pub reached : Reached old
 
-pub writes : {a : Inside} {old : UserState} {held new : LiveSession} {entries : List (List ℕ × LiveSession)} (name : List ℕ)
-    → IsState a → state_of_kept a ≡ old → Some held ≡ value_named name a.sessions.entries
+pub writes : {a : Inside} {old : UserState} {session new : LiveSession} {entries : List (List ℕ × LiveSession)} (name : List ℕ)
+    → IsState a → state_of_kept a ≡ old → Some session ≡ value_named name a.sessions.entries
     → entries ≡ set_value (bytes_eq name) a.sessions.entries new
-    → Writes a old name held new (record { quota = a.quota; sessions = entries })
-writes {a} {old} {held} {new} name state view found set = record {
-  found = looked_up a old view name (Some held) found;
+    → Writes a old name session new (record { quota = a.quota; sessions = entries })
+writes {a} {old} {session} {new} name state view found set = record {
+  found = looked_up a old view name (Some session) found;
   is = ap (λ (es : List (List ℕ × LiveSession)). record { quota = a.quota; sessions = es })
-      (set ∙ set-put name a.sessions.entries held new (sym found))
+      (set ∙ set-put name a.sessions.entries session new (sym found))
       ∙ ap (with_live_session name new) view;
   counted = state.counted ∙ ap used_by view;
   reached = subst Reached view state.reached;
 }
 
-module _ {a : Inside} {old : UserState} {name : List ℕ} {held new : LiveSession} {next : UserState}
-    (w : Writes a old name held new next) where
+module _ {a : Inside} {old : UserState} {name : List ℕ} {session new : LiveSession} {next : UserState}
+    (w : Writes a old name session new next) where
   -- the same session, written once more
-  pub unchanged : new ≡ held → next ≡ old
+  pub unchanged : new ≡ session → next ≡ old
   unchanged same = w.is ∙ ap (λ (h : LiveSession). with_live_session name h old) same
       ∙ ap (λ (es : List (List ℕ × LiveSession)). record { quota = old.quota; sessions = es })
-      (put-same name old.sessions held w.found)
+      (put-same name old.sessions session w.found)
 
-  pub changed_by : (change : LiveSession → LiveSession) → new ≡ change held → next ≡ with_session_changed name change old
+  pub changed_by : (change : LiveSession → LiveSession) → new ≡ change session → next ≡ with_session_changed name change old
   changed_by change same =
-      w.is ∙ ap (λ (h : LiveSession). with_live_session name h old) same ∙ sym (changed-some old name change held w.found)
+      w.is ∙ ap (λ (h : LiveSession). with_live_session name h old) same ∙ sym (changed-some old name change session w.found)
 
-  pub user_kept : settled_session new ≡ settled_session held → user_of next ≡ user_of old
-  user_kept same = ap user_of w.is ∙ user_of-kept old name held new w.found same
+  pub user_kept : settled_session new ≡ settled_session session → user_of next ≡ user_of old
+  user_kept same = ap user_of w.is ∙ user_of-kept old name session new w.found same
 
   -- commands lead to the same user
-  pub reached_kept : settled_session new ≡ settled_session held → Reached next
+  pub reached_kept : settled_session new ≡ settled_session session → Reached next
   reached_kept same = reached-same old next w.reached (user_kept same)
 
-  reached_unchanged : new ≡ held → Reached next
+  reached_unchanged : new ≡ session → Reached next
   reached_unchanged same = reached_kept (ap settled_session same)
 
   same_quota : next.quota ≡ old.quota
@@ -126,33 +126,33 @@ module _ {a : Inside} {old : UserState} {name : List ℕ} {held new : LiveSessio
       done_as command (made read) other (rw same_step performs) same
 
   -- the totals, where the session has as many atoms and as many saved simulations as before
-  pub totals_kept : length new.live.sim.cur ≡ length held.live.sim.cur
-      → length new.saved ≡ length held.saved → a.used ≡ used_by next
-  totals_kept atoms saved = w.counted ∙ sym (used-same old name new held w.found atoms saved) ∙ ap used_by (sym w.is)
+  pub totals_kept : length new.live.sim.cur ≡ length session.live.sim.cur
+      → length new.saved ≡ length session.saved → a.used ≡ used_by next
+  totals_kept atoms saved = w.counted ∙ sym (used-same old name new session w.found atoms saved) ∙ ap used_by (sym w.is)
 
-  pub totals_as : (other : LiveSession) → new ≡ other → length other.live.sim.cur ≡ length held.live.sim.cur
-      → length other.saved ≡ length held.saved → a.used ≡ used_by next
+  pub totals_as : (other : LiveSession) → new ≡ other → length other.live.sim.cur ≡ length session.live.sim.cur
+      → length other.saved ≡ length session.saved → a.used ≡ used_by next
   totals_as other is atoms saved =
       totals_kept (ap (λ (h : LiveSession). length h.live.sim.cur) is ∙ atoms) (ap (λ (h : LiveSession). length h.saved) is ∙ saved)
 
-  totals_unchanged : new ≡ held → a.used ≡ used_by next
+  totals_unchanged : new ≡ session → a.used ≡ used_by next
   totals_unchanged same = w.counted ∙ ap used_by (sym (unchanged same))
 
   -- so the invariant stays
-  pub still : new ≡ held → (b : Inside) → b.used ≡ a.used → state_of_kept b ≡ next → IsState b
+  pub still : new ≡ session → (b : Inside) → b.used ≡ a.used → state_of_kept b ≡ next → IsState b
   still same b used is = record {
     counted = used ∙ totals_unchanged same ∙ ap used_by (sym is);
     reached = subst Reached (sym is) (reached_unchanged same);
   }
 
-  module _ (atoms : length new.live.sim.cur ≡ length held.live.sim.cur) where
+  module _ (atoms : length new.live.sim.cur ≡ length session.live.sim.cur) where
     -- with other numbers of saved simulations
-    totals_with : (branches : ℕ) → branches + length held.saved ≡ a.used.branches + length new.saved
+    totals_with : (branches : ℕ) → branches + length session.saved ≡ a.used.branches + length new.saved
         → record { sessions = a.used.sessions; atoms = a.used.atoms; branches = branches } ≡ used_by next
     totals_with branches saved =
-        let s = sessions-changed old name new held w.found in
-        let t = atoms-changed old name new held w.found in
-        let u = branches-changed old name new held w.found in
+        let s = sessions-changed old name new session w.found in
+        let t = atoms-changed old name new session w.found in
+        let u = branches-changed old name new session w.found in
         same_used (record { sessions = a.used.sessions; atoms = a.used.atoms; branches = branches })
         (used_by (with_live_session name new old))
         (ap (λ (v : Used). v.sessions) w.counted ∙ sym s)
@@ -160,18 +160,18 @@ module _ {a : Inside} {old : UserState} {name : List ℕ} {held new : LiveSessio
         (let b = ap (λ (v : Used). v.branches) w.counted in omega (arith, b, u, saved))
         ∙ ap used_by (sym w.is)
 
-    pub totals_saved : length new.saved ≡ length held.saved + 1
+    pub totals_saved : length new.saved ≡ length session.saved + 1
         → record { sessions = a.used.sessions; atoms = a.used.atoms; branches = a.used.branches + 1 } ≡ used_by next
     totals_saved saved = totals_with (a.used.branches + 1) (omega (arith, saved))
 
     -- where one is taken out there was one
-    pub one_saved : length new.saved + 1 ≡ length held.saved → 1 ≤ a.used.branches
+    pub one_saved : length new.saved + 1 ≡ length session.saved → 1 ≤ a.used.branches
     one_saved saved =
-        let u = branches-changed old name new held w.found in
+        let u = branches-changed old name new session w.found in
         let b = ap (λ (v : Used). v.branches) w.counted in
         omega (arith, b, u, saved)
 
-    pub totals_forgotten : length new.saved + 1 ≡ length held.saved
+    pub totals_forgotten : length new.saved + 1 ≡ length session.saved
         → record { sessions = a.used.sessions; atoms = a.used.atoms; branches = a.used.branches - 1 } ≡ used_by next
     totals_forgotten saved =
         let some = one_saved saved in totals_with (a.used.branches - 1) (omega (arith, saved, some))

@@ -8,7 +8,7 @@ use Rattle.lj_ring.specs.declared.scales.ScaleFault.{ScaleFault}
 use Rattle.lj_ring.specs.declared.scales.ScaleFault.TheVariants as scale
 use Rattle.lj_ring.specs.Mix.{Mix, mixture_of, pure_mix}
 use Rattle.lj_ring.specs.Scale.{Scale, scale_of}
-use Rattle.lj_tile.specs.Species.{Composition}
+use Rattle.lj_task.specs.Species.{Composition}
 use Rattle.lj_xyz.specs.declared.atom_row.AtomRow.{AtomRow}
 use Rattle.lj_xyz.specs.Symbols.{SymbolPair, is_second}
 use Rattle.lj_session.specs.declared.refusal.Refusal.{Refusal}

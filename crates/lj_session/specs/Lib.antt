@@ -5,7 +5,7 @@ pub mod Loads
 pub mod Answers
 pub mod Turns
 pub mod UserState
-pub mod Kept
+pub mod KeptSessions
 pub mod Totals
 pub mod ParsedLoads
 pub mod Faults
@@ -14,5 +14,5 @@ pub mod Begins
 pub mod OwnerCalls
 pub mod Cursors
 pub mod KeptOwners
-pub mod Laws
+pub mod OwnerLaws
 pub mod Limits

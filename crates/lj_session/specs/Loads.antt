@@ -9,7 +9,7 @@ use Rattle.lj_xyz.specs.declared.xyz_fault.XyzFault.{XyzFault}
 use Rattle.lj_xyz.specs.declared.atom_row.AtomRow.{AtomRow}
 use Rattle.lj_xyz.specs.Atoms.{◌>>=◌}
 use Rattle.lj_xyz.specs.Lines.{lines_of}
-use Rattle.lj_xyz.specs.Frames as frames
+use Rattle.lj_xyz.specs.Bodies as frames
 use Rattle.lj_xyz.specs.Reading.{reading}
 use Rattle.lj_xyz.specs.Symbols.{SymbolPair}
 use Rattle.lj_session.specs.declared.body.LoadBody.{LoadBody}

@@ -4,8 +4,8 @@ use Rattle.std.specs.Option.{option_map_or, option_and_then}
 use Rattle.std.specs.List.{find}
 use Rattle.std.specs.Str.{bytes_eq}
 use Rattle.lj_base.specs.declared.names.Label.{Label}
-use Rattle.lj_tile.specs.declared.task_name.Kind.TheVariants.{Energy}
-use Rattle.lj_tile.specs.Task.{Task}
+use Rattle.lj_task.specs.declared.task_name.Kind.TheVariants.{Energy}
+use Rattle.lj_task.specs.Task.{Task}
 use Rattle.lj_step.specs.OpenSteps.{tile_number_of}
 use Rattle.lj_session.specs.declared.command.Command.{Command}
 use Rattle.lj_session.specs.declared.command.Command.TheVariants.{Advance, Measure}
@@ -15,7 +15,7 @@ use Rattle.lj_session.specs.declared.reply.Reply.TheVariants.{Dumped, Refused}
 use Rattle.lj_session.specs.Users.{User}
 use Rattle.lj_session.specs.Answers.{answer, AnswersAlike}
 use Rattle.lj_session.specs.Turns.{waits_for}
-use Rattle.lj_session.specs.UserState.{LiveSession, UserState, user_of, names, with_session_changed, with_step, next_task, with_posted, IsAwaited, with_tile_in, is_whole_in}
+use Rattle.lj_session.specs.UserState.{LiveSession, UserState, user_of, loaded_names, with_session_changed, with_step, next_task, with_posted, IsAwaited, with_tile_in, is_whole_in}
 use Rattle.lj_session.specs.UserState.{with_more_pending, with_step_finished, with_steps_restarted, pending_in, steps_before, turns_before, is_measured}
 
 -- an owner: the state, the number of its user, and the waiting command, if there is one
@@ -42,7 +42,7 @@ has_pending owner name = nat_lt 0 (pending_in owner.state name) || is_measured o
 
 -- some session has a step to make
 abbrev pub is_busy : Owner → Bool
-is_busy owner = is_some (find (has_pending owner) (names owner.state))
+is_busy owner = is_some (find (has_pending owner) (loaded_names owner.state))
 
 -- how many turns of its session the waiting command still needs
 abbrev pub turns_left : Owner → ℕ
@@ -93,7 +93,7 @@ task_of_session owner name = next_task owner.state (label_of owner name)
 
 -- the first session, in order of loading, that has a tile neither posted nor in
 abbrev pub next_session : Owner → Option (List ℕ)
-next_session owner = find (λ name. is_some (task_of_session owner name)) (names owner.state)
+next_session owner = find (λ name. is_some (task_of_session owner name)) (loaded_names owner.state)
 
 -- the task of its first tile
 abbrev pub next_task_of : Owner → Option Task
@@ -119,7 +119,7 @@ with_task_in work owner =
 
 -- the first session, in order of loading, whose step is open and whole
 abbrev pub ready_session : Owner → Option (List ℕ)
-ready_session owner = find (is_whole_in owner.state) (names owner.state)
+ready_session owner = find (is_whole_in owner.state) (loaded_names owner.state)
 
 -- the state with the step of a session turned
 abbrev pub state_turned : List ℕ → UserState → UserState

@@ -5,9 +5,9 @@ use Rattle.std.specs.Option.{option_map, option_map_or, option_and_then}
 use Rattle.std.specs.List.{find, range_with_len}
 use Rattle.std.specs.Str.{bytes_eq}
 use Rattle.lj_base.specs.declared.names.Label.{Label}
-use Rattle.lj_tile.specs.declared.task_name.Kind.{Kind}
-use Rattle.lj_tile.specs.declared.task_name.Kind.TheVariants.{Force, Energy}
-use Rattle.lj_tile.specs.Task.{Task}
+use Rattle.lj_task.specs.declared.task_name.Kind.{Kind}
+use Rattle.lj_task.specs.declared.task_name.Kind.TheVariants.{Force, Energy}
+use Rattle.lj_task.specs.Task.{Task}
 use Rattle.lj_step.specs.Motion.{Simulation, next_simulation, steps}
 use Rattle.lj_step.specs.Sim.{Sim}
 use Rattle.lj_step.specs.OpenSteps.{opened_step, with_step_closed, task_at, is_tile_awaited, tiles_of, with_tile, kind_of, is_whole}
@@ -49,16 +49,16 @@ empty_state quota = record { quota = quota; sessions = [] }
 
 -- the session, as it was when its present step began
 abbrev pub as_session : LiveSession → Session
-as_session held =
-    record { symbols = held.symbols; composition = held.live.composition; sim = held.live.sim; saved = held.saved }
+as_session session =
+    record { symbols = session.symbols; composition = session.live.composition; sim = session.live.sim; saved = session.saved }
 
 -- the session with all its pending steps done
 abbrev pub settled_session : LiveSession → Session
-settled_session held = record {
-  symbols = held.symbols;
-  composition = held.live.composition;
-  sim = steps held.live.composition held.pending held.live.sim;
-  saved = held.saved;
+settled_session session = record {
+  symbols = session.symbols;
+  composition = session.live.composition;
+  sim = steps session.live.composition session.pending session.live.sim;
+  saved = session.saved;
 }
 
 -- a name, and its session with all pending steps done
@@ -86,17 +86,17 @@ abbrev pub live_session_at : UserState → ℕ → Option LiveSession
 live_session_at state i = option_map (λ entry. entry.1) (slice_get state.sessions i)
 
 -- the names, in order of loading
-abbrev pub names : UserState → List (List ℕ)
-names state = map (λ entry. entry.0) state.sessions
+abbrev pub loaded_names : UserState → List (List ℕ)
+loaded_names state = map (λ entry. entry.0) state.sessions
 
 -- the state with this session under a name
 abbrev pub with_live_session : List ℕ → LiveSession → UserState → UserState
-with_live_session name held state = record state { sessions = with_value name held state.sessions }
+with_live_session name session state = record state { sessions = with_value name session state.sessions }
 
 -- the state with a session changed, if there is one
 abbrev pub with_session_changed_to : List ℕ → (LiveSession → LiveSession) → Option LiveSession → UserState → UserState
 with_session_changed_to name change None state = state
-with_session_changed_to name change (Some held) state = with_live_session name (change held) state
+with_session_changed_to name change (Some session) state = with_live_session name (change session) state
 
 -- the state with the session of a name changed, if there is one
 abbrev pub with_session_changed : List ℕ → (LiveSession → LiveSession) → UserState → UserState
@@ -104,17 +104,17 @@ with_session_changed name change state = with_session_changed_to name change (li
 
 -- the session with a step of a kind open, and no tile of it posted or in
 abbrev pub with_step : Kind → LiveSession → LiveSession
-with_step kind held =
-    record held { live = record held.live { part = Some (opened_step kind held.live.composition held.live.sim.cur) }; passed = 0 }
+with_step kind session =
+    record session { live = record session.live { part = Some (opened_step kind session.live.composition session.live.sim.cur) }; passed = 0 }
 
 -- the position in the cover of the first tile that is neither posted nor in
 abbrev pub next_tile : LiveSession → Option ℕ
-next_tile held = find (is_tile_awaited held.live) (range_with_len held.passed (tiles_of held.live - held.passed))
+next_tile session = find (is_tile_awaited session.live) (range_with_len session.passed (tiles_of session.live - session.passed))
 
 -- the task of the first tile of a session that is neither posted nor in
 abbrev pub next_of : Label → Option LiveSession → Option Task
 next_of label None = None
-next_of label (Some held) = option_and_then (task_at held.live label) (next_tile held)
+next_of label (Some session) = option_and_then (task_at session.live label) (next_tile session)
 
 -- the task of that tile for the session that a label names
 abbrev pub next_task : UserState → Label → Option Task
@@ -123,47 +123,51 @@ next_task state label = next_of label (live_session state label.session)
 -- the first session, in order of loading, that has a task for the user of this number
 abbrev pub first_with_task : UserState → ℕ → Option (List ℕ)
 first_with_task state user =
-    find (λ name. is_some (next_task state (record { user = user; session = name }))) (names state)
+    find (λ name. is_some (next_task state (record { user = user; session = name }))) (loaded_names state)
 
 -- No session before the i-th has a task, whatever the number of the user.
 abbrev pub NoTaskBefore : UserState → ℕ → Type 0
-NoTaskBefore state i = (user k : ℕ) (name : List ℕ) → k < i → slice_get (names state) k ≡ Some name
+NoTaskBefore state i = (user k : ℕ) (name : List ℕ) → k < i → slice_get (loaded_names state) k ≡ Some name
     → is_some (next_task state (record { user = user; session = name })) ≡ false
 
 -- The tile of the next task is the one at position `k` in the cover of the session at index `i`.
 pub record IsNextTile (state : UserState) (i k : ℕ) : Type 0 where
   pub within : i < length state.sessions
   pub name : List ℕ
-  pub named : slice_get (names state) i ≡ Some name
-  pub held : LiveSession
-  pub at : live_session_at state i ≡ Some held
-  pub there : live_session state name ≡ Some held
-  pub tile : next_tile held ≡ Some k
-  pub below : k < tiles_of held.live
+  pub named : slice_get (loaded_names state) i ≡ Some name
+  pub session : LiveSession
+  pub at : live_session_at state i ≡ Some session
+  pub there : live_session state name ≡ Some session
+  pub tile : next_tile session ≡ Some k
+  pub below : k < tiles_of session.live
   pub before : NoTaskBefore state i
   pub first : (user : ℕ) → first_with_task state user ≡ Some name
 
+-- the session with the first n tiles passed
+abbrev pub with_passed : ℕ → LiveSession → LiveSession
+with_passed n session = record session { passed = n }
+
 -- the session with the tiles up to and at a position passed, if one is given
 abbrev pub with_passed_to : Option ℕ → LiveSession → LiveSession
-with_passed_to None held = held
-with_passed_to (Some i) held = record held { passed = i + 1 }
+with_passed_to None session = session
+with_passed_to (Some i) session = with_passed (i + 1) session
 
 -- the session with its first tile that is neither posted nor in noted as posted
 abbrev pub with_posted : LiveSession → LiveSession
-with_posted held = with_passed_to (next_tile held) held
+with_posted session = with_passed_to (next_tile session) session
 
 -- the task is that of a tile that the open step of its session awaits
 abbrev pub IsAwaited : UserState → Label → Task → Type 0
-IsAwaited state label work = IsSomeAnd (live_session state label.session) (λ held. IsAwaitedTask held.live label work)
+IsAwaited state label work = IsSomeAnd (live_session state label.session) (λ session. IsAwaitedTask session.live label work)
 
 -- the session with one more tile in
 abbrev pub with_tile_in : ℕ → LiveSession → LiveSession
-with_tile_in k held = record held { live = record held.live { part = with_tile k held.live.part } }
+with_tile_in k session = record session { live = record session.live { part = with_tile k session.live.part } }
 
 -- a step is open in a session and all its tiles are in
 abbrev pub is_whole_session : Option LiveSession → Bool
 is_whole_session None = false
-is_whole_session (Some held) = is_whole held.live.part
+is_whole_session (Some session) = is_whole session.live.part
 
 -- the same for the session of a name
 abbrev pub is_whole_in : UserState → List ℕ → Bool
@@ -171,35 +175,35 @@ is_whole_in state name = is_whole_session (live_session state name)
 
 -- the session with another simulation, and no step open
 abbrev pub with_simulation : LiveSession → Simulation → LiveSession
-with_simulation held sim = record held { live = with_step_closed held.live sim }
+with_simulation session sim = record session { live = with_step_closed session.live sim }
 
 -- the session with other saved simulations
 abbrev pub with_saved : LiveSession → List (List ℕ × Simulation) → LiveSession
-with_saved held saved = record held { saved = saved }
+with_saved session saved = record session { saved = saved }
 
 -- the session with n more steps pending; if none were, the first of them is open
 abbrev pub with_more_pending : ℕ → LiveSession → LiveSession
-with_more_pending n held =
-    let more = record held { pending = held.pending + n } in
-    if nat_lt 0 n && nat_le held.pending 0 then with_step Force more else more
+with_more_pending n session =
+    let more = record session { pending = session.pending + n } in
+    if nat_lt 0 n && nat_le session.pending 0 then with_step Force more else more
 
 -- the session one step later, with one fewer step pending and none open
 abbrev pub with_step_taken : LiveSession → LiveSession
-with_step_taken held =
-    record (with_simulation held (next_simulation held.live.composition held.live.sim)) { pending = held.pending - 1 }
+with_step_taken session =
+    record (with_simulation session (next_simulation session.live.composition session.live.sim)) { pending = session.pending - 1 }
 
 -- the session one step later, with the next step open if one is pending
 abbrev pub with_step_finished : LiveSession → LiveSession
-with_step_finished held =
-    let next = with_step_taken held in if nat_lt 0 next.pending then with_step Force next else next
+with_step_finished session =
+    let next = with_step_taken session in if nat_lt 0 next.pending then with_step Force next else next
 
 -- the session with no step open, and no tile posted
 abbrev pub with_no_step : LiveSession → LiveSession
-with_no_step held = record (with_simulation held held.live.sim) { passed = 0 }
+with_no_step session = record (with_simulation session session.live.sim) { passed = 0 }
 
 -- the session with its step restarted if one is pending, so that no tile is posted or in, else with none open
 abbrev pub with_step_restarted : LiveSession → LiveSession
-with_step_restarted held = if nat_lt 0 held.pending then with_step Force held else with_no_step held
+with_step_restarted session = if nat_lt 0 session.pending then with_step Force session else with_no_step session
 
 -- the state with the step of each session restarted
 abbrev pub with_steps_restarted : UserState → UserState
@@ -207,7 +211,7 @@ with_steps_restarted state = record state { sessions = map (λ entry. (entry.0, 
 
 -- the number of pending steps of the session of a name, and 0 if there is none
 abbrev pub pending_in : UserState → List ℕ → ℕ
-pending_in state name = option_map_or (λ held. held.pending) (live_session state name) 0
+pending_in state name = option_map_or (λ session. session.pending) (live_session state name) 0
 
 -- the number of pending steps of the session that a command waits for
 abbrev pub steps_before : UserState → Command → ℕ
@@ -216,7 +220,7 @@ steps_before state command = option_map_or (pending_in state) (waits_for command
 -- the index, in order of loading, of the session that a command waits for, if there is one
 abbrev pub index_waited_for : UserState → Command → Option ℕ
 index_waited_for state command =
-    option_and_then (λ name. position (bytes_eq name) (names state)) (waits_for command)
+    option_and_then (λ name. position (bytes_eq name) (loaded_names state)) (waits_for command)
 
 -- how many turns of its session come before a command is answered: the pending steps, and its own
 abbrev pub turns_before : UserState → Command → ℕ
@@ -230,22 +234,22 @@ is_measured _ name = false
 -- the kind of a session's open step: of forces if steps are pending, of energies if the waiting command measures it,
 -- else no step is open
 abbrev pub kind_pending : Option Command → List ℕ → LiveSession → Option Kind
-kind_pending waiting name held =
-    if nat_lt 0 held.pending then Some Force else (if is_measured waiting name then Some Energy else None)
+kind_pending waiting name session =
+    if nat_lt 0 session.pending then Some Force else (if is_measured waiting name then Some Energy else None)
 
 -- a session may advance by n steps after the pending ones
 abbrev pub MayAdvance : ℕ → LiveSession → Type 0
-MayAdvance n held = can_advance (settled_session held) n ≡ true
+MayAdvance n session = can_advance (settled_session session) n ≡ true
 
 -- A step is open in each session that has one to make, and in no other.
 abbrev pub IsAtWork : Option Command → UserState → Type 0
-IsAtWork waiting state = (name : List ℕ) (held : LiveSession) → live_session state name ≡ Some held
-    → kind_of held.live.part ≡ kind_pending waiting name held
+IsAtWork waiting state = (name : List ℕ) (session : LiveSession) → live_session state name ≡ Some session
+    → kind_of session.live.part ≡ kind_pending waiting name session
 
 -- a whole step of a kind is open
-pub record IsWhole (expected : Kind) (held : LiveSession) : Type 0 where
-  pub kind : kind_of held.live.part ≡ Some expected
-  pub whole : is_whole held.live.part ≡ true
+pub record HasWholeStep (expected : Kind) (session : LiveSession) : Type 0 where
+  pub kind : kind_of session.live.part ≡ Some expected
+  pub whole : is_whole session.live.part ≡ true
 
 -- the outcome of a command: a reply with the user after it, or a refusal
 abbrev pub outcome : Result Reply Refusal → User → Result (Reply × User) Refusal
@@ -266,9 +270,9 @@ OthersKept command old new =
     (other : List ℕ) → session_named command ≢ Some other → live_session new other ≡ live_session old other
 
 -- no step is pending or open in a session
-pub record IsIdle (held : LiveSession) : Type 0 where
-  pub pending : held.pending ≡ 0
-  pub closed : kind_of held.live.part ≡ None
+pub record IsIdle (session : LiveSession) : Type 0 where
+  pub pending : session.pending ≡ 0
+  pub closed : kind_of session.live.part ≡ None
 
 -- the steps of a session are unchanged: those pending, the open one, and which of its tiles are posted and in
 pub record SameSteps (old new : LiveSession) : Type 0 where
@@ -278,21 +282,21 @@ pub record SameSteps (old new : LiveSession) : Type 0 where
 
 -- the session with the steps of a START pending, if it may advance by them
 abbrev pub with_start : ℕ → LiveSession → LiveSession
-with_start n held = if can_advance (settled_session held) n then with_more_pending n held else held
+with_start n session = if can_advance (settled_session session) n then with_more_pending n session else session
 
 -- the steps of its session after a load: none in a new session, and unchanged in one that was there
 abbrev pub StepsAfterLoad : Option LiveSession → LiveSession → Type 0
 StepsAfterLoad None after = IsIdle after
-StepsAfterLoad (Some held) after = SameSteps held after
+StepsAfterLoad (Some session) after = SameSteps session after
 
 -- The steps of its session after a command: a load opens none and leaves those that were there, START adds pending
 -- ones, FORGET and LIST leave them unchanged, and after any other they are unchanged, or none is pending or open.
 abbrev pub StepsAfter : Command → Option LiveSession → LiveSession → Type 0
 StepsAfter (Load load) before after = StepsAfterLoad before after
-StepsAfter (Start name n) before after = IsSomeAnd before (λ held. after ≡ with_start n held)
-StepsAfter (Forget name branch) before after = IsSomeAnd before (λ held. SameSteps held after)
-StepsAfter (ListBranches name) before after = IsSomeAnd before (λ held. SameSteps held after)
-StepsAfter command before after = IsIdle after ⊎ IsSomeAnd before (λ held. SameSteps held after)
+StepsAfter (Start name n) before after = IsSomeAnd before (λ session. after ≡ with_start n session)
+StepsAfter (Forget name branch) before after = IsSomeAnd before (λ session. SameSteps session after)
+StepsAfter (ListBranches name) before after = IsSomeAnd before (λ session. SameSteps session after)
+StepsAfter command before after = IsIdle after ⊎ IsSomeAnd before (λ session. SameSteps session after)
 
 -- The session that a command names, if it is there, has these steps after the command.
 abbrev pub StepsFollow : Command → UserState → UserState → Type 0
@@ -301,7 +305,7 @@ StepsFollow command old new = (name : List ℕ) (after : LiveSession) → sessio
 
 -- the session of a name, if there is one, has no step pending or open
 abbrev pub IsIdleIn : UserState → List ℕ → Type 0
-IsIdleIn state name = (held : LiveSession) → live_session state name ≡ Some held → IsIdle held
+IsIdleIn state name = (session : LiveSession) → live_session state name ≡ Some session → IsIdle session
 
 -- A command is performed as the definition says, under some mark, which is set only for the memory refusal.
 pub record Performs (old : UserState) (command : Command) (result : Result Reply Refusal) (new : UserState) : Type 0 where

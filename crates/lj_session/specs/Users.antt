@@ -2,7 +2,7 @@
 use Rattle.std.specs.Prelude.{ℕ, List, [], length}
 use Rattle.std.specs.List.{sum_by}
 use Rattle.lj_branch.specs.Named.{with_value}
-use Rattle.lj_tile.specs.Species.{Composition}
+use Rattle.lj_task.specs.Species.{Composition}
 use Rattle.lj_step.specs.Motion.{Simulation}
 use Rattle.lj_quota.specs.declared.Quota.{Quota}
 

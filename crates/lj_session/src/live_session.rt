@@ -2,8 +2,8 @@
 ghost use Rattle.std.specs.Prelude.{◌≡◌, ◌↔◌, ◌<◌, ◌+◌, ◌^◌, [], length, slice_get, Some, None, IsOk, IsSome};
 ghost use Rattle.std.specs.Prelude.{IsErrOf};
 ghost use Rattle.std.specs.Prelude.{IfNone, IfSome, OnOk, OnErr, ◌≤◌, unsigned_abs, IfOk, true, false, is_some};
-ghost use Rattle.std.specs.Prelude.{nat_le, pos, ◌&&◌, ◌+ℤ◌, ◌*ℤ◌};
-ghost use Rattle.lj_tile.specs.declared.task_name.Kind.TheVariants.{Force};
+ghost use Rattle.std.specs.Prelude.{nat_le, pos, ◌&&◌, ◌-◌, ◌+ℤ◌, ◌*ℤ◌};
+ghost use Rattle.lj_task.specs.declared.task_name.Kind.TheVariants.{Force};
 ghost use Rattle.lj_branch.specs.declared.branch_faults.SaveFault.TheVariants.{Exists};
 ghost use Rattle.lj_step.specs.Motion as motion;
 ghost use Rattle.lj_step.specs.OpenSteps as steps;
@@ -11,12 +11,12 @@ ghost use Rattle.lj_branch.specs.Named.{value_named, with_value, without_value};
 ghost use Rattle.lj_session.specs.Users.{atoms_of};
 ghost use Rattle.lj_session.specs.Answers.{can_advance};
 ghost use Rattle.lj_session.specs.UserState as states;
-ghost use Rattle.lj_session.specs.UserState.{settled_session, with_simulation, with_saved, IsWhole};
+ghost use Rattle.lj_session.specs.UserState.{settled_session, with_simulation, with_saved, HasWholeStep};
 
 use lj_base::{Label, Name};
 use lj_branch::{Branches, NoBranch, SaveFault};
 use lj_step::{Displacement, MAX_STEP, NotAwaited, Sim};
-use lj_tile::{DoneRef, Kind, TaskRef};
+use lj_task::{DoneRef, Kind, TaskRef};
 use lj_xyz::Symbol;
 use std::marker::Model;
 
@@ -38,7 +38,7 @@ impl Model for LiveSession {
 
     ghost Value = { LiveSession };
 
-    ghost use Rattle.lj_session.specs.Kept.{session_of_kept, IsHeld};
+    ghost use Rattle.lj_session.specs.KeptSessions.{session_of_kept, IsHeld};
 
     ghost view = { session_of_kept };
 
@@ -225,13 +225,14 @@ impl LiveSession {
         ensures value { result ≡ states.next_tile self.now }
         ensures below { IfSome result (λ i. i < steps.tiles_of self.now.live) }
     {
-        self.next_tile_from(self.passed)
+        self.next_tile_past(self.passed)
     }
 
-    /// Returns the position in the cover of the first awaited tile from `from` on.
-    fn next_tile_from(&self, from: usize) -> Option<usize>
+    /// Returns the position in the cover of the next tile past the first `from`: the first of them that is awaited.
+    fn next_tile_past(&self, from: usize) -> Option<usize>
         ensures value { result ≡ states.next_tile (record self.now { passed = from }) }
         ensures below { IfSome result (λ i. i < steps.tiles_of self.now.live) }
+        ensures room { IfSome result (λ i. i < 2 ^ 64 - 1) }
     {
         for i in from..self.sim.tiles() {
             if self.sim.is_tile_awaited(i) {
@@ -241,41 +242,29 @@ impl LiveSession {
         None
     }
 
-    /// Returns the task of the first awaited tile from `from` on, by reference, and the position after it.
-    pub(crate) fn task_from<'a>(
+    /// Returns the task of the next tile past the first `from`, by reference, and the position after it.
+    pub(crate) fn task_past<'a>(
         &'a self,
         from: usize,
         label: &'a Label,
     ) -> Option<(TaskRef<'a>, usize)>
-        ensures task { let held = record self.now { passed = from } in
-            IfSome result (λ found. states.next_of label.now (Some held) ≡ Some found.0) }
-        ensures passes { let held = record self.now { passed = from } in
-            IfSome result (λ found. states.with_posted held ≡ record held { passed = found.1 }) }
-        ensures none { let held = record self.now { passed = from } in
-            IfNone result (states.next_of label.now (Some held) ≡ None) }
+        ensures task { let session = record self.now { passed = from } in
+            IfSome result (λ found. states.next_of label.now (Some session) ≡ Some found.0) }
+        ensures passes { let session = record self.now { passed = from } in
+            IfSome result (λ found. states.with_posted session ≡ record session { passed = found.1 }) }
+        ensures none { let session = record self.now { passed = from } in
+            IfNone result (states.next_of label.now (Some session) ≡ None) }
     {
-        let i = self.next_tile_from(from)?;
-        let _tiles = self.sim.tiles();
+        let i = self.next_tile_past(from)?;
         let task = self.sim.task_ref(i, label)?;
         Some((task, i + 1))
     }
 
-    /// Returns the task of the first tile that is neither posted nor in, the i-th of the cover, by reference.
-    pub(crate) fn task_ref<'a>(&'a self, i: usize, label: &'a Label) -> Option<TaskRef<'a>>
-        requires { states.next_tile self.now ≡ Some i }
-        ensures { result ≡ states.next_of label.now (Some self.now) }
+    /// Notes the tiles of the open step's cover before a position as posted, and no other.
+    pub(crate) fn post_to(&mut self, to: usize)
+        ensures { self.new ≡ states.with_passed to self.old }
     {
-        self.sim.task_ref(i, label)
-    }
-
-    /// Notes the first tile that is neither posted nor in, the i-th of the cover, as posted.
-    pub(crate) fn post(&mut self, i: usize)
-        requires next { states.next_tile self.old ≡ Some i }
-        requires below { i < steps.tiles_of self.old.live }
-        ensures { self.new ≡ states.with_posted self.old }
-    {
-        let _tiles = self.sim.tiles();
-        self.passed = i + 1;
+        self.passed = to;
     }
 
     /// Accepts the result of a tile that the open step awaits. Any other changes nothing.
@@ -295,7 +284,7 @@ impl LiveSession {
     /// Turns a whole force step: the motion advances by one step, one fewer is pending, and the next one is open if
     /// there is one.
     pub(crate) fn finish_step(&mut self)
-        requires whole { IsWhole Force self.old }
+        requires whole { HasWholeStep Force self.old }
         requires pending { 0 < self.old.pending }
         ensures { self.new ≡ states.with_step_finished self.old }
     {

@@ -5,14 +5,14 @@ ghost use Rattle.std.specs.List.{IsDistinct};
 ghost use Rattle.std.specs.Str.{bytes_eq};
 ghost use Rattle.lj_session.specs.Answers.{AnswersAlike};
 ghost use Rattle.lj_session.specs.UserState.{OthersKept, StepsFollow, is_measured};
-ghost use Rattle.lj_session.specs.UserState.{is_whole_in, names, with_steps_restarted};
+ghost use Rattle.lj_session.specs.UserState.{is_whole_in, loaded_names, with_steps_restarted};
 ghost use Rattle.lj_session.specs.UserState.{IsAtWork, index_waited_for, next_task, turns_before, user_of};
 ghost use Rattle.lj_session.specs.Owner.{IsAnswered, IsAwaitedIn, IsLastTurn, IsSettled};
 ghost use Rattle.lj_session.specs.Owner.{WaitsAlike};
 ghost use Rattle.lj_session.specs.Owner.{state_begun, command_left};
 ghost use Rattle.lj_session.specs.Owner.{user_in, owner_of_state, has_pending, is_busy, turns_left, is_waited_for};
 ghost use Rattle.lj_session.specs.Owner.{Owner, label_of, next_task_of};
-ghost use Rattle.lj_session.specs.Cursors.{IsAtFirst, IsPostedTo};
+ghost use Rattle.lj_session.specs.Cursors.{IsAtFirst, IsPostedTo, owner_posted_to};
 ghost use Rattle.lj_session.specs.Owner.{with_task_posted, with_task_in, ready_session, owner_turned};
 ghost use Rattle.lj_session.specs.OwnerCalls.{AnswersAtOnce, AnswersAtTurn, WaitsForTurns, KeptByCommand, KeptByTurn};
 ghost use Rattle.lj_session.specs.Begins.{IfAnswered, OnRunning, OnRefused, OnRefusal, reply_of};
@@ -24,7 +24,7 @@ use crate::state::UserState;
 use crate::tile_cursor::TileCursor;
 use lj_base::{Label, Name};
 use lj_step::{NotAwaited, Stray};
-use lj_tile::{Done, DoneRef, Kind, Task, TaskRef};
+use lj_task::{Done, DoneRef, Kind, Task, TaskRef};
 use std::marker::Model;
 use std::mem;
 
@@ -63,7 +63,7 @@ impl Owner {
     /// The number of the user is part of the tasks' names.
     pub fn new(state: UserState, user: u8) -> Owner
         ensures value { result ≡ owner_of_state state user }
-        ensures distinct { IsDistinct bytes_eq (names result.state) }
+        ensures distinct { IsDistinct bytes_eq (loaded_names result.state) }
     {
         let mut state = state;
         state.restart_steps();
@@ -113,42 +113,35 @@ impl Owner {
     pub fn next_task(&self) -> Option<Task>
         ensures { result ≡ next_task_of self.now }
     {
-        let cursor = self.first_tile()?;
-        let task = self.first_task(&cursor)?;
+        let cursor = self.next_tile()?;
+        let Some((task, _)) = self.task_past(&cursor, cursor.passed) else {
+            return None;
+        };
         Some(task.to_task())
     }
 
     /// Returns the cursor at the task that `next_task` returns.
-    pub fn first_tile(&self) -> Option<TileCursor>
+    pub fn next_tile(&self) -> Option<TileCursor>
         ensures first { IfSome result (λ cursor. IsAtFirst cursor self.now) }
-        ensures posted { IfSome result (λ cursor. IsPostedTo cursor cursor.from self.now self.now) }
+        ensures posted { IfSome result (λ cursor. IsPostedTo cursor cursor.passed self.now self.now) }
+        ensures same { IfSome result (λ cursor. self.now ≡ owner_posted_to cursor cursor.passed self.now) }
         ensures none { IfNone result (next_task_of self.now ≡ None) }
     {
-        let Some((session, tile)) = self.state.next_tile() else {
+        let Some((session, _tile)) = self.state.next_tile() else {
             return None;
         };
-        let from = self.state.passed_at(session);
+        let passed = self.state.passed_at(session);
         let label = self.label(self.state.name_at(session).copy());
         Some(TileCursor {
             session,
-            tile,
-            from,
+            passed,
             label,
         })
     }
 
-    /// Returns the task that `next_task` returns, by reference, at the cursor that `first_tile` returns.
-    pub fn first_task<'a>(&'a self, cursor: &'a TileCursor) -> Option<TaskRef<'a>>
-        requires { IsAtFirst cursor.now self.now }
-        ensures { result ≡ next_task_of self.now }
-    {
-        self.state
-            .task_ref(cursor.session, cursor.tile, &cursor.label)
-    }
-
-    /// Returns the first task from a position of the cursor's session on, by reference, and the position after it. This task
-    /// is the next one once all before the position are posted; it posts none.
-    pub fn task_from<'a>(
+    /// Returns the next task past the first `from` tiles of the cursor's session, by reference, and the position after it.
+    /// This task is the next one once all before the position are posted; it posts none.
+    pub fn task_past<'a>(
         &'a self,
         cursor: &'a TileCursor,
         from: usize,
@@ -157,13 +150,13 @@ impl Owner {
             → next_task_of later ≡ Some found.0) }
         ensures moved { IfSome result (λ found. (later : Owner) → IsPostedTo cursor.now from self.now later
             → IsPostedTo cursor.now found.1 self.now (with_task_posted later)) }
+        ensures posted { IfSome result (λ found. (later : Owner) → IsPostedTo cursor.now from self.now later
+            → later ≡ owner_posted_to cursor.now from self.now
+            → with_task_posted later ≡ owner_posted_to cursor.now found.1 self.now) }
         ensures none { IfNone result ((later : Owner) → IsPostedTo cursor.now from self.now later
             → next_task later.state cursor.now.label ≡ None) }
     {
-        if cursor.session >= self.state.len() {
-            return None;
-        }
-        self.state.task_from(cursor.session, from, &cursor.label)
+        self.state.task_past(cursor.session, from, &cursor.label)
     }
 
     /// Notes the tile of the task that `next_task` returns as posted.
@@ -172,9 +165,23 @@ impl Owner {
         ensures noted { self.new ≡ with_task_posted self.old }
         ensures user { user_in self.new ≡ user_in self.old }
     {
-        if let Some((i, k)) = self.state.next_tile() {
-            self.state.post(i, k);
-        }
+        let Some(cursor) = self.next_tile() else {
+            return;
+        };
+        let Some((_, next)) = self.task_past(&cursor, cursor.passed) else {
+            return;
+        };
+        self.post_to(&cursor, next);
+    }
+
+    /// Notes the tasks of the cursor's session before a position as posted, all at once and without another search:
+    /// those that `task_past` returned up to there.
+    pub fn post_to(&mut self, cursor: &TileCursor, to: usize)
+        requires first { IsPostedTo cursor.now cursor.now.passed self.old self.old }
+        ensures noted { self.new ≡ owner_posted_to cursor.now to self.old }
+        ensures user { user_in self.new ≡ user_in self.old }
+    {
+        self.state.post_to(cursor.session, to);
     }
 
     /// Accepts the result of a task that the step of a session awaits. Any other is handed back, and nothing has changed.

@@ -1,6 +1,6 @@
 //! Laws of owners and of answers: functions that do nothing, whose contracts are the laws.
-ghost use Rattle.lj_session.specs.Laws.{RestartKeepsUser, PostedKeepsUser, AcceptKeepsUser, BegunWaitsAlike};
-ghost use Rattle.lj_session.specs.Laws.{ListedIsThere};
+ghost use Rattle.lj_session.specs.OwnerLaws.{RestartKeepsUser, PostedKeepsUser, AcceptKeepsUser, BegunWaitsAlike};
+ghost use Rattle.lj_session.specs.OwnerLaws.{ListedIsThere};
 
 /// Shows that restarting each open step does not change the user.
 pub fn restart_keeps_user()

@@ -4,7 +4,7 @@ ghost use Rattle.std.specs.Option.{option_copied};
 ghost use Rattle.lj_xyz.specs.Atoms.{is_count};
 ghost use Rattle.lj_xyz.specs.declared.frame_reader.TheConstants.{MAX_FRAME_ATOMS};
 ghost use Rattle.lj_xyz.specs.Lines.{lines_of};
-ghost use Rattle.lj_xyz.specs.Reading.{reading, Gives};
+ghost use Rattle.lj_xyz.specs.Reading.{reading, ReadsAs};
 ghost use Rattle.lj_session.specs.Loads.{reading_mode, places_in};
 ghost use Rattle.lj_session.specs.ParsedLoads.{frames_of, last_of, held_from};
 
@@ -37,7 +37,7 @@ impl ParsedLoad {
     ) -> Result<ParsedLoad, XyzError>
         ensures { let asked = option_copied symbols.entry in
             let frames = reading asked (reading_mode mode) (lines_of body.now) in
-            Gives (λ parsed. frames_of parsed.first parsed.second) result frames }
+            ReadsAs (λ parsed. frames_of parsed.first parsed.second) result frames }
     {
         match mode {
             Mode::Rest => Ok(ParsedLoad {

@@ -4,7 +4,7 @@ ghost use Rattle.std.specs.Option.{option_copied};
 ghost use Rattle.lj_step.specs.Sets.{number_of_bits};
 ghost use Rattle.lj_session.specs.Interactions.{species_bits_among, species_bits_of};
 
-use lj_tile::BLOCK;
+use lj_task::BLOCK;
 use lj_xyz::{AtomRow, SymbolPair};
 use std::alloc::{AllocError, Global};
 

@@ -6,7 +6,7 @@ ghost use Rattle.std.specs.Option.{ForSome, option_copied};
 ghost use Rattle.std.specs.Str.{bytes_eq};
 ghost use Rattle.lj_ring.specs.Mix.{edge_of};
 ghost use Rattle.lj_branch.specs.Named.{value_named};
-ghost use Rattle.lj_session.specs.UserState.{Reached, Performs, empty_state, user_of, used_by, names, live_session};
+ghost use Rattle.lj_session.specs.UserState.{Reached, Performs, empty_state, user_of, used_by, loaded_names, live_session};
 ghost use Rattle.lj_session.specs.UserState.{live_session_at};
 ghost use Rattle.lj_session.specs.UserState.{index_waited_for, settled_session, turns_before};
 
@@ -73,7 +73,7 @@ impl UserState {
     /// Returns how many sessions there are.
     pub fn len(&self) -> usize
         ensures value { result ≡ length self.now.sessions }
-        ensures distinct { IsDistinct bytes_eq (names self.now) }
+        ensures distinct { IsDistinct bytes_eq (loaded_names self.now) }
         ensures reached { Reached self.now }
     {
         self.sessions.len()
@@ -96,7 +96,7 @@ impl UserState {
     /// Returns the index of a session in the order of loading; None where no session has the name. The name of the first session is
     /// compared before any is hashed, since most users have one session.
     pub fn index_of(&self, name: &Name) -> Option<usize>
-        ensures { result ≡ position (bytes_eq name.now) (names self.now) }
+        ensures { result ≡ position (bytes_eq name.now) (loaded_names self.now) }
     {
         match self.sessions.get_index(0) {
             Some((first, _)) if name == first => Some(0),
@@ -107,7 +107,7 @@ impl UserState {
     /// Returns the name of the i-th session, in order of loading.
     pub fn name_at(&self, i: usize) -> &Name
         requires { i < length self.now.sessions }
-        ensures { slice_get (names self.now) i ≡ Some result.now }
+        ensures { slice_get (loaded_names self.now) i ≡ Some result.now }
     {
         self.sessions.get_index(i).unwrap().0
     }
@@ -115,7 +115,7 @@ impl UserState {
     /// Returns the simulation of the i-th session, as it was when its present step began.
     pub fn sim_at(&self, i: usize) -> &Sim
         requires { i < length self.now.sessions }
-        ensures { option_map (λ held. held.live) (live_session_at self.now i) ≡ Some result.now }
+        ensures { option_map (λ session. session.live) (live_session_at self.now i) ≡ Some result.now }
     {
         self.at(i).sim()
     }
@@ -123,7 +123,7 @@ impl UserState {
     /// Returns the edge of the i-th session's box.
     pub fn edge_at(&self, i: usize) -> Edge
         requires { i < length self.now.sessions }
-        ensures { option_map (λ held. edge_of held.live.composition.mix) (live_session_at self.now i)
+        ensures { option_map (λ session. edge_of session.live.composition.mix) (live_session_at self.now i)
             ≡ Some result }
     {
         self.sim_at(i).edge()
@@ -132,9 +132,9 @@ impl UserState {
     /// Returns the symbol of an atom of the i-th session.
     pub fn symbol_at(&self, i: usize, atom: usize) -> &Symbol
         requires session { i < length self.now.sessions }
-        requires atom { ForSome (live_session_at self.now i) (λ held. atom < length held.live.sim.cur) }
+        requires atom { ForSome (live_session_at self.now i) (λ session. atom < length session.live.sim.cur) }
         ensures { IfSome (live_session_at self.now i)
-            (λ held. slice_get held.symbols atom ≡ Some result.now) }
+            (λ session. slice_get session.symbols atom ≡ Some result.now) }
     {
         self.at(i).symbol(atom)
     }
@@ -142,7 +142,7 @@ impl UserState {
     /// Returns the saved simulations of the i-th session.
     pub fn branches_at(&self, i: usize) -> &Branches
         requires { i < length self.now.sessions }
-        ensures { option_map (λ held. held.saved) (live_session_at self.now i) ≡ Some result.now }
+        ensures { option_map (λ session. session.saved) (live_session_at self.now i) ≡ Some result.now }
     {
         self.at(i).branches()
     }
@@ -150,7 +150,7 @@ impl UserState {
     /// Returns the step number of the i-th session after all its pending steps.
     pub fn target_at(&self, i: usize) -> i64
         requires { i < length self.now.sessions }
-        ensures { option_map (λ held. (settled_session held).sim.step) (live_session_at self.now i)
+        ensures { option_map (λ session. (settled_session session).sim.step) (live_session_at self.now i)
             ≡ Some result }
     {
         self.at(i).target()
@@ -173,7 +173,7 @@ impl UserState {
 
     /// Returns the session of a name whose index was looked up, if there is one.
     fn found(&self, name: &Name, index: Option<usize>) -> Option<&LiveSession>
-        requires { index ≡ position (bytes_eq name.now) (names self.now) }
+        requires { index ≡ position (bytes_eq name.now) (loaded_names self.now) }
         ensures { option_copied result ≡ live_session self.now name.now }
     {
         Some(self.at(index?))

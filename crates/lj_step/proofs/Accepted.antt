@@ -5,17 +5,17 @@ use Rattle.std.proofs.Common.{inr, sym, ap, ◌∙◌, get_or-set_same, get_or-s
 use Rattle.std.proofs.lemmas.Bool.{cases_eq, cases_lt, true≢false, and_parts, leb-true, ltb-true}
 use Rattle.std.proofs.lemmas.List.Sums.{sum_by-set, get_or-le-sum_by}
 use Rattle.lj_ring.specs.declared.coordinates.Place.{Place}
-use Rattle.lj_tile.specs.Species.{Composition}
-use Rattle.lj_tile.specs.declared.pairs.Push.{Push}
-use Rattle.lj_tile.specs.declared.task_name.Kind.{Kind}
-use Rattle.lj_tile.specs.declared.task_name.Kind.TheVariants.{Force, Energy}
-use Rattle.lj_tile.specs.Pushes.{no_push, sum_of_pushes}
-use Rattle.lj_tile.specs.Block.{Block}
-use Rattle.lj_tile.specs.Task.{Task, task_force, task_second, task_energy}
+use Rattle.lj_task.specs.Species.{Composition}
+use Rattle.lj_task.specs.declared.pushes.Push.{Push}
+use Rattle.lj_task.specs.declared.task_name.Kind.{Kind}
+use Rattle.lj_task.specs.declared.task_name.Kind.TheVariants.{Force, Energy}
+use Rattle.lj_task.specs.Pushes.{no_push, sum_of_pushes}
+use Rattle.lj_task.specs.Block.{Block}
+use Rattle.lj_task.specs.Task.{Task, task_force, task_second, task_energy}
 use Rattle.lj_step.specs.declared.partial.Partial.{Partial}
 use Rattle.lj_step.specs.OpenSteps.{blocks, sites_of, tile_number, tile_number_of, first_block, second_block, is_in_order, is_tile}
 use Rattle.lj_step.specs.OpenSteps.{is_out_of_reach}
-use Rattle.lj_step.specs.Sums.{CanAdd, HasRoom, HasAdded, IsOpen, IsOutside, force_so_far, energy_so_far}
+use Rattle.lj_step.specs.Sums.{CanAdd, HasCapacity, HasAdded, IsOpen, IsOutside, force_so_far, energy_so_far}
 use Rattle.lj_step.proofs.BlockSums.{length_in}
 use Rattle.lj_step.proofs.BlockPlaces.{block_length, first_in, place_in}
 use Rattle.lj_step.proofs.PartialForces.{block_force, task_is, second_is, force_more, force_more_second, force_same}
@@ -23,7 +23,7 @@ use Rattle.lj_step.proofs.PartialEnergies.{energy_task_is, energy_more}
 
 -- a tile more is in
 module _ (u : Composition) (frame : List Place) (p q : Partial) (kind : Kind) (work : Task) (few : length frame ≤ 4096)
-    (open_before : IsOpen u frame p kind) (room : HasRoom (length frame) p)
+    (open_before : IsOpen u frame p kind) (room : HasCapacity (length frame) p)
     (mix : work.mix ≡ u.mix) (a : work.a ≡ sites_of u frame work.name.bi) (b : work.b ≡ sites_of u frame work.name.bj)
     (kind_is : work.name.kind ≡ kind)
     (second : work.name.bj < 64) (within : tile_number_of work < length p.awaited.items)

@@ -2,8 +2,8 @@
 use Rattle.std.proofs.Common.{ℕ, ◌≡◌, List, map, length, slice_index_or, sym, ap, ◌∙◌, arith}
 use Rattle.std.specs.List.{range_with_len}
 use Rattle.std.proofs.lemmas.List.FromFn.{length-map-range_with_len, get_or-map-range_with_len}
-use Rattle.lj_tile.specs.declared.pairs.Push.{Push}
-use Rattle.lj_tile.specs.Pushes.{no_push, sum_of_pushes}
+use Rattle.lj_task.specs.declared.pushes.Push.{Push}
+use Rattle.lj_task.specs.Pushes.{no_push, sum_of_pushes}
 use Rattle.lj_step.specs.OpenSteps.{tile_number}
 use Rattle.lj_step.specs.Sums.{HasBlockAdded, sum_of}
 

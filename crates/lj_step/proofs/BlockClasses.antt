@@ -4,9 +4,9 @@ use Rattle.lj_ring.specs.declared.coordinates.Place.{Place}
 use Rattle.lj_ring.specs.declared.mixes.Species.{Species}
 use Rattle.lj_ring.specs.Mix.{Mix, class_of}
 use Rattle.lj_ring.proofs.MixLemmas.{class_symmetric}
-use Rattle.lj_tile.specs.Block.{Block}
-use Rattle.lj_tile.specs.Species.{Composition, species_if, species_at, class_between}
-use Rattle.lj_tile.specs.Task.{Task, class_in}
+use Rattle.lj_task.specs.Block.{Block}
+use Rattle.lj_task.specs.Species.{Composition, species_if, species_at, class_between}
+use Rattle.lj_task.specs.Task.{Task, class_in}
 use Rattle.lj_step.specs.OpenSteps.{sites_of}
 use Rattle.lj_step.specs.Sets.{species_bits_in}
 use Rattle.lj_step.proofs.SetLemmas.{bit_in_block}

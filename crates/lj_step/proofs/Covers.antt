@@ -11,20 +11,20 @@ use Rattle.std.proofs.lemmas.List.Sums.{sum_by-cons}
 use Rattle.std.proofs.lemmas.List.FromFn.{fill_by_all, length-map-range_with_len, get_or-map-range_with_len}
 use Rattle.lj_ring.specs.declared.coordinates.Place.{Place}
 use Rattle.lj_ring.specs.Ring.{sum_below, ring_sum, int_sum_below, squared_distance, image}
-use Rattle.lj_tile.specs.Species.{Composition, class_between}
+use Rattle.lj_task.specs.Species.{Composition, class_between}
 use Rattle.lj_ring.specs.declared.mixes.Class.{Class}
 use Rattle.lj_ring.specs.Scale.{Scale, is_in_cutoff, entry, bin}
 use Rattle.lj_table.specs.Entries.{energy_entry, weighted_energy}
 use Rattle.lj_table.proofs.Quotients.{weighted_none}
-use Rattle.lj_tile.specs.declared.pairs.Push.{Push}
-use Rattle.lj_tile.specs.Pushes.{push, push_along, no_push, energy}
-use Rattle.lj_tile.specs.Tiles.{Tile, chosen_energy, push_sum, tile_energy, times, are_near, IsForceCover}
-use Rattle.lj_tile.specs.Tiles.{IsEnergyCover}
+use Rattle.lj_task.specs.declared.pushes.Push.{Push}
+use Rattle.lj_task.specs.Pushes.{push, push_along, no_push, energy}
+use Rattle.lj_task.specs.Tiles.{Tile, chosen_energy, push_sum, tile_energy, times, are_near, IsForceCover}
+use Rattle.lj_task.specs.Tiles.{IsEnergyCover}
 use Rattle.lj_step.specs.Motion.{Simulation, place_at, push_of, force, next_place, moved_place, next_simulation, potential}
-use Rattle.lj_step.specs.Laws.{tiles_force, next_simulation_by, tiles_energy}
+use Rattle.lj_step.specs.MotionLaws.{tiles_force, next_simulation_by, tiles_energy}
 use Rattle.lj_step.proofs.RingSums.{sum_same, ring_sum_same, ring_sum_zero, sum_plus}
 use Rattle.lj_step.proofs.BlockSums.{int_sum_same, int_sum_none, int_sum_plus}
-use Rattle.lj_tile.proofs.Opposites.{entry_far, along_none, same_push}
+use Rattle.lj_task.proofs.Opposites.{entry_far, along_none, same_push}
 
 -- a pair that does not interact neither pushes nor has an energy
 pub push_far : (u : Scale) (p q : Place) → is_in_cutoff u (squared_distance p q) ≡ false → push u p q ≡ no_push

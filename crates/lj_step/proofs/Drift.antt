@@ -6,15 +6,15 @@ use Rattle.std.proofs.lemmas.Bool.Decides.{nat_tests}
 use Rattle.lj_ring.specs.declared.coordinates.Place.{Place}
 use Rattle.lj_ring.specs.Ring.{sum_below, ring_sum}
 use Rattle.lj_ring.specs.declared.mixes.Class.{Class}
-use Rattle.lj_tile.specs.Species.{Composition, class_between, species_at}
-use Rattle.lj_tile.specs.declared.pairs.Push.{Push}
-use Rattle.lj_tile.specs.Pushes.{no_push, push}
+use Rattle.lj_task.specs.Species.{Composition, class_between, species_at}
+use Rattle.lj_task.specs.declared.pushes.Push.{Push}
+use Rattle.lj_task.specs.Pushes.{no_push, push}
 use Rattle.lj_step.specs.Motion.{Simulation, place_at, push_of, force, next_coordinate, next_place, next_simulation, steps}
 use Rattle.lj_step.specs.Motion.{reversal}
-use Rattle.lj_step.specs.Laws.{IsOnRing, IsWhole, IsMixture, ring_difference, drift_along, drift, opposite_push}
+use Rattle.lj_step.specs.MotionLaws.{IsOnRing, IsWellFormed, IsMixture, ring_difference, drift_along, drift, opposite_push}
 use Rattle.lj_step.proofs.BlockClasses.{class_turned}
 use Rattle.lj_step.proofs.RingSums.{ring_sum_same, ring_sum_zero, sum_plus, square_zero}
-use Rattle.lj_tile.proofs.Opposites.{AddToNone, pushes_opposite, same_push}
+use Rattle.lj_task.proofs.Opposites.{AddToNone, pushes_opposite, same_push}
 use Rattle.lj_step.proofs.Undone.{next_frame_at, next_frame_length, stepped_whole}
 
 no_pushes : AddToNone no_push no_push
@@ -78,7 +78,7 @@ axis_kept n p c f m hp hc moves none =
     ∙ ap (λ s. s % 2 ^ 32) (sum_plus n (λ i. ring_difference (c i) (p i)) f)
     ∙ joined (sum_below n (λ i. ring_difference (c i) (p i))) (sum_below n f) none
 
-module _ (u : Composition) (sim : Simulation) (scale : IsMixture u.mix) (whole : IsWhole sim) where
+module _ (u : Composition) (sim : Simulation) (scale : IsMixture u.mix) (whole : IsWellFormed sim) where
   pairs : (i j : ℕ) → i < length sim.cur → j < length sim.cur
       → AddToNone (push_of u sim.cur i j) (push_of u sim.cur j i)
   pairs i j p q = pair_opposite u sim.cur i j scale (whole.cur i p) (whole.cur j q)
@@ -117,7 +117,7 @@ module _ (u : Composition) (sim : Simulation) (scale : IsMixture u.mix) (whole :
       (along (λ p. p.y) (λ p. p.y) refl (λ p c f. refl) (λ p h. h.y) (λ i. refl) (λ i j p q. (pairs i j p q).y))
       (along (λ p. p.z) (λ p. p.z) refl (λ p c f. refl) (λ p h. h.z) (λ i. refl) (λ i j p q. (pairs i j p q).z))
 
-pub drift_kept : (u : Composition) (n : ℕ) (sim : Simulation) → IsMixture u.mix → IsWhole sim → drift (steps u n sim) ≡ drift sim
+pub drift_kept : (u : Composition) (n : ℕ) (sim : Simulation) → IsMixture u.mix → IsWellFormed sim → drift (steps u n sim) ≡ drift sim
 drift_kept u zero sim scale whole = refl
 drift_kept u (suc n) sim scale whole =
     drift_kept u n (next_simulation u sim) scale (stepped_whole u sim whole) ∙ step_kept u sim scale whole
@@ -138,7 +138,7 @@ axis_turned n p c hp hc =
     turned_sum : (a b : ℕ) → (a + b) % 2 ^ 32 ≡ 0 → a % 2 ^ 32 ≡ ring_difference 0 (b % 2 ^ 32)
     turned_sum a b none = omega arith
 
-module _ (sim : Simulation) (whole : IsWhole sim) where
+module _ (sim : Simulation) (whole : IsWellFormed sim) where
   prev_on_ring : (i : ℕ) → i < length sim.cur → IsOnRing (place_at sim.prev i)
   prev_on_ring i h = let same : length sim.prev ≡ length sim.cur = whole.same in let within : i < length sim.prev =
       omega arith in whole.prev i within
@@ -156,5 +156,5 @@ module _ (sim : Simulation) (whole : IsWhole sim) where
       (turned_along (λ p. p.x) (λ p h. h.x)) (turned_along (λ p. p.y) (λ p h. h.y)) (turned_along
       (λ p. p.z) (λ p h. h.z))
 
-pub drift_turned : (sim : Simulation) → IsWhole sim → drift (reversal sim) ≡ opposite_push (drift sim)
+pub drift_turned : (sim : Simulation) → IsWellFormed sim → drift (reversal sim) ≡ opposite_push (drift sim)
 drift_turned sim whole = turned sim whole

@@ -9,13 +9,13 @@ use Rattle.std.proofs.lemmas.List.{get_or-replicate}
 use Rattle.std.proofs.lemmas.List.Sums.{length-filter, count_by-le-length}
 use Rattle.std.proofs.lemmas.List.FromFn.{length-range_with_len}
 use Rattle.lj_ring.specs.declared.coordinates.Place.{Place}
-use Rattle.lj_tile.specs.Species.{Composition, class_between}
-use Rattle.lj_tile.specs.declared.task_name.Kind.{Kind}
-use Rattle.lj_tile.specs.Pushes.{no_push, push, energy}
-use Rattle.lj_tile.specs.Tiles.{are_near}
+use Rattle.lj_task.specs.Species.{Composition, class_between}
+use Rattle.lj_task.specs.declared.task_name.Kind.{Kind}
+use Rattle.lj_task.specs.Pushes.{no_push, push, energy}
+use Rattle.lj_task.specs.Tiles.{are_near}
 use Rattle.lj_step.specs.declared.partial.Partial.{Partial}
 use Rattle.lj_step.specs.Motion.{place_at, push_of}
-use Rattle.lj_step.specs.Laws.{AreOnRing}
+use Rattle.lj_step.specs.MotionLaws.{IsFrameOnRing}
 use Rattle.lj_step.specs.OpenSteps.{blocks, is_tile, cover}
 use Rattle.lj_step.specs.Sums.{IsOpen, IsPartial, is_pair_awaited}
 use Rattle.lj_step.proofs.Covers.{push_far, energy_far}
@@ -39,7 +39,7 @@ pushes_none u frame i j (inr far) =
     ]
 
 -- an opened step awaits each pair that pushes or has an energy
-module _ (u : Composition) (frame : List Place) (flags : List Bool) (ring : AreOnRing frame) (few : length frame ≤ 4096)
+module _ (u : Composition) (frame : List Place) (flags : List Bool) (ring : IsFrameOnRing frame) (few : length frame ≤ 4096)
     (opened : flags ≡ map (is_tile u frame) (range_with_len 0 (64 * blocks (length frame)))) where
   near_set : (i j : ℕ) → i < length frame → j < length frame → i ≢ j → are_near u frame i j ≡ true
       → is_pair_awaited flags i j ≡ true
@@ -69,7 +69,7 @@ module _ (u : Composition) (frame : List Place) (flags : List Bool) (ring : AreO
       ]
 
 -- an opened step
-pub opened_is : (u : Composition) (frame : List Place) (p : Partial) (kind : Kind) → AreOnRing frame → length frame ≤ 4096
+pub opened_is : (u : Composition) (frame : List Place) (p : Partial) (kind : Kind) → IsFrameOnRing frame → length frame ≤ 4096
     → p.tiles.items ≡ cover u frame → p.awaited.items
     ≡ map (is_tile u frame) (range_with_len 0 (64 * blocks (length frame)))
     → p.left ≡ length (cover u frame) → p.pushes.items ≡ replicate (length frame) no_push

@@ -7,9 +7,9 @@ use Rattle.std.proofs.lemmas.Bool.Decides.{nat_tests}
 use Rattle.std.proofs.lemmas.List.{get_or_past}
 use Rattle.std.proofs.lemmas.List.FromFn.{get_or-map-range_with_len, length-map-range_with_len}
 use Rattle.lj_ring.specs.declared.coordinates.Place.{Place}
-use Rattle.lj_tile.specs.Species.{Composition}
-use Rattle.lj_tile.specs.Tiles.{are_near}
-use Rattle.lj_step.specs.Laws.{AreOnRing}
+use Rattle.lj_task.specs.Species.{Composition}
+use Rattle.lj_task.specs.Tiles.{are_near}
+use Rattle.lj_step.specs.MotionLaws.{IsFrameOnRing}
 use Rattle.lj_step.specs.OpenSteps.{blocks, first_block, second_block, is_in_order, is_out_of_reach, is_tile}
 use Rattle.lj_step.specs.Sums.{pair_number, is_pair_awaited}
 use Rattle.lj_step.proofs.Reach.{near_in_reach}
@@ -55,7 +55,7 @@ pair_in_order count i j hi hj few =
     and_from (nat_lt (second_block k) (blocks count)) (nat_le (first_block k) (second_block k)) within in_order
 
 -- a step has the tile of two different atoms that interact
-pub near_is_tile : (u : Composition) (frame : List Place) → AreOnRing frame → length frame ≤ 4096 → (i j : ℕ)
+pub near_is_tile : (u : Composition) (frame : List Place) → IsFrameOnRing frame → length frame ≤ 4096 → (i j : ℕ)
     → i < length frame → j < length frame → i ≢ j → are_near u frame i j ≡ true
     → is_tile u frame (pair_number i j) ≡ true
 near_is_tile u frame ring few i j hi hj other near =
@@ -63,7 +63,7 @@ near_is_tile u frame ring few i j hi hj other near =
     (pair_in_order (length frame) i j hi hj few) (ap not (near_in_reach u frame ring few i j hi hj other near))
 
 -- an opened step awaits it
-pub near_awaited : (u : Composition) (frame : List Place) → AreOnRing frame → length frame ≤ 4096 → (i j : ℕ)
+pub near_awaited : (u : Composition) (frame : List Place) → IsFrameOnRing frame → length frame ≤ 4096 → (i j : ℕ)
     → i < length frame → j < length frame → i ≢ j → are_near u frame i j ≡ true
     → is_pair_awaited (map (is_tile u frame) (range_with_len 0 (64 * blocks (length frame)))) i j ≡ true
 near_awaited u frame ring few i j hi hj other near =

@@ -7,12 +7,12 @@ use Rattle.std.proofs.lemmas.Bool.{cases_eq, cases_Bool, eqb-true, eqb-false, tr
 use Rattle.std.proofs.lemmas.Bool.Decides.{nat_tests}
 use Rattle.lj_ring.specs.declared.coordinates.Place.{Place}
 use Rattle.lj_ring.specs.Ring.{int_sum_below}
-use Rattle.lj_tile.specs.Species.{Composition, class_between}
-use Rattle.lj_tile.specs.Pushes.{energy}
-use Rattle.lj_tile.specs.Tiles.{chosen_energy}
+use Rattle.lj_task.specs.Species.{Composition, class_between}
+use Rattle.lj_task.specs.Pushes.{energy}
+use Rattle.lj_task.specs.Tiles.{chosen_energy}
 use Rattle.lj_ring.specs.declared.mixes.Class.{Class}
-use Rattle.lj_tile.specs.Block.{Block}
-use Rattle.lj_tile.specs.Task.{Task, class_in, task_energy}
+use Rattle.lj_task.specs.Block.{Block}
+use Rattle.lj_task.specs.Task.{Task, class_in, task_energy}
 use Rattle.lj_step.proofs.BlockClasses.{class_is}
 use Rattle.lj_step.specs.Motion.{place_at, potential}
 use Rattle.lj_step.specs.OpenSteps.{sites_of, tile_number}

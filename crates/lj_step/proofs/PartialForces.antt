@@ -6,20 +6,20 @@ use Rattle.std.proofs.lemmas.Bool.{cases_Bool, eqb-true, eqb-false, true≢false
 use Rattle.std.proofs.lemmas.Bool.Decides.{nat_tests}
 use Rattle.lj_ring.specs.declared.coordinates.Place.{Place}
 use Rattle.lj_ring.specs.Ring.{sum_below, ring_sum}
-use Rattle.lj_tile.specs.Species.{Composition, class_between}
-use Rattle.lj_tile.specs.declared.pairs.Push.{Push}
-use Rattle.lj_tile.specs.Pushes.{push, no_push, sum_of_pushes}
-use Rattle.lj_tile.specs.Tiles.{chosen_push, push_sum}
+use Rattle.lj_task.specs.Species.{Composition, class_between}
+use Rattle.lj_task.specs.declared.pushes.Push.{Push}
+use Rattle.lj_task.specs.Pushes.{push, no_push, sum_of_pushes}
+use Rattle.lj_task.specs.Tiles.{chosen_push, push_sum}
 use Rattle.lj_ring.specs.declared.mixes.Class.{Class}
 use Rattle.lj_ring.specs.Scale.{Scale}
-use Rattle.lj_tile.specs.Block.{Block}
-use Rattle.lj_tile.specs.Task.{Task, class_in, task_force, task_second}
+use Rattle.lj_task.specs.Block.{Block}
+use Rattle.lj_task.specs.Task.{Task, class_in, task_force, task_second}
 use Rattle.lj_step.specs.Motion.{place_at, push_of, force}
 use Rattle.lj_step.specs.OpenSteps.{block, sites_of, tile_number}
 use Rattle.lj_step.proofs.BlockClasses.{class_is, class_turned}
 use Rattle.lj_step.specs.Sums.{pair_number, is_pair_awaited, push_so_far, force_so_far}
 use Rattle.lj_step.proofs.RingSums.{sum_same, ring_sum_zero, sum_plus}
-use Rattle.lj_tile.proofs.Opposites.{same_push}
+use Rattle.lj_task.proofs.Opposites.{same_push}
 use Rattle.lj_step.proofs.BlockSums.{length_in, block_sum}
 use Rattle.lj_step.proofs.BlockPlaces.{block_length, block_place, in_block}
 use Rattle.lj_step.proofs.Flags.{pair_in, pair_in_turned, pair_second_other, pair_turned_other, pair_outside, flag_in}

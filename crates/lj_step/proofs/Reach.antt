@@ -10,7 +10,7 @@ use Rattle.std.proofs.lemmas.Bool.Decides.{nat_tests}
 use Rattle.lj_ring.specs.declared.coordinates.Place.{Place}
 use Rattle.lj_ring.specs.declared.arcs.Arcs.{Arcs}
 use Rattle.lj_ring.specs.Ring.{IsOnRing, squared_distance}
-use Rattle.lj_tile.specs.Species.{Composition, class_between, species_at}
+use Rattle.lj_task.specs.Species.{Composition, class_between, species_at}
 use Rattle.lj_ring.specs.Scale.{Scale, bin, is_in_cutoff}
 use Rattle.lj_ring.specs.Mix.{can_interact}
 use Rattle.lj_ring.specs.declared.mixes.Class.{Class}
@@ -18,11 +18,11 @@ use Rattle.lj_ring.proofs.MixLemmas.{can_interact_from}
 use Rattle.lj_step.proofs.BlockClasses.{class_turned}
 use Rattle.lj_ring.specs.Arcs.{squared_gap}
 use Rattle.lj_ring.proofs.ArcLemmas.{squared_gap_least}
-use Rattle.lj_tile.specs.Tiles.{are_near}
-use Rattle.lj_tile.proofs.Opposites.{distance_symmetric}
+use Rattle.lj_task.specs.Tiles.{are_near}
+use Rattle.lj_task.proofs.Opposites.{distance_symmetric}
 use Rattle.lj_step.specs.Motion.{place_at}
-use Rattle.lj_step.specs.Laws.{AreOnRing}
-use Rattle.lj_step.specs.Kept.{block_arcs}
+use Rattle.lj_step.specs.MotionLaws.{IsFrameOnRing}
+use Rattle.lj_step.specs.KeptSims.{block_arcs}
 use Rattle.lj_step.specs.OpenSteps.{blocks, block, tile_number, first_block, second_block, is_out_of_reach}
 use Rattle.lj_step.specs.Sums.{pair_number}
 use Rattle.lj_step.proofs.BlockSums.{length_in}
@@ -100,14 +100,14 @@ nearer u gap s less near =
     lt-ltb (bin u gap) 800 within
 
 -- each place of a block is one of the frame's
-block_on_ring : (frame : List Place) → AreOnRing frame → (b t : ℕ) → t < length (block frame b)
+block_on_ring : (frame : List Place) → IsFrameOnRing frame → (b t : ℕ) → t < length (block frame b)
     → IsOnRing (place_at (block frame b) t)
 block_on_ring frame ring b t h =
     let within : t < length_in b (length frame) = subst (λ n. t < n) (block_length frame b) h in
     subst IsOnRing (sym (block_place frame b t within)) (ring (64 * b + t) (atom_within (length frame) b t within))
 
 -- the gap of the blocks of two atoms is at most their distance
-gap_least : (frame : List Place) → AreOnRing frame → (i j : ℕ) → i < length frame → j < length frame
+gap_least : (frame : List Place) → IsFrameOnRing frame → (i j : ℕ) → i < length frame → j < length frame
     → squared_gap (block_arcs frame (i / 64)) (block_arcs frame (j / 64))
     ≤ squared_distance (place_at frame i) (place_at frame j)
 gap_least frame ring i j hi hj =
@@ -127,7 +127,7 @@ gap_least frame ring i j hi hj =
     ≤ squared_distance (place_at (block frame (i / 64)) (i - 64 * (i / 64))) q) second least)
 
 -- the atoms of two blocks in order that interact
-near_in_order : (u : Composition) (frame : List Place) → AreOnRing frame → length frame ≤ 4096 → (i j : ℕ)
+near_in_order : (u : Composition) (frame : List Place) → IsFrameOnRing frame → length frame ≤ 4096 → (i j : ℕ)
     → i < length frame → j < length frame → i / 64 < j / 64 → are_near u frame i j ≡ true
     → is_out_of_reach u frame (tile_number (i / 64) (j / 64)) ≡ false
 near_in_order u frame ring few i j hi hj before near =
@@ -146,7 +146,7 @@ more_than_one n b count i j e hi hj first second other =
     let more : count ≢ 1 = omega arith in grind (arith, nat_tests)
 
 -- the blocks of two atoms that interact are not out of reach
-pub near_in_reach : (u : Composition) (frame : List Place) → AreOnRing frame → length frame ≤ 4096 → (i j : ℕ)
+pub near_in_reach : (u : Composition) (frame : List Place) → IsFrameOnRing frame → length frame ≤ 4096 → (i j : ℕ)
     → i < length frame → j < length frame → i ≢ j → are_near u frame i j ≡ true
     → is_out_of_reach u frame (pair_number i j) ≡ false
 near_in_reach u frame ring few i j hi hj other near =

@@ -4,14 +4,14 @@ use Rattle.std.proofs.Common.{Result, Ok, Err, true≢false, refl, sym, ap, ◌�
 use Rattle.std.specs.Option.{IsSome}
 use Rattle.std.specs.Result.{IsOk, OnOk}
 use Rattle.std.proofs.lemmas.Int.{ints}
-use Rattle.lj_tile.specs.Species.{Composition}
+use Rattle.lj_task.specs.Species.{Composition}
 use Rattle.lj_base.specs.declared.names.Label.{Label}
-use Rattle.lj_tile.specs.declared.task_name.Kind.{Kind}
-use Rattle.lj_tile.specs.Task.{Task}
+use Rattle.lj_task.specs.declared.task_name.Kind.{Kind}
+use Rattle.lj_task.specs.Task.{Task}
 use Rattle.lj_step.specs.Motion.{Simulation, steps, reversal}
 use Rattle.lj_step.specs.Sim.{Sim}
 use Rattle.lj_step.specs.OpenSteps.{cover, task_at, with_step_closed}
-use Rattle.lj_step.specs.Laws.{IsWhole}
+use Rattle.lj_step.specs.MotionLaws.{IsWellFormed}
 use Rattle.lj_step.specs.InOrder.{AwaitsFrom}
 use Rattle.lj_step.proofs.TilesTaken.{none_past}
 use Rattle.lj_step.proofs.Undone.{undone}
@@ -36,7 +36,7 @@ pub turned_size : (s d : ℤ) (a n : ℕ) → unsigned_abs s ≤ a + n → unsig
 turned_size s d a n most one fits = omega (arith, ints)
 
 -- the simulations there, back and turned once more
-pub back_again : (start there turned back end : Sim) (n : ℕ) → IsWhole start.sim
+pub back_again : (start there turned back end : Sim) (n : ℕ) → IsWellFormed start.sim
     → there.composition ≡ start.composition → there.sim ≡ steps start.composition n start.sim → turned ≡ with_step_closed there (reversal there.sim)
     → back.composition ≡ turned.composition → back.sim ≡ steps turned.composition n turned.sim → end ≡ with_step_closed back (reversal back.sim)
     → end ≡ with_step_closed start start.sim

@@ -11,21 +11,21 @@ use Rattle.std.proofs.lemmas.List.Elements.{filter_passes, All-filter}
 use Rattle.std.proofs.lemmas.List.FromFn.{fill_by_all, get_or-range_with_len, length-range_with_len}
 use Rattle.std.proofs.lemmas.Int.{to_z-of_z, fits_signed_from_abs}
 use Rattle.lj_ring.specs.declared.coordinates.Place.{Place}
-use Rattle.lj_tile.specs.Species.{Composition}
-use Rattle.lj_tile.specs.declared.pairs.Push.{Push}
+use Rattle.lj_task.specs.Species.{Composition}
+use Rattle.lj_task.specs.declared.pushes.Push.{Push}
 use Rattle.lj_base.specs.declared.names.Label.{Label}
-use Rattle.lj_tile.specs.declared.task_name.Kind.{Kind}
-use Rattle.lj_tile.specs.declared.task_name.Kind.TheVariants.{Force, Energy}
-use Rattle.lj_tile.specs.Pushes.{no_push}
+use Rattle.lj_task.specs.declared.task_name.Kind.{Kind}
+use Rattle.lj_task.specs.declared.task_name.Kind.TheVariants.{Force, Energy}
+use Rattle.lj_task.specs.Pushes.{no_push}
 use Rattle.lj_step.specs.declared.partial.Partial.{Partial}
 use Rattle.lj_step.specs.Motion.{Simulation, place_at, next_place, force, moved_place, next_frame, next_simulation, potential}
-use Rattle.lj_step.specs.Laws.{AreOnRing}
+use Rattle.lj_step.specs.MotionLaws.{IsFrameOnRing}
 use Rattle.lj_step.specs.Sim.{Sim, OpenStep}
-use Rattle.lj_step.specs.OpenSteps.{blocks, is_tile, cover, task_of, task_of_open, task_at}
+use Rattle.lj_step.specs.OpenSteps.{blocks, is_tile, cover, tile_task, task_of_open, task_at}
 use Rattle.lj_step.specs.OpenSteps.{is_number_awaited, is_tile_awaited_in, is_tile_awaited, kind_of}
 use Rattle.lj_step.specs.OpenSteps.{is_whole, with_step_closed}
 use Rattle.lj_step.specs.Sums.{IsPartial}
-use Rattle.lj_step.specs.Kept.{open_step_of}
+use Rattle.lj_step.specs.KeptSims.{open_step_of}
 use Rattle.lj_step.proofs.PartialForces.{force_whole}
 use Rattle.lj_step.proofs.PartialEnergies.{energy_whole}
 pub use Rattle.lj_step.proofs.Flags.{set_within}
@@ -75,7 +75,7 @@ potential_is u frame p h whole =
 
 -- the sums of an opened step, where the frame is that of the simulation
 pub opened_partial : (u : Composition) (frame now : List Place) (q : Partial) (kind : Kind) → frame ≡ now
-    → AreOnRing now → length now ≤ 4096 → q.kind ≡ Some kind
+    → IsFrameOnRing now → length now ≤ 4096 → q.kind ≡ Some kind
     → q.tiles.items ≡ cover u frame
     → q.awaited.items ≡ map (is_tile u frame) (range_with_len 0 (64 * blocks (length frame)))
     → q.left ≡ length (cover u frame)
@@ -131,9 +131,9 @@ tile_found u frame p kind tiles now i number kind_is h tiles_are units_are frame
 -- the i-th task of an open step
 pub task_found : (live : Sim) (label : Label) (p : OpenStep) (i number : ℕ) → live.part ≡ Some p
     → slice_get (cover live.composition live.sim.cur) i ≡ Some number
-    → Some (task_of live label p.kind number) ≡ task_at live label i
+    → Some (tile_task live label p.kind number) ≡ task_at live label i
 task_found live label p i number part found =
-    sym (ap (task_of_open live label i) part ∙ ap (option_map (task_of live label p.kind)) found)
+    sym (ap (task_of_open live label i) part ∙ ap (option_map (tile_task live label p.kind)) found)
 
 pub awaits_found : (live : Sim) (p : OpenStep) (i number : ℕ) → live.part ≡ Some p
     → slice_get (cover live.composition live.sim.cur) i ≡ Some number

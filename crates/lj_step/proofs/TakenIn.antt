@@ -2,14 +2,14 @@
 use Rattle.std.proofs.Common.{◌+◌, ◌/◌, ◌%◌, ◌^◌, ◌<◌, ◌≤◌, ◌≡◌, ◌+ℤ◌, unsigned_abs, Bool, true, false, List}
 use Rattle.std.proofs.Common.{length, slice_index_or, slice_set, Option, Some, None, refl, sym, ap, ◌∙◌, subst, arith}
 use Rattle.lj_base.specs.declared.names.Label.{Label}
-use Rattle.lj_tile.specs.declared.task_name.Kind.{Kind}
-use Rattle.lj_tile.specs.declared.task_name.Kind.TheVariants.{Energy}
-use Rattle.lj_tile.specs.Task.{Task, task_energy}
+use Rattle.lj_task.specs.declared.task_name.Kind.{Kind}
+use Rattle.lj_task.specs.declared.task_name.Kind.TheVariants.{Energy}
+use Rattle.lj_task.specs.Task.{Task, task_energy}
 use Rattle.lj_step.specs.declared.partial.Partial.{Partial}
 use Rattle.lj_step.specs.Sim.{Sim}
-use Rattle.lj_step.specs.OpenSteps.{sites_of, tile_number_of, task_of, IsAwaitedTaskIn, IsAwaitedTask}
-use Rattle.lj_step.specs.Sums.{CanAdd, HasRoom, HasAdded, IsOpen, IsPartial}
-use Rattle.lj_step.specs.Kept.{open_step_of}
+use Rattle.lj_step.specs.OpenSteps.{sites_of, tile_number_of, tile_task, IsAwaitedTaskIn, IsAwaitedTask}
+use Rattle.lj_step.specs.Sums.{CanAdd, HasCapacity, HasAdded, IsOpen, IsPartial}
+use Rattle.lj_step.specs.KeptSims.{open_step_of}
 use Rattle.lj_step.proofs.Flags.{set_within}
 use Rattle.lj_step.proofs.Accepted.{accepted_is, can_add}
 
@@ -17,14 +17,14 @@ use Rattle.lj_step.proofs.Accepted.{accepted_is, can_add}
 pub awaited_in : (live : Sim) (label : Label) (work : Task) (o : Option Kind) (flags : List Bool)
     → IsAwaitedTaskIn live label work (open_step_of o flags)
     → (kind : Kind) × (o ≡ Some kind) × (slice_index_or flags (tile_number_of work) false ≡ true)
-    × (work ≡ task_of live label kind (tile_number_of work))
+    × (work ≡ tile_task live label kind (tile_number_of work))
 awaited_in live label work None flags h = absurd h
 awaited_in live label work (Some kind) flags h = (kind, refl, h.0, h.1)
 
 pub awaited_at : (live now : Sim) (label : Label) (asked work : Task) (o : Option Kind) (flags : List Bool)
     → live ≡ now → live.part ≡ open_step_of o flags → asked ≡ work → IsAwaitedTask now label asked
     → (kind : Kind) × (o ≡ Some kind) × (slice_index_or flags (tile_number_of work) false ≡ true)
-    × (work ≡ task_of live label kind (tile_number_of work))
+    × (work ≡ tile_task live label kind (tile_number_of work))
 awaited_at live now label asked work o flags view part same h =
     let at_live : IsAwaitedTask live label asked = subst (λ v. IsAwaitedTask v label asked) (sym view) h in
     let at_work : IsAwaitedTask live label work = subst (λ w. IsAwaitedTask live label w) same at_live in
@@ -32,9 +32,9 @@ awaited_at live now label asked work o flags view part same h =
 
 -- the step that takes in an awaited task
 module _ (live : Sim) (label : Label) (work : Task) (p : Partial) (few : length live.sim.cur ≤ 4096)
-    (room : HasRoom (length live.sim.cur) p) (before : IsPartial live.composition live.sim.cur p p.kind)
+    (room : HasCapacity (length live.sim.cur) p) (before : IsPartial live.composition live.sim.cur p p.kind)
     (wanted : (kind : Kind) × (p.kind ≡ Some kind) × (slice_index_or p.awaited.items (tile_number_of work) false ≡ true)
-    × (work ≡ task_of live label kind (tile_number_of work))) where
+    × (work ≡ tile_task live label kind (tile_number_of work))) where
   within : tile_number_of work < length p.awaited.items
   within = set_within p.awaited.items (tile_number_of work) wanted.2
 

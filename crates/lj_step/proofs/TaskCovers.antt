@@ -9,11 +9,11 @@ use Rattle.std.proofs.lemmas.Bool.{true≢false, false_from_ne_true}
 use Rattle.std.proofs.lemmas.Bool.Decides.{nat_tests}
 use Rattle.std.proofs.lemmas.List.Sums.{sum_by-cons}
 use Rattle.lj_ring.specs.declared.coordinates.Place.{Place}
-use Rattle.lj_tile.specs.Species.{Composition}
-use Rattle.lj_tile.specs.declared.task_name.Kind.{Kind}
-use Rattle.lj_tile.specs.declared.task_name.Kind.TheVariants.{Force, Energy}
-use Rattle.lj_tile.specs.Tiles.{Tile, times, force_tile, energy_tile, are_between, IsForceCover, IsEnergyCover}
-use Rattle.lj_step.specs.Laws.{AreOnRing}
+use Rattle.lj_task.specs.Species.{Composition}
+use Rattle.lj_task.specs.declared.task_name.Kind.{Kind}
+use Rattle.lj_task.specs.declared.task_name.Kind.TheVariants.{Force, Energy}
+use Rattle.lj_task.specs.Tiles.{Tile, times, force_tile, energy_tile, are_between, IsForceCover, IsEnergyCover}
+use Rattle.lj_step.specs.MotionLaws.{IsFrameOnRing}
 use Rattle.lj_step.specs.OpenSteps.{blocks, first_block, second_block, is_in_order, is_out_of_reach}
 use Rattle.lj_step.specs.OpenSteps.{is_tile, tile_of, cover_tiles}
 use Rattle.lj_step.specs.Sums.{pair_number}
@@ -192,7 +192,7 @@ force_itself u frame i k =
     true≢false (sym apart ∙ ap not same))
 
 -- the force tasks of a step are a cover
-pub force_cover : (u : Composition) (frame : List Place) → AreOnRing frame → length frame ≤ 4096
+pub force_cover : (u : Composition) (frame : List Place) → IsFrameOnRing frame → length frame ≤ 4096
     → IsForceCover u frame (cover_tiles Force u frame)
 force_cover u frame ring few = record {
   near = λ i j hi hj other near.
@@ -206,7 +206,7 @@ force_cover u frame ring few = record {
 }
 
 -- the energy tasks of a step are a cover
-pub energy_cover : (u : Composition) (frame : List Place) → AreOnRing frame → length frame ≤ 4096
+pub energy_cover : (u : Composition) (frame : List Place) → IsFrameOnRing frame → length frame ≤ 4096
     → IsEnergyCover u frame (cover_tiles Energy u frame)
 energy_cover u frame ring few = record {
   near = λ i j before hj near.

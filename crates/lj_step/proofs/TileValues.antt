@@ -7,27 +7,27 @@ use Rattle.std.proofs.lemmas.List.{get_or-map, length-map}
 use Rattle.std.proofs.lemmas.Option.{slice_get_within, get_or_from_slice_get}
 use Rattle.lj_ring.specs.declared.coordinates.Place.{Place}
 use Rattle.lj_ring.specs.Ring.{ring_sum, int_sum_below}
-use Rattle.lj_tile.specs.Species.{Composition, class_between}
+use Rattle.lj_task.specs.Species.{Composition, class_between}
 use Rattle.lj_ring.specs.Scale.{Scale}
-use Rattle.lj_tile.specs.declared.pairs.Push.{Push}
+use Rattle.lj_task.specs.declared.pushes.Push.{Push}
 use Rattle.lj_base.specs.declared.names.Label.{Label}
-use Rattle.lj_tile.specs.declared.task_name.Kind.{Kind}
-use Rattle.lj_tile.specs.declared.task_name.Kind.TheVariants.{Force, Energy}
-use Rattle.lj_tile.specs.Pushes.{no_push, energy}
-use Rattle.lj_tile.specs.Tiles.{chosen_push, chosen_energy, push_sum, tile_force, tile_energy, are_between, force_tile}
-use Rattle.lj_tile.specs.Tiles.{energy_tile}
-use Rattle.lj_tile.specs.Task.{Task}
+use Rattle.lj_task.specs.declared.task_name.Kind.{Kind}
+use Rattle.lj_task.specs.declared.task_name.Kind.TheVariants.{Force, Energy}
+use Rattle.lj_task.specs.Pushes.{no_push, energy}
+use Rattle.lj_task.specs.Tiles.{chosen_push, chosen_energy, push_sum, tile_force, tile_energy, are_between, force_tile}
+use Rattle.lj_task.specs.Tiles.{energy_tile}
+use Rattle.lj_task.specs.Task.{Task}
 use Rattle.lj_step.specs.Motion.{place_at, push_of}
-use Rattle.lj_step.specs.Laws.{AreOnRing}
+use Rattle.lj_step.specs.MotionLaws.{IsFrameOnRing}
 use Rattle.lj_step.specs.Sim.{Sim, OpenStep}
-use Rattle.lj_step.specs.OpenSteps.{first_block, second_block, block, cover, cover_tiles, tile_of, task_of, tiles_in}
+use Rattle.lj_step.specs.OpenSteps.{first_block, second_block, block, cover, cover_tiles, tile_of, tile_task, tiles_in}
 use Rattle.lj_step.specs.TileTasks.{HasForces, HasEnergy, HasValue, HasValueIn, HasTileValue, IsCover, IsCoveredIn}
 use Rattle.lj_step.specs.TileTasks.{tile_at}
 use Rattle.lj_step.specs.Sums.{IsOutside}
 use Rattle.lj_step.proofs.RingSums.{sum_same, ring_sum_zero}
 use Rattle.lj_step.proofs.BlockSums.{length_in, block_sum, int_sum_same, int_sum_none}
 use Rattle.lj_step.proofs.BlockPlaces.{block_length, atom_block}
-use Rattle.lj_tile.proofs.Opposites.{same_push}
+use Rattle.lj_task.proofs.Opposites.{same_push}
 use Rattle.lj_step.proofs.PartialForces.{block_force, chosen_is, task_is, second_is}
 use Rattle.lj_step.proofs.TaskCovers.{force_cover, energy_cover}
 use Rattle.lj_step.proofs.PartialEnergies.{in_first, block_pairs, block_energy, energy_task_is}
@@ -107,11 +107,11 @@ sum_value live k a b t sum h between is =
     (λ j. between (64 * a + t) j (atom_block (length live.sim.cur) a t within)))
 
 force_value : (live : Sim) (label : Label) (k : ℕ)
-    → HasForces live.composition live.sim.cur (tile_of Force k) (task_of live label Force k)
+    → HasForces live.composition live.sim.cur (tile_of Force k) (tile_task live label Force k)
 force_value live label k =
     let bi = first_block k in
     let bj = second_block k in
-    let work = task_of live label Force k in
+    let work = tile_task live label Force k in
     record {
       kind = refl;
       first = λ t h. sum_value live k bi bj t _ h (between_first bi bj)
@@ -154,24 +154,24 @@ tile_energy_is u frame bi bj =
     ∙ block_pairs (λ i j. energy (class_between u i j) (place_at frame i) (place_at frame j)) bi bj (length frame)
 
 energy_value : (live : Sim) (label : Label) (k : ℕ)
-    → HasEnergy live.composition live.sim.cur (tile_of Energy k) (task_of live label Energy k)
+    → HasEnergy live.composition live.sim.cur (tile_of Energy k) (tile_task live label Energy k)
 energy_value live label k = record {
   kind = refl;
   energy =
-      energy_task_is live.composition live.sim.cur (task_of live label Energy k) refl refl refl
+      energy_task_is live.composition live.sim.cur (tile_task live label Energy k) refl refl refl
       ∙ sym (tile_energy_is live.composition live.sim.cur (first_block k) (second_block k));
 }
 
 -- the task of a tile has that tile's value
 pub tile_value : (kind : Kind) (live : Sim) (label : Label) (k : ℕ)
-    → HasValue kind live.composition live.sim.cur (tile_of kind k) (task_of live label kind k)
+    → HasValue kind live.composition live.sim.cur (tile_of kind k) (tile_task live label kind k)
 tile_value Force live label k = force_value live label k
 tile_value Energy live label k = energy_value live label k
 
 -- the same of the i-th task of an open step
 pub open_value : (live : Sim) (label : Label) (p : OpenStep) (i k : ℕ) (work : Task) → live.part ≡ Some p
     → slice_get (cover live.composition live.sim.cur) i ≡ Some k
-    → work ≡ task_of live label p.kind k → HasTileValue live i work
+    → work ≡ tile_task live label p.kind k → HasTileValue live i work
 open_value live label p i k work part found same =
     let within = slice_get_within (cover live.composition live.sim.cur) i k found in
     let tile : tile_at (cover_tiles p.kind live.composition live.sim.cur) i ≡ tile_of p.kind k =
@@ -183,7 +183,7 @@ open_value live label p i k work part found same =
     subst (HasValueIn live i work) (sym part) value
 
 -- the tiles of an open step are a cover
-pub step_covered : (live : Sim) → AreOnRing live.sim.cur → length live.sim.cur ≤ 4096 → (part : Option OpenStep)
+pub step_covered : (live : Sim) → IsFrameOnRing live.sim.cur → length live.sim.cur ≤ 4096 → (part : Option OpenStep)
     → live.part ≡ part → IsCoveredIn live part
 step_covered live ring few None e = tt
 step_covered live ring few (Some p) e = record {
@@ -192,7 +192,7 @@ step_covered live ring few (Some p) e = record {
   cover = cover_is p.kind live.composition live.sim.cur ring few;
 }
   where
-    cover_is : (kind : Kind) (u : Composition) (frame : List Place) → AreOnRing frame → length frame ≤ 4096
+    cover_is : (kind : Kind) (u : Composition) (frame : List Place) → IsFrameOnRing frame → length frame ≤ 4096
         → IsCover kind u frame (cover_tiles kind u frame)
     cover_is Force u frame ring few = force_cover u frame ring few
     cover_is Energy u frame ring few = energy_cover u frame ring few

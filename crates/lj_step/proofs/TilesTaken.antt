@@ -9,12 +9,12 @@ use Rattle.std.proofs.lemmas.List.Sums.{length-filter, sum_by-set}
 use Rattle.std.proofs.lemmas.List.FromFn.{get_or-range_with_len, length-range_with_len}
 use Rattle.std.proofs.lemmas.Option.{slice_get_cases, same_Some, none-some, get_or_from_slice_get}
 use Rattle.lj_ring.specs.declared.coordinates.Place.{Place}
-use Rattle.lj_tile.specs.Species.{Composition}
+use Rattle.lj_task.specs.Species.{Composition}
 use Rattle.lj_base.specs.declared.names.Label.{Label}
-use Rattle.lj_tile.specs.declared.task_name.Kind.{Kind}
-use Rattle.lj_tile.specs.Task.{Task}
+use Rattle.lj_task.specs.declared.task_name.Kind.{Kind}
+use Rattle.lj_task.specs.Task.{Task}
 use Rattle.lj_step.specs.Sim.{Sim, OpenStep}
-use Rattle.lj_step.specs.OpenSteps.{blocks, is_tile, cover, opened_step, tile_number_of, task_of, task_of_open, task_at}
+use Rattle.lj_step.specs.OpenSteps.{blocks, is_tile, cover, opened_step, tile_number_of, tile_task, task_of_open, task_at}
 use Rattle.lj_step.specs.OpenSteps.{IsAwaitedTaskIn, IsAwaitedTask, with_tile, kind_of, is_whole}
 use Rattle.lj_step.proofs.Flags.{count_flags}
 use Rattle.lj_step.proofs.OpenedFlags.{opened_flag}
@@ -59,13 +59,13 @@ all_taken kind u frame i part h past =
     let none : count_by (λ awaited. awaited) h.flags ≡ 0 = omega (arith, h.left, past) in
     ap is_whole h.is_open ∙ ap (λ n. nat_le n 0) none
 
-pub number_is : (live : Sim) (label : Label) (kind : Kind) (k : ℕ) → tile_number_of (task_of live label kind k) ≡ k
+pub number_is : (live : Sim) (label : Label) (kind : Kind) (k : ℕ) → tile_number_of (tile_task live label kind k) ≡ k
 number_is live label kind k = omega arith
 
 -- the i-th task of the step is that of the i-th number of the cover
 task_read : (live : Sim) (label : Label) (kind : Kind) (i : ℕ) (o : Option Task)
     → AwaitsFrom kind live.composition live.sim.cur i live.part → o ≡ task_at live label i
-    → o ≡ option_map (task_of live label kind) (slice_get (cover live.composition live.sim.cur) i)
+    → o ≡ option_map (tile_task live label kind) (slice_get (cover live.composition live.sim.cur) i)
 task_read live label kind i o h e = e ∙ ap (task_of_open live label i) h.is_open
 
 pub none_past : (live : Sim) (label : Label) (kind : Kind) (i : ℕ) (o : Option Task)
@@ -74,27 +74,27 @@ pub none_past : (live : Sim) (label : Label) (kind : Kind) (i : ℕ) (o : Option
 none_past live label kind i o h e none =
     elim ((slice_get_cases (cover live.composition live.sim.cur) i).1) [
       | inl r ↦
-          absurd (none-some (task_of live label kind r.0)
-          (sym none ∙ task_read live label kind i o h e ∙ ap (option_map (task_of live label kind)) r.2))
+          absurd (none-some (tile_task live label kind r.0)
+          (sym none ∙ task_read live label kind i o h e ∙ ap (option_map (tile_task live label kind)) r.2))
       | inr r ↦ r.0
     ]
 
 pub task_at_place : (live : Sim) (label : Label) (kind : Kind) (i : ℕ) (o : Option Task) (work : Task)
     → AwaitsFrom kind live.composition live.sim.cur i live.part → o ≡ task_at live label i → o ≡ Some work
     → (number : ℕ) × (i < length (cover live.composition live.sim.cur))
-    × (slice_index_or (cover live.composition live.sim.cur) i 0 ≡ number) × (work ≡ task_of live label kind number)
+    × (slice_index_or (cover live.composition live.sim.cur) i 0 ≡ number) × (work ≡ tile_task live label kind number)
 task_at_place live label kind i o work h e some =
     elim ((slice_get_cases (cover live.composition live.sim.cur) i).1) [
       | inl r ↦ (
         r.0,
         r.1,
         get_or_from_slice_get (cover live.composition live.sim.cur) i r.0 0 r.2,
-        same_Some work (task_of live label kind r.0)
-            (sym some ∙ task_read live label kind i o h e ∙ ap (option_map (task_of live label kind)) r.2),
+        same_Some work (tile_task live label kind r.0)
+            (sym some ∙ task_read live label kind i o h e ∙ ap (option_map (tile_task live label kind)) r.2),
       )
       | inr r ↦
           absurd (none-some work (sym (sym some ∙ task_read live label kind i o h e
-          ∙ ap (option_map (task_of live label kind)) r.1)))
+          ∙ ap (option_map (tile_task live label kind)) r.1)))
     ]
 
 -- the i-th task is awaited, and once it is in those from the next one on
@@ -102,7 +102,7 @@ module _ (live : Sim) (label : Label) (kind : Kind) (i : ℕ) (o : Option Task) 
     (h : AwaitsFrom kind live.composition live.sim.cur i live.part)
     (e : o ≡ task_at live label i) (some : o ≡ Some work) where
   place : (number : ℕ) × (i < length (cover live.composition live.sim.cur))
-      × (slice_index_or (cover live.composition live.sim.cur) i 0 ≡ number) × (work ≡ task_of live label kind number)
+      × (slice_index_or (cover live.composition live.sim.cur) i 0 ≡ number) × (work ≡ tile_task live label kind number)
   place = task_at_place live label kind i o work h e some
 
   number_same : tile_number_of work ≡ slice_index_or (cover live.composition live.sim.cur) i 0
@@ -111,8 +111,8 @@ module _ (live : Sim) (label : Label) (kind : Kind) (i : ℕ) (o : Option Task) 
   flag_set : slice_index_or h.flags (tile_number_of work) false ≡ true
   flag_set = ap (λ k. slice_index_or h.flags k false) number_same ∙ h.waiting i (omega arith) place.1
 
-  work_is : work ≡ task_of live label kind (tile_number_of work)
-  work_is = place.3 ∙ ap (task_of live label kind) (sym place.2 ∙ sym number_same)
+  work_is : work ≡ tile_task live label kind (tile_number_of work)
+  work_is = place.3 ∙ ap (tile_task live label kind) (sym place.2 ∙ sym number_same)
 
   pub is_awaited : IsAwaitedTask live label work
   is_awaited = subst (IsAwaitedTaskIn live label work) (sym h.is_open) (flag_set, work_is)

@@ -4,11 +4,11 @@ use Rattle.std.proofs.Common.{ap, ◌∙◌, arith}
 use Rattle.std.proofs.lemmas.Int.{ints}
 use Rattle.std.proofs.lemmas.List.FromFn.{length-map-range_with_len, get_or-map-range_with_len, fill_by_all}
 use Rattle.lj_ring.specs.declared.coordinates.Place.{Place}
-use Rattle.lj_tile.specs.Species.{Composition}
-use Rattle.lj_tile.specs.declared.pairs.Push.{Push}
+use Rattle.lj_task.specs.Species.{Composition}
+use Rattle.lj_task.specs.declared.pushes.Push.{Push}
 use Rattle.lj_step.specs.Motion.{Simulation, place_at, force, next_coordinate, next_place, moved_place, next_frame, next_simulation}
 use Rattle.lj_step.specs.Motion.{steps, reversal}
-use Rattle.lj_step.specs.Laws.{IsOnRing, AreOnRing, IsWhole}
+use Rattle.lj_step.specs.MotionLaws.{IsOnRing, IsFrameOnRing, IsWellFormed}
 
 -- the place at index i of the frame after cur
 pub next_frame_at : (u : Composition) (prev cur : List Place) (i : ℕ) → i < length cur
@@ -28,13 +28,13 @@ next_place_on_ring p c f = record {
   z = next_coordinate_below p.z c.z f.z;
 }
 
-pub next_on_ring : (u : Composition) (prev cur : List Place) → AreOnRing (next_frame u prev cur)
+pub next_on_ring : (u : Composition) (prev cur : List Place) → IsFrameOnRing (next_frame u prev cur)
 next_on_ring u prev cur i below =
     let within : i < length cur = rw (← next_frame_length u prev cur) below in
     rw (next_frame_at u prev cur i within) (next_place_on_ring _ _ _)
 
 -- a step leads from a whole simulation to a whole one
-pub stepped_whole : (u : Composition) (sim : Simulation) → IsWhole sim → IsWhole (next_simulation u sim)
+pub stepped_whole : (u : Composition) (sim : Simulation) → IsWellFormed sim → IsWellFormed (next_simulation u sim)
 stepped_whole u sim h = record {
   same = sym (next_frame_length u sim.prev sim.cur);
   prev = h.cur;
@@ -58,7 +58,7 @@ back_place p c f h =
     (back_coordinate p.z c.z f.z h.z)
 
 -- the push depends on the present frame alone, so that the step back finds the frame before
-frame_back : (u : Composition) (prev cur : List Place) → length prev ≡ length cur → AreOnRing prev
+frame_back : (u : Composition) (prev cur : List Place) → length prev ≡ length cur → IsFrameOnRing prev
     → next_frame u (next_frame u prev cur) cur ≡ prev
 frame_back u prev cur same on_ring =
     sym (fill_by_all (moved_place u (next_frame u prev cur) cur) prev (length cur) (record { x = 0; y = 0; z = 0 }) same
@@ -70,7 +70,7 @@ same_step : (s d : ℤ) → s +ℤ d -ℤ d +ℤ neg_ℤ d ≡ s -ℤ d
 same_step s d = omega (arith, ints)
 
 -- a step back from the step after
-step_back : (u : Composition) (sim : Simulation) → IsWhole sim → next_simulation u (reversal (next_simulation u sim)) ≡ reversal sim
+step_back : (u : Composition) (sim : Simulation) → IsWellFormed sim → next_simulation u (reversal (next_simulation u sim)) ≡ reversal sim
 step_back u sim h =
     let frame = frame_back u sim.prev sim.cur h.same h.prev in
     let step = same_step sim.step sim.dir in
@@ -80,7 +80,7 @@ pub steps_more : (u : Composition) (n : ℕ) (sim : Simulation) → steps u (suc
 steps_more u zero sim = refl
 steps_more u (suc n) sim = steps_more u n (next_simulation u sim)
 
-steps_back : (u : Composition) (n : ℕ) (sim : Simulation) → IsWhole sim → steps u n (reversal (steps u n sim)) ≡ reversal sim
+steps_back : (u : Composition) (n : ℕ) (sim : Simulation) → IsWellFormed sim → steps u n (reversal (steps u n sim)) ≡ reversal sim
 steps_back u zero sim h = refl
 steps_back u (suc n) sim h =
     steps_more u n (reversal (steps u n (next_simulation u sim)))
@@ -104,6 +104,6 @@ reversed_twice sim =
     ap (λ s. at_step sim s (neg_ℤ (neg_ℤ sim.dir))) (turned_twice sim.step sim.dir)
     ∙ ap (λ d. at_step sim sim.step d) (same_direction sim.dir)
 
-pub undone : (u : Composition) (n : ℕ) (sim : Simulation) → IsWhole sim
+pub undone : (u : Composition) (n : ℕ) (sim : Simulation) → IsWellFormed sim
     → reversal (steps u n (reversal (steps u n sim))) ≡ sim
 undone u n sim h = ap reversal (steps_back u n sim h) ∙ reversed_twice sim

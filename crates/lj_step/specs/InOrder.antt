@@ -2,8 +2,8 @@
 use Rattle.std.specs.Prelude.{◌≡◌, ◌-◌, ◌<◌, ◌≤◌, ℕ, Bool, true, false, List, length, count_by, slice_index_or, Option}
 use Rattle.std.specs.Prelude.{Some}
 use Rattle.lj_ring.specs.declared.coordinates.Place.{Place}
-use Rattle.lj_tile.specs.Species.{Composition}
-use Rattle.lj_tile.specs.declared.task_name.Kind.{Kind}
+use Rattle.lj_task.specs.Species.{Composition}
+use Rattle.lj_task.specs.declared.task_name.Kind.{Kind}
 use Rattle.lj_step.specs.Sim.{OpenStep}
 use Rattle.lj_step.specs.OpenSteps.{cover}
 

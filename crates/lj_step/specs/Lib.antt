@@ -6,9 +6,9 @@ pub mod TileIds
 pub mod TileTasks
 pub mod Sums
 pub mod Shared
-pub mod Kept
-pub mod Saved
-pub mod Laws
+pub mod KeptSims
+pub mod Snapshots
+pub mod MotionLaws
 pub mod InOrder
 pub mod Worked
 pub mod Limits

@@ -1,6 +1,6 @@
 -- Limits of atoms, blocks and step numbers.
 use Rattle.std.specs.Prelude.{◌≡◌, ◌*◌, ◌^◌, refl}
-use Rattle.lj_tile.specs.declared.blocks.TheConstants.{BLOCK, MAX_BLOCKS}
+use Rattle.lj_task.specs.declared.blocks.TheConstants.{BLOCK, MAX_BLOCKS}
 use Rattle.lj_step.specs.declared.frames.TheConstants.{MAX_ATOMS}
 use Rattle.lj_step.specs.declared.simulations.TheConstants.{MAX_STEP}
 

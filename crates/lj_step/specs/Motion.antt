@@ -4,10 +4,10 @@ use Rattle.std.specs.Prelude.{slice_set, if◌then◌else◌}
 use Rattle.std.specs.List.{range_with_len}
 use Rattle.lj_ring.specs.declared.coordinates.Place.{Place}
 use Rattle.lj_ring.specs.Ring.{image, squared_distance, ring_residue, sum_below, ring_sum, int_sum_below}
-use Rattle.lj_tile.specs.Species.{Composition, class_between}
-use Rattle.lj_tile.specs.declared.pairs.Push.{Push}
-use Rattle.lj_tile.specs.Pushes.{push, no_push, energy}
-pub use Rattle.lj_tile.specs.Tiles.{place_at}
+use Rattle.lj_task.specs.Species.{Composition, class_between}
+use Rattle.lj_task.specs.declared.pushes.Push.{Push}
+use Rattle.lj_task.specs.Pushes.{push, no_push, energy}
+pub use Rattle.lj_task.specs.Tiles.{place_at}
 
 -- a simulation: the places of all atoms at `step`, and those at `step - dir`, where dir is 1 forward and -1 backward
 pub record Simulation : Type 0 where

@@ -4,17 +4,17 @@ use Rattle.std.specs.Prelude.{map, count_by, slice_index_or, slice_set, slice_ge
 use Rattle.std.specs.List.{range_with_len, filter}
 use Rattle.std.specs.Option.{option_map, option_map_or}
 use Rattle.lj_ring.specs.declared.coordinates.Place.{Place}
-use Rattle.lj_tile.specs.declared.blocks.TheConstants.{BLOCK}
-use Rattle.lj_tile.specs.Species.{Composition}
+use Rattle.lj_task.specs.declared.blocks.TheConstants.{BLOCK}
+use Rattle.lj_task.specs.Species.{Composition}
 use Rattle.lj_ring.specs.Mix.{can_interact}
 use Rattle.lj_ring.specs.Arcs.{arcs_of, squared_gap}
 use Rattle.lj_base.specs.declared.names.Label.{Label}
-use Rattle.lj_tile.specs.declared.task_name.Kind.{Kind}
-use Rattle.lj_tile.specs.declared.task_name.Kind.TheVariants.{Force, Energy}
-use Rattle.lj_tile.specs.Tiles.{Tile, force_tile, energy_tile}
-use Rattle.lj_tile.specs.Block.{Block}
-use Rattle.lj_tile.specs.Frames.{frame_block}
-use Rattle.lj_tile.specs.Task.{Task}
+use Rattle.lj_task.specs.declared.task_name.Kind.{Kind}
+use Rattle.lj_task.specs.declared.task_name.Kind.TheVariants.{Force, Energy}
+use Rattle.lj_task.specs.Tiles.{Tile, force_tile, energy_tile}
+use Rattle.lj_task.specs.Block.{Block}
+use Rattle.lj_task.specs.Frames.{frame_block}
+use Rattle.lj_task.specs.Task.{Task}
 use Rattle.lj_step.specs.Motion.{Simulation}
 use Rattle.lj_step.specs.Sim.{Sim, OpenStep}
 use Rattle.lj_step.specs.Sets.{species_bits_in}
@@ -83,8 +83,8 @@ abbrev pub cover_tiles : Kind → Composition → List Place → List Tile
 cover_tiles kind u frame = map (tile_of kind) (cover u frame)
 
 -- the task of a tile of the present step
-abbrev pub task_of : Sim → Label → Kind → ℕ → Task
-task_of live label kind k = record {
+abbrev pub tile_task : Sim → Label → Kind → ℕ → Task
+tile_task live label kind k = record {
   name = record { label = label; step = live.sim.step; kind = kind; bi = first_block k; bj = second_block k };
   mix = live.composition.mix;
   a = sites_of live.composition live.sim.cur (first_block k);
@@ -99,7 +99,7 @@ tile_number_of work = tile_number work.name.bi work.name.bj
 abbrev pub task_of_open : Sim → Label → ℕ → Option OpenStep → Option Task
 task_of_open live label i None = None
 task_of_open live label i (Some p) =
-    option_map (task_of live label p.kind) (slice_get (cover live.composition live.sim.cur) i)
+    option_map (tile_task live label p.kind) (slice_get (cover live.composition live.sim.cur) i)
 
 abbrev pub task_at : Sim → Label → ℕ → Option Task
 task_at live label i = task_of_open live label i live.part
@@ -124,7 +124,7 @@ is_tile_awaited live i = is_tile_awaited_in live.composition live.sim.cur i live
 abbrev pub IsAwaitedTaskIn : Sim → Label → Task → Option OpenStep → Type 0
 IsAwaitedTaskIn live label work None = ⊥
 IsAwaitedTaskIn live label work (Some p) =
-    (is_number_awaited p (tile_number_of work) ≡ true) × (work ≡ task_of live label p.kind (tile_number_of work))
+    (is_number_awaited p (tile_number_of work) ≡ true) × (work ≡ tile_task live label p.kind (tile_number_of work))
 
 abbrev pub IsAwaitedTask : Sim → Label → Task → Type 0
 IsAwaitedTask live label work = IsAwaitedTaskIn live label work live.part

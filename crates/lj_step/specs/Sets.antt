@@ -1,6 +1,6 @@
 -- Sets of atoms as numbers: bit i of the number is 1 if atom i is in the set.
 use Rattle.std.specs.Prelude.{ℕ, ◌+◌, ◌*◌, ◌/◌, ◌%◌, ◌^◌, List, [], ◌∷◌}
-use Rattle.lj_tile.specs.declared.blocks.TheConstants.{BLOCK}
+use Rattle.lj_task.specs.declared.blocks.TheConstants.{BLOCK}
 
 -- the part of a set in block b: one bit for each of the block's atoms
 abbrev pub species_bits_in : ℕ → ℕ → ℕ

@@ -1,7 +1,7 @@
 -- The value of a simulation in the code: its composition, the simulation itself, and the open step.
 use Rattle.std.specs.Prelude.{Bool, List, Option}
-use Rattle.lj_tile.specs.Species.{Composition}
-use Rattle.lj_tile.specs.declared.task_name.Kind.{Kind}
+use Rattle.lj_task.specs.Species.{Composition}
+use Rattle.lj_task.specs.declared.task_name.Kind.{Kind}
 use Rattle.lj_step.specs.Motion.{Simulation}
 
 -- an open step: its kind, and for each tile number whether the tile is still awaited

@@ -3,13 +3,13 @@ use Rattle.std.specs.Prelude.{ℕ, ◌+◌, ◌*◌, ◌^◌, ◌<◌, ◌≤◌
 use Rattle.std.specs.Prelude.{length, slice_index_or, vec_capacity, count_by, min, max, Option, Some, None, if◌then◌else◌}
 use Rattle.lj_ring.specs.declared.coordinates.Place.{Place}
 use Rattle.lj_ring.specs.Ring.{ring_sum, int_sum_below}
-use Rattle.lj_tile.specs.declared.blocks.TheConstants.{BLOCK}
-use Rattle.lj_tile.specs.Species.{Composition, class_between}
-use Rattle.lj_tile.specs.declared.pairs.Push.{Push}
-use Rattle.lj_tile.specs.declared.task_name.Kind.{Kind}
-use Rattle.lj_tile.specs.declared.task_name.Kind.TheVariants.{Force, Energy}
-use Rattle.lj_tile.specs.Pushes.{no_push, sum_of_pushes, energy}
-use Rattle.lj_tile.specs.Task.{Task, task_force, task_second}
+use Rattle.lj_task.specs.declared.blocks.TheConstants.{BLOCK}
+use Rattle.lj_task.specs.Species.{Composition, class_between}
+use Rattle.lj_task.specs.declared.pushes.Push.{Push}
+use Rattle.lj_task.specs.declared.task_name.Kind.{Kind}
+use Rattle.lj_task.specs.declared.task_name.Kind.TheVariants.{Force, Energy}
+use Rattle.lj_task.specs.Pushes.{no_push, sum_of_pushes, energy}
+use Rattle.lj_task.specs.Task.{Task, task_force, task_second}
 use Rattle.lj_step.specs.Motion.{place_at, push_of}
 use Rattle.lj_step.specs.declared.partial.Partial.{Partial}
 use Rattle.lj_step.specs.OpenSteps.{blocks, tile_number, tile_number_of, is_tile, cover}
@@ -45,7 +45,7 @@ energy_so_far u frame awaited =
     int_sum_below (length frame) (λ j. int_sum_below j (λ i. energy_so_far_of u frame awaited i j))
 
 -- a partial step has memory for `count` atoms
-pub record HasRoom (count : ℕ) (p : Partial) : Type 0 where
+pub record HasCapacity (count : ℕ) (p : Partial) : Type 0 where
   pub pushes : length p.pushes.items ≡ count
   pub awaited : length p.awaited.items ≡ BLOCK * blocks count
   pub tiles : BLOCK * blocks count ≤ vec_capacity p.tiles

@@ -1,7 +1,7 @@
 -- The number of a tile tells both its blocks.
 use Rattle.std.specs.Prelude.{◌<◌, ◌≡◌}
 use Rattle.std.proofs.Common.{arith}
-use Rattle.lj_tile.specs.declared.blocks.TheConstants.{MAX_BLOCKS}
+use Rattle.lj_task.specs.declared.blocks.TheConstants.{MAX_BLOCKS}
 use Rattle.lj_step.specs.declared.tile_id.TileId.TheInside.{Inside}
 use Rattle.lj_step.specs.OpenSteps.{tile_number, first_block, second_block}
 

@@ -1,12 +1,12 @@
 -- The tasks of a step have the values of the tiles of its cover.
 use Rattle.std.specs.Prelude.{ℕ, ◌<◌, ◌≡◌, false, List, length, slice_index_or, Option, Some, None}
 use Rattle.lj_ring.specs.declared.coordinates.Place.{Place}
-use Rattle.lj_tile.specs.Species.{Composition}
-use Rattle.lj_tile.specs.declared.task_name.Kind.{Kind}
-use Rattle.lj_tile.specs.declared.task_name.Kind.TheVariants.{Force, Energy}
-use Rattle.lj_tile.specs.Pushes.{no_push}
-use Rattle.lj_tile.specs.Tiles.{Tile, tile_force, tile_energy, IsForceCover, IsEnergyCover}
-use Rattle.lj_tile.specs.Task.{Task, atom, task_force, task_second, task_energy}
+use Rattle.lj_task.specs.Species.{Composition}
+use Rattle.lj_task.specs.declared.task_name.Kind.{Kind}
+use Rattle.lj_task.specs.declared.task_name.Kind.TheVariants.{Force, Energy}
+use Rattle.lj_task.specs.Pushes.{no_push}
+use Rattle.lj_task.specs.Tiles.{Tile, tile_force, tile_energy, IsForceCover, IsEnergyCover}
+use Rattle.lj_task.specs.Task.{Task, atom, task_force, task_second, task_energy}
 use Rattle.lj_step.specs.Sim.{Sim, OpenStep}
 use Rattle.lj_step.specs.OpenSteps.{cover_tiles, tiles_of}
 use Rattle.lj_step.specs.Sums.{IsOutside}

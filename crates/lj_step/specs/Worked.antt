@@ -2,10 +2,10 @@
 -- after the second, and the way back.
 use Rattle.std.specs.Prelude.{◌≡◌, ◌∷◌, [], ℕ, pos, negsuc, List, refl}
 use Rattle.lj_ring.specs.declared.coordinates.Place.{Place}
-use Rattle.lj_tile.specs.Species.{Composition}
+use Rattle.lj_task.specs.Species.{Composition}
 use Rattle.lj_table.specs.Entries.{push_entry, energy_entry}
 use Rattle.lj_ring.specs.Mix.{pure_mix}
-use Rattle.lj_tile.specs.Pushes.{push}
+use Rattle.lj_task.specs.Pushes.{push}
 use Rattle.lj_step.specs.Motion.{Simulation, opening, next_simulation, steps, reversal, with_tug, force, momentum, kinetic}
 use Rattle.lj_step.specs.Motion.{potential}
 

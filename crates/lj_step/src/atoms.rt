@@ -13,7 +13,7 @@ pub(crate) struct Atoms {
 }
 
 impl Model for Atoms {
-    ghost use Rattle.lj_tile.specs.Species.{Composition};
+    ghost use Rattle.lj_task.specs.Species.{Composition};
     ghost use Rattle.lj_step.specs.Sets.{number_of_bits};
 
     ghost Value = { Composition };

@@ -3,12 +3,12 @@ ghost use Rattle.std.specs.Prelude.{◌≡◌, ◌≤◌, ◌<◌, ◌*◌, leng
 ghost use Rattle.std.specs.List.{range_with_len};
 ghost use Rattle.lj_step.specs.declared.frames.TheConstants.{MAX_ATOMS};
 ghost use Rattle.lj_step.specs.OpenSteps as steps;
-ghost use Rattle.lj_step.specs.Kept.{block_arcs};
+ghost use Rattle.lj_step.specs.KeptSims.{block_arcs};
 
 use crate::atoms::Atoms;
 use crate::tile_id::TileId;
 use lj_ring::{Arcs, Place};
-use lj_tile::{BLOCK, MAX_BLOCKS};
+use lj_task::{BLOCK, MAX_BLOCKS};
 
 /// Returns how many blocks `count` atoms have.
 pub(crate) fn blocks(count: usize) -> usize

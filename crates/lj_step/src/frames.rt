@@ -1,10 +1,10 @@
 //! Frames: the places of all atoms at one moment.
 ghost use Rattle.std.specs.Prelude.{◌≡◌, length};
-ghost use Rattle.lj_step.specs.Laws.{AreOnRing, IsOnRing};
+ghost use Rattle.lj_step.specs.MotionLaws.{IsFrameOnRing, IsOnRing};
 ghost use Rattle.lj_step.specs.Motion as motion;
 
 use lj_ring::Place;
-use lj_tile::Push;
+use lj_task::Push;
 use std::marker::Model;
 
 /// The most atoms of a simulation.
@@ -19,13 +19,13 @@ pub struct Frame {
 impl Model for Frame {
     ghost use Rattle.std.specs.Prelude.{List};
     ghost use Rattle.lj_ring.specs.declared.coordinates.Place.{Place};
-    ghost use Rattle.lj_step.specs.Laws.{AreOnRing};
+    ghost use Rattle.lj_step.specs.MotionLaws.{IsFrameOnRing};
 
     ghost Value = { List Place };
 
     ghost view = { λ f. f.places.items };
 
-    ghost invariant = { λ f. AreOnRing f.places.items };
+    ghost invariant = { λ f. IsFrameOnRing f.places.items };
 }
 
 impl Frame {
@@ -45,7 +45,7 @@ impl Frame {
 
     pub(crate) fn into_places(self) -> Vec<Place>
         ensures value { result.items ≡ self }
-        ensures on_ring { AreOnRing result.items }
+        ensures on_ring { IsFrameOnRing result.items }
     {
         self.places
     }
@@ -64,7 +64,7 @@ impl Frame {
 
 /// Reads each place, and does nothing with it: a coordinate that is read is known to be below 2^32.
 fn read_each(places: &[Place])
-    ensures { AreOnRing places.now }
+    ensures { IsFrameOnRing places.now }
 {
     for place in places {
         read(*place);

@@ -1,29 +1,29 @@
 //! Laws of the motion, over all simulations. The functions do nothing: what counts is what they ensure.
 ghost use Rattle.std.specs.Prelude.{◌≡◌, ◌≤◌, ℕ, List, length};
 ghost use Rattle.lj_ring.specs.declared.coordinates.Place.{Place};
-ghost use Rattle.lj_tile.specs.Species.{Composition};
-ghost use Rattle.lj_tile.specs.declared.task_name.Kind.TheVariants.{Force, Energy};
-ghost use Rattle.lj_tile.specs.Tiles.{Tile, IsForceCover, IsEnergyCover};
+ghost use Rattle.lj_task.specs.Species.{Composition};
+ghost use Rattle.lj_task.specs.declared.task_name.Kind.TheVariants.{Force, Energy};
+ghost use Rattle.lj_task.specs.Tiles.{Tile, IsForceCover, IsEnergyCover};
 ghost use Rattle.lj_step.specs.Motion.{Simulation, steps, next_simulation, reversal, potential};
 ghost use Rattle.lj_base.specs.declared.names.Label.{Label};
 ghost use Rattle.lj_step.specs.declared.frames.TheConstants.{MAX_ATOMS};
 ghost use Rattle.lj_step.specs.Sim.{Sim};
-ghost use Rattle.lj_step.specs.OpenSteps.{cover_tiles, task_of, tile_of};
+ghost use Rattle.lj_step.specs.OpenSteps.{cover_tiles, tile_task, tile_of};
 ghost use Rattle.lj_step.specs.TileTasks.{HasEnergy, HasForces};
-ghost use Rattle.lj_step.specs.Laws.{AreOnRing, IsWhole, IsMixture, drift, opposite_push, next_simulation_by, tiles_energy};
+ghost use Rattle.lj_step.specs.MotionLaws.{IsFrameOnRing, IsWellFormed, IsMixture, drift, opposite_push, next_simulation_by, tiles_energy};
 
 /// Promise: for every n and every simulation, n steps, a reversal, n steps and a reversal give back the simulation.
 pub fn steps_are_undone()
-    ensures { (u : Composition) (n : ℕ) (sim : Simulation) → IsWhole sim
+    ensures { (u : Composition) (n : ℕ) (sim : Simulation) → IsWellFormed sim
         → reversal (steps u n (reversal (steps u n sim))) ≡ sim }
 {}
 
 /// Promise: the drift, the ring sum of `cur - prev`, stays under any number of steps, and changes its sign under a
 /// reversal.
 pub fn drift_is_conserved()
-    ensures steps { (u : Composition) (n : ℕ) (sim : Simulation) → IsMixture u.mix → IsWhole sim
+    ensures steps { (u : Composition) (n : ℕ) (sim : Simulation) → IsMixture u.mix → IsWellFormed sim
         → drift (steps u n sim) ≡ drift sim }
-    ensures reverse { (sim : Simulation) → IsWhole sim → drift (reversal sim) ≡ opposite_push (drift sim) }
+    ensures reverse { (sim : Simulation) → IsWellFormed sim → drift (reversal sim) ≡ opposite_push (drift sim) }
 {}
 
 /// Promise: a step by the sums of any cover, its tiles in any order, is the step over all pairs, and the energies of
@@ -37,16 +37,16 @@ pub fn covers_are_all_pairs()
 
 /// Promise: the tiles of a step of up to `MAX_ATOMS` atoms, all on the ring, are a cover, of each kind.
 pub fn tasks_are_a_cover()
-    ensures force { (u : Composition) (frame : List Place) → AreOnRing frame → length frame ≤ MAX_ATOMS
+    ensures force { (u : Composition) (frame : List Place) → IsFrameOnRing frame → length frame ≤ MAX_ATOMS
         → IsForceCover u frame (cover_tiles Force u frame) }
-    ensures energy { (u : Composition) (frame : List Place) → AreOnRing frame → length frame ≤ MAX_ATOMS
+    ensures energy { (u : Composition) (frame : List Place) → IsFrameOnRing frame → length frame ≤ MAX_ATOMS
         → IsEnergyCover u frame (cover_tiles Energy u frame) }
 {}
 
 /// Promise: the task of a tile has the value of that tile: what the tile adds to each atom, or its energy.
 pub fn tasks_are_the_tiles()
     ensures force { (live : Sim) (label : Label) (k : ℕ)
-        → HasForces live.composition live.sim.cur (tile_of Force k) (task_of live label Force k) }
+        → HasForces live.composition live.sim.cur (tile_of Force k) (tile_task live label Force k) }
     ensures energy { (live : Sim) (label : Label) (k : ℕ)
-        → HasEnergy live.composition live.sim.cur (tile_of Energy k) (task_of live label Energy k) }
+        → HasEnergy live.composition live.sim.cur (tile_of Energy k) (tile_task live label Energy k) }
 {}

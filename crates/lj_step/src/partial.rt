@@ -3,19 +3,19 @@ ghost use Rattle.std.specs.Prelude.{◌≡◌, ◌≤◌, ◌+◌, ◌-◌, ◌*
 ghost use Rattle.std.specs.Prelude.{count_by, slice_index_or, slice_set, vec_capacity, IfOk, Some, None, false, true};
 ghost use Rattle.std.specs.List.{range_with_len};
 ghost use Rattle.std.proofs.Common.{replicate};
-ghost use Rattle.lj_tile.specs.declared.task_name.Kind.TheVariants.{Force, Energy};
-ghost use Rattle.lj_tile.specs.Pushes.{no_push};
-ghost use Rattle.lj_tile.specs.Task.{task_energy};
+ghost use Rattle.lj_task.specs.declared.task_name.Kind.TheVariants.{Force, Energy};
+ghost use Rattle.lj_task.specs.Pushes.{no_push};
+ghost use Rattle.lj_task.specs.Task.{task_energy};
 ghost use Rattle.lj_step.specs.declared.frames.TheConstants.{MAX_ATOMS};
 ghost use Rattle.lj_step.specs.OpenSteps as steps;
-ghost use Rattle.lj_step.specs.Sums.{HasRoom, CanAdd, HasKeptTiles, HasAdded, HasBlockAdded, HasPartAdded, sum_of};
-ghost use Rattle.lj_step.specs.Kept.{block_arcs, set_numbers};
+ghost use Rattle.lj_step.specs.Sums.{HasCapacity, CanAdd, HasKeptTiles, HasAdded, HasBlockAdded, HasPartAdded, sum_of};
+ghost use Rattle.lj_step.specs.KeptSims.{block_arcs, set_numbers};
 
 use crate::atoms::Atoms;
 use crate::cover::{block, blocks, is_tile};
 use crate::tile_id::TileId;
 use lj_ring::{Arcs, Place};
-use lj_tile::{BLOCK, DoneRef, Kind, MAX_BLOCKS, Push};
+use lj_task::{BLOCK, DoneRef, Kind, MAX_BLOCKS, Push};
 use std::alloc::{AllocError, Global};
 
 /// The tiles and sums of the open step, in memory that is enough for any step.
@@ -41,7 +41,7 @@ impl Partial {
     /// Makes sums with no step open, and reserves memory for steps of `count` atoms.
     pub fn new(alloc: Global, count: usize) -> Result<Partial, AllocError>
         requires { count ≤ MAX_ATOMS }
-        ensures room { IfOk result (λ p. HasRoom count p) }
+        ensures room { IfOk result (λ p. HasCapacity count p) }
         ensures closed { IfOk result (λ p. p.kind ≡ None) }
     {
         let blocks = blocks(count);
@@ -59,9 +59,9 @@ impl Partial {
 
     /// Opens a step over a frame, which awaits all its tiles.
     pub fn open(&mut self, kind: Kind, atoms: &Atoms, frame: &[Place])
-        requires room { HasRoom (length frame.now) self.old }
+        requires room { HasCapacity (length frame.now) self.old }
         requires most { length frame.now ≤ MAX_ATOMS }
-        ensures room { HasRoom (length frame.now) self.new }
+        ensures room { HasCapacity (length frame.now) self.new }
         ensures kind { self.new.kind ≡ Some kind }
         ensures tiles { self.new.tiles.items ≡ steps.cover atoms.now frame.now }
         ensures awaited { self.new.awaited.items ≡ steps.all_awaited atoms.now frame.now }

@@ -2,16 +2,16 @@
 ghost use Rattle.std.specs.Prelude.{◌≡◌, ◌≤◌, ◌<◌, ◌+◌, ◌^◌, pos, ◌+ℤ◌, ◌-ℤ◌, length, unsigned_abs, IfOk};
 ghost use Rattle.std.specs.Prelude.{Some, None, true, false, ℕ, ◌*◌, slice_index_or, []};
 ghost use Rattle.std.specs.Prelude.{◌∷◌};
-ghost use Rattle.lj_tile.specs.declared.task_name.Kind.TheVariants.{Force, Energy};
+ghost use Rattle.lj_task.specs.declared.task_name.Kind.TheVariants.{Force, Energy};
 ghost use Rattle.lj_ring.specs.Ring.{ring_residue};
 ghost use Rattle.lj_ring.specs.Mix.{edge_of};
-ghost use Rattle.lj_tile.specs.Pushes.{no_push};
+ghost use Rattle.lj_task.specs.Pushes.{no_push};
 ghost use Rattle.lj_step.specs.declared.frames.TheConstants.{MAX_ATOMS};
 ghost use Rattle.lj_step.specs.declared.simulations.TheConstants.{MAX_STEP};
 ghost use Rattle.lj_step.specs.Motion as motion;
 ghost use Rattle.lj_step.specs.OpenSteps as steps;
 ghost use Rattle.lj_step.specs.Sets.{number_of_bits};
-ghost use Rattle.lj_step.specs.Laws.{IsMixture, IsWhole};
+ghost use Rattle.lj_step.specs.MotionLaws.{IsMixture, IsWellFormed};
 
 mod tile_tasks;
 
@@ -22,7 +22,7 @@ use crate::partial::Partial;
 use crate::snapshots::Snapshot;
 use crate::step_frames::StepFrames;
 use lj_ring::{Edge, Mix, Place};
-use lj_tile::{Done, Kind, Push};
+use lj_task::{Done, Kind, Push};
 use std::alloc::{AllocError, Global};
 use std::marker::Model;
 use std::mem;
@@ -38,7 +38,7 @@ pub(crate) enum Direction {
 }
 
 impl Direction {
-    ghost use Rattle.lj_step.specs.Kept.{sign_of};
+    ghost use Rattle.lj_step.specs.KeptSims.{sign_of};
     ghost use Rattle.std.specs.Prelude.{neg_ℤ};
 
     fn sign(self) -> i64
@@ -98,7 +98,7 @@ impl Model for Sim {
 
     ghost Value = { Sim };
 
-    ghost use Rattle.lj_step.specs.Kept.{sim_of, IsSound};
+    ghost use Rattle.lj_step.specs.KeptSims.{sim_of, IsSound};
 
     ghost view = { sim_of };
 
@@ -411,7 +411,7 @@ impl Sim {
         ensures value { result ≡ length self.now.sim.cur }
         ensures some { 1 ≤ result }
         ensures most { result ≤ MAX_ATOMS }
-        ensures whole { IsWhole self.now.sim }
+        ensures whole { IsWellFormed self.now.sim }
     {
         self.cur.as_slice().len()
     }

@@ -19,7 +19,7 @@ impl Model for Snapshot {
 
     ghost Value = { Simulation };
 
-    ghost use Rattle.lj_step.specs.Saved.{simulation_of, IsSaved};
+    ghost use Rattle.lj_step.specs.Snapshots.{simulation_of, IsSaved};
 
     ghost view = { simulation_of };
 

@@ -3,7 +3,7 @@ ghost use Rattle.std.specs.Prelude.{◌≡◌, length, false, IfOk};
 ghost use Rattle.lj_step.specs.Shared.{AreFramesOf};
 
 use lj_ring::Place;
-use lj_tile::SharedFrame;
+use lj_task::SharedFrame;
 use std::alloc::{AllocError, Global};
 use std::mem;
 

@@ -2,7 +2,7 @@
 ghost use Rattle.std.specs.Prelude.{◌≡◌, ◌<◌, ◌*◌};
 ghost use Rattle.lj_step.specs.OpenSteps as steps;
 
-use lj_tile::{BLOCK, MAX_BLOCKS, Task};
+use lj_task::{BLOCK, MAX_BLOCKS, Task};
 use std::marker::Model;
 
 /// A tile by its two blocks. Contracts see its number.
@@ -14,7 +14,7 @@ pub(crate) struct TileId {
 
 impl Model for TileId {
     ghost use Rattle.std.specs.Prelude.{ℕ, ◌<◌};
-    ghost use Rattle.lj_tile.specs.declared.blocks.TheConstants.{MAX_BLOCKS};
+    ghost use Rattle.lj_task.specs.declared.blocks.TheConstants.{MAX_BLOCKS};
     ghost use Rattle.lj_step.specs.OpenSteps.{tile_number, first_block, second_block};
 
     ghost Value = { ℕ };

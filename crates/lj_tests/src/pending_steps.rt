@@ -3,7 +3,7 @@ ghost use Rattle.std.specs.Prelude.{◌≡◌, IsSome};
 ghost use Rattle.lj_end.specs.Seen.{nothing_seen};
 
 use arrayvec::ArrayVec;
-use lj_pool::{InlinePool, NotPosted, Pool, Served, serve};
+use lj_pool::{InlinePool, NotPosted, PoolEnd, Served, serve};
 use lj_quota::Quota;
 use lj_session::UserState;
 use lj_table::Table;
@@ -21,7 +21,7 @@ pub struct ClosingPool {
 
 impl ClosingPool {
     pub fn new(calls: u64) -> ClosingPool
-        ensures { ⟦<ClosingPool as Pool>⟧.seen result ≡ nothing_seen }
+        ensures { ⟦<ClosingPool as PoolEnd>⟧.seen result ≡ nothing_seen }
     {
         ClosingPool {
             inner: InlinePool::new(Table::new()),
@@ -41,7 +41,13 @@ impl ClosingPool {
     }
 }
 
-impl Pool for ClosingPool {
+/// That a pool is closed.
+#[derive(Clone, Copy, Debug)]
+pub struct CallsSpent(());
+
+impl PoolEnd for ClosingPool {
+    type Closed = CallsSpent;
+
     ghost use Rattle.lj_end.specs.InlinePool.{seen_of};
 
     ghost seen = { λ pool. record (seen_of pool.inner) { closed = pool.closed } };
@@ -54,20 +60,22 @@ impl Pool for ClosingPool {
 
     ghost most = { 1 };
 
-    fn post_from(&mut self, task: &TaskRef<'_>, wait: bool) -> Result<(), NotPosted> {
+    fn post_from(&mut self, task: &TaskRef<'_>, wait: bool) -> Result<(), NotPosted<CallsSpent>> {
         if !self.is_open() {
             self.closed = true;
-            return Err(NotPosted::Closed);
+            return Err(NotPosted::Closed(CallsSpent(())));
         }
-        self.inner.post_from(task, wait)
+        self.inner
+            .post_from(task, wait)
+            .map_err(|_| NotPosted::Full)
     }
 
-    fn fetch_uncounted(&mut self, user: u8) -> bool {
+    fn fetch_uncounted(&mut self, user: u8) -> Result<(), CallsSpent> {
         if !self.is_open() {
             self.closed = true;
-            return false;
+            return Err(CallsSpent(()));
         }
-        self.inner.fetch_uncounted(user)
+        self.inner.fetch_uncounted(user).map_err(|_| CallsSpent(()))
     }
 
     fn poll_uncounted(&mut self, user: u8) -> bool {
@@ -77,8 +85,8 @@ impl Pool for ClosingPool {
         self.inner.poll_uncounted(user)
     }
 
-    fn count(&mut self) {
-        self.inner.count();
+    fn count(&mut self, by_name: bool) {
+        self.inner.count(by_name);
     }
 
     fn fetched(&self) -> DoneRef<'_> {
@@ -89,11 +97,11 @@ impl Pool for ClosingPool {
         self.inner.owed()
     }
 
-    fn is_full(&self) -> bool {
-        self.inner.is_full()
+    fn room(&self) -> usize {
+        self.inner.room()
     }
 
-    fn closed(&self) -> bool {
+    fn is_closed(&self) -> bool {
         self.closed
     }
 }

@@ -24,7 +24,7 @@ mod withdrawn;
 
 use crate::sample_task::task;
 use lj_book::Counts;
-use lj_pool::{Pool, serve};
+use lj_pool::{Pool, PoolEnd, serve};
 use lj_queue::Settled;
 use lj_quota::Quota;
 use lj_session::UserState;
@@ -140,7 +140,7 @@ fn put_back<T: Drop>(rt: &impl Abort, items: &mut Vec<T>, item: T) {
 
 /// Posts a task, where the end has room for it.
 fn post_one<P: Pool, R: Abort>(rt: &R, end: &mut P, task: Task) {
-    if end.is_full() {
+    if end.room() == 0 {
         return;
     }
     let posted = end.post(task, false).is_ok();

@@ -2,7 +2,7 @@
 ghost use Rattle.std.specs.Prelude.{◌≡◌, ◌↔◌, None, Some, IfSome, IsTrue, ⊤};
 
 use arrayvec::ArrayVec;
-use lj_pool::{NotPosted, Pool, Served, serve_lines};
+use lj_pool::{NotPosted, PoolEnd, Served, serve_lines};
 use lj_quota::Quota;
 use lj_session::UserState;
 use lj_table::Table;
@@ -76,7 +76,13 @@ impl OddPool {
     }
 }
 
-impl Pool for OddPool {
+/// That an odd pool is closed.
+#[derive(Clone, Copy, Debug)]
+struct OddClosed(());
+
+impl PoolEnd for OddPool {
+    type Closed = OddClosed;
+
     ghost use Rattle.lj_end.specs.InlinePool.{tasks_in};
 
     ghost seen = { λ pool. record {
@@ -94,10 +100,10 @@ impl Pool for OddPool {
 
     ghost most = { 1 };
 
-    fn post_from(&mut self, task: &TaskRef<'_>, _wait: bool) -> Result<(), NotPosted> {
+    fn post_from(&mut self, task: &TaskRef<'_>, _wait: bool) -> Result<(), NotPosted<OddClosed>> {
         if self.posts == 0 {
             self.closed = true;
-            return Err(NotPosted::Closed);
+            return Err(NotPosted::Closed(OddClosed(())));
         }
         if self.owed.is_some() {
             return Err(NotPosted::Full);
@@ -107,39 +113,39 @@ impl Pool for OddPool {
         Ok(())
     }
 
-    fn fetch_uncounted(&mut self, _user: u8) -> bool {
+    fn fetch_uncounted(&mut self, _user: u8) -> Result<(), OddClosed> {
         if self.is_uncounted {
-            return true;
+            return Ok(());
         }
         if self.fetches == 0 {
             self.closed = true;
-            return false;
+            return Err(OddClosed(()));
         }
         if let Some(stray) = self.stray() {
             self.left = self.left.saturating_sub(1);
             self.shown = stray;
             self.is_uncounted = true;
-            return true;
+            return Ok(());
         }
         let Some(owed) = &self.owed else {
-            return false;
+            return Err(OddClosed(()));
         };
         self.fetches -= 1;
         self.left = self.copies;
         self.earlier = Some(owed.copy());
         self.shown = owed.copy();
         self.is_uncounted = true;
-        true
+        Ok(())
     }
 
     fn poll_uncounted(&mut self, user: u8) -> bool {
         if self.owed.is_none() || self.stray().is_some() {
             return false;
         }
-        self.fetch_uncounted(user)
+        self.fetch_uncounted(user).is_ok()
     }
 
-    fn count(&mut self) {
+    fn count(&mut self, _by_name: bool) {
         self.is_uncounted = false;
         if self.shows_owed() {
             self.owed = None;
@@ -157,11 +163,11 @@ impl Pool for OddPool {
         usize::from(self.owed.is_some())
     }
 
-    fn is_full(&self) -> bool {
-        self.owed.is_some()
+    fn room(&self) -> usize {
+        usize::from(self.owed.is_none())
     }
 
-    fn closed(&self) -> bool {
+    fn is_closed(&self) -> bool {
         self.closed
     }
 }

@@ -2,7 +2,7 @@
 ghost use Rattle.std.specs.Prelude.{◌≡◌, ◌≤◌, length, false, OnOk, IfOk};
 ghost use Rattle.std.specs.List.{IsDistinct, list_any};
 ghost use Rattle.std.specs.Str.{bytes_eq};
-ghost use Rattle.lj_access.specs.Users.{names};
+ghost use Rattle.lj_access.specs.UserLists.{user_names};
 
 use lj_access::{MAX_USERS, User, is_named};
 use lj_base::{Name, TOKEN_BYTES, Token};
@@ -39,8 +39,8 @@ fn user(rt: &impl Abort, word: &str) -> User {
 /// Adds a user whose name is new.
 fn add(users: &mut Vec<User>, user: User) -> Result<(), AllocError>
     requires fresh { list_any (λ other. bytes_eq user.name other.name) users.old.items ≡ false }
-    requires distinct { IsDistinct bytes_eq (names users.old.items) }
-    ensures { OnOk result (IsDistinct bytes_eq (names users.new.items)) }
+    requires distinct { IsDistinct bytes_eq (user_names users.old.items) }
+    ensures { OnOk result (IsDistinct bytes_eq (user_names users.new.items)) }
 {
     users.push(user)?;
     Ok(())
@@ -50,7 +50,7 @@ fn add(users: &mut Vec<User>, user: User) -> Result<(), AllocError>
 pub fn users(rt: &(impl Abort + AllocGlobal)) -> Result<Vec<User>, AllocError>
     ensures some { IfOk result (λ users. 1 ≤ length users.items) }
     ensures most { IfOk result (λ users. length users.items ≤ MAX_USERS) }
-    ensures distinct { IfOk result (λ users. IsDistinct bytes_eq (names users.items)) }
+    ensures distinct { IfOk result (λ users. IsDistinct bytes_eq (user_names users.items)) }
 {
     let mut users = Vec::new(rt.alloc());
     for word in &USERS {

@@ -6,10 +6,10 @@ use crate::users::users;
 use arrayvec::{ArrayString, ArrayVec};
 use lj_access::{Denied, Directory, Ticket};
 use lj_base::{Name, Token};
-use lj_pool::{Pool, Served};
+use lj_pool::{PoolEnd, Served};
 use lj_quota::Quota;
 use lj_session::UserState;
-use lj_visit::{Backend, LentState, Shut, UserEnd, Visited, visit};
+use lj_visit::{Backend, Lender, LentState, LentTicket, SeenClosed, Shut, UserEnd, Visited, visit};
 use lj_wire::{LineReader, Reading, Sink, WriteFault, Writing};
 use std::alloc::AllocGlobal;
 use std::fmt;
@@ -27,7 +27,7 @@ enum Fact {
     ShutOut(Ticket, Shut),
     Opened(u8),
     Withdrawn(UserEnd<ClosingPool>),
-    Left(LentState),
+    Left(Ticket, UserState),
     Closed,
 }
 
@@ -51,14 +51,22 @@ impl Model for Note {
       | Entered user number quota ↦ entered (record { user = user; number = number }) (empty_state quota)
       | ShutOut ticket why ↦ shut_out ticket why
       | Opened user ↦ opened user
-      | Withdrawn end ↦ withdrawn end.user (⟦<ClosingPool as Pool>⟧.seen end.pool) 0
-      | Left lent ↦ left lent.ticket lent.state
+      | Withdrawn end ↦ withdrawn end.user (⟦<ClosingPool as PoolEnd>⟧.seen end.pool) 0
+      | Left ticket state ↦ left ticket state
       | Closed ↦ closed
     ] };
 }
 
 /// Notes, a line each.
 type NotesText = ArrayString<256>;
+
+/// Returns why a ticket did not enter, in a word.
+fn name_of(why: Shut) -> &'static str {
+    match why {
+        Shut::Closed(_) => "closed",
+        Shut::Gone => "gone",
+    }
+}
 
 /// Writes a note as a line.
 fn put_note(text: &mut NotesText, note: &Note) -> fmt::Result {
@@ -69,15 +77,15 @@ fn put_note(text: &mut NotesText, note: &Note) -> fmt::Result {
         Fact::ShutOut(ticket, why) => {
             writeln!(
                 text,
-                "shut out {} {} {why:?}",
+                "shut out {} {} {}",
                 ticket.user(),
-                ticket.number()
+                ticket.number(),
+                name_of(*why)
             )
         }
         Fact::Opened(user) => writeln!(text, "opened {user}"),
         Fact::Withdrawn(end) => writeln!(text, "withdrawn {}", end.user),
-        Fact::Left(lent) => {
-            let LentState { ticket, state } = lent;
+        Fact::Left(ticket, state) => {
             writeln!(
                 text,
                 "left {} {} {}",
@@ -90,17 +98,52 @@ fn put_note(text: &mut NotesText, note: &Note) -> fmt::Result {
     }
 }
 
+/// What becomes of each ticket of a backend.
+#[derive(Clone, Copy)]
+enum TicketFate {
+    /// It enters.
+    Open,
+    /// It does not: the backend is closed.
+    Shut,
+    /// It does not: its client is gone.
+    Left,
+}
+
 /// A backend that lets users in, or shuts each of their tickets out. Its ends are closed after `calls` calls.
 #[derive(Drop)]
 struct FakeBackend<'t, R> {
     rt: &'t R,
     directory: Directory,
-    shut: Option<Shut>,
+    entry: TicketFate,
     calls: u64,
     notes: Vec<Note>,
 }
 
+impl<R> Lender for FakeBackend<'_, R> {
+    ghost use Rattle.std.specs.Prelude.{Bool, true, false};
+    ghost use Rattle.lj_tests.specs.declared.visits.TicketFate.TheVariants.{Open, Shut, Left};
+
+    ghost closed = { λ fake. elim fake.entry as (λ _. Bool) [
+      | Open ↦ false
+      | Shut ↦ true
+      | Left ↦ false
+    ] };
+
+    fn is_closed(&self) -> bool {
+        matches!(self.entry, TicketFate::Shut)
+    }
+}
+
 impl<R: Abort + AllocGlobal> FakeBackend<'_, R> {
+    /// Returns why no ticket enters. None where one does.
+    fn shut(&self) -> Option<Shut> {
+        match self.entry {
+            TicketFate::Open => None,
+            TicketFate::Shut => SeenClosed::look(self).map(Shut::Closed),
+            TicketFate::Left => Some(Shut::Gone),
+        }
+    }
+
     fn note(&mut self, note: Note)
         ensures { self.new.notes.items ≡ self.old.notes.items ++ note ∷ [] }
     {
@@ -128,14 +171,14 @@ impl<R: Abort + AllocGlobal> Backend for FakeBackend<'_, R> {
 
     ghost events = { λ fake. Some fake.notes.items };
 
-    fn hello(&mut self, name: &Name, token: &Token) -> Result<Ticket, Denied> {
+    fn hello(&mut self, name: &Name, token: &Token) -> Result<LentTicket, Denied> {
         let word = self.bytes(token.as_bytes());
         match self.directory.hello(name.as_bytes(), token.as_bytes()) {
             Ok(ticket) => {
                 self.note(Note {
                     fact: Fact::Granted(name.copy(), word, ticket.user(), ticket.number()),
                 });
-                Ok(ticket)
+                Ok(LentTicket::new(ticket))
             }
             Err(denied) => {
                 self.note(Note {
@@ -146,8 +189,9 @@ impl<R: Abort + AllocGlobal> Backend for FakeBackend<'_, R> {
         }
     }
 
-    fn enter(&mut self, ticket: Ticket, _held: bool) -> Result<LentState, Shut> {
-        if let Some(why) = self.shut {
+    fn enter(&mut self, ticket: LentTicket, _held: bool) -> Result<LentState, Shut> {
+        let ticket = ticket.take_back(self);
+        if let Some(why) = self.shut() {
             self.note(Note {
                 fact: Fact::ShutOut(ticket, why),
             });
@@ -159,7 +203,7 @@ impl<R: Abort + AllocGlobal> Backend for FakeBackend<'_, R> {
         self.note(Note {
             fact: Fact::Entered(ticket.user(), ticket.number(), quota),
         });
-        Ok(LentState { ticket, state })
+        Ok(LentState::new(ticket, state))
     }
 
     fn open(&mut self, user: u8) -> UserEnd<ClosingPool> {
@@ -174,7 +218,7 @@ impl<R: Abort + AllocGlobal> Backend for FakeBackend<'_, R> {
 
     fn finish(&mut self, end: UserEnd<ClosingPool>)
         ensures { Happens (Some self.old.notes.items) (Some self.new.notes.items)
-            (withdrawn end.user (⟦<ClosingPool as Pool>⟧.seen end.pool) 0 ∷ []) }
+            (withdrawn end.user (⟦<ClosingPool as PoolEnd>⟧.seen end.pool) 0 ∷ []) }
     {
         self.note(Note {
             fact: Fact::Withdrawn(end),
@@ -182,8 +226,9 @@ impl<R: Abort + AllocGlobal> Backend for FakeBackend<'_, R> {
     }
 
     fn leave(&mut self, lent: LentState) {
+        let (ticket, state) = lent.take_back(self);
         self.note(Note {
-            fact: Fact::Left(lent),
+            fact: Fact::Left(ticket, state),
         });
     }
 
@@ -195,13 +240,13 @@ impl<R: Abort + AllocGlobal> Backend for FakeBackend<'_, R> {
 /// Makes a backend of the users A and B.
 fn backend<R: Abort + AllocGlobal>(
     rt: &R,
-    shut: Option<Shut>,
+    entry: TicketFate,
     calls: u64,
 ) -> Result<FakeBackend<'_, R>, Fail> {
     Ok(FakeBackend {
         rt,
         directory: Directory::new(rt.alloc(), users(rt)?)?,
-        shut,
+        entry,
         calls,
         notes: Vec::new(rt.alloc()),
     })
@@ -216,11 +261,11 @@ fn text_of<R>(backend: &FakeBackend<'_, R>) -> Result<NotesText, fmt::Error> {
     Ok(text)
 }
 
-/// A connection: what it sends, whether its ticket is shut out, and after how many calls its end is closed; the replies, the
-/// notes, and how it has ended.
+/// A connection: what it sends, what becomes of its ticket, and after how many calls its end is closed; the replies, the notes, and
+/// how it has ended if its ticket entered or none was granted.
 struct VisitCase {
     input: &'static str,
-    shut: Option<Shut>,
+    entry: TicketFate,
     calls: u64,
     replies: &'static str,
     notes: &'static str,
@@ -230,7 +275,7 @@ struct VisitCase {
 /// A connection that sends nothing.
 const SILENT: VisitCase = VisitCase {
     input: "",
-    shut: None,
+    entry: TicketFate::Open,
     calls: u64::MAX,
     replies: "",
     notes: "",
@@ -256,17 +301,15 @@ const STEP: &str = "HELLO B 00000000000000000000000000000000\n\
 
 const CLOSED: VisitCase = VisitCase {
     input: STEP,
-    shut: Some(Shut::Closed),
-    notes: "granted B 1 0\nshut out 1 0 Closed\n",
-    visited: Visited::ShutOut(Shut::Closed),
+    entry: TicketFate::Shut,
+    notes: "granted B 1 0\nshut out 1 0 closed\n",
     ..SILENT
 };
 
 const GONE: VisitCase = VisitCase {
     input: STEP,
-    shut: Some(Shut::Gone),
-    notes: "granted B 1 0\nshut out 1 0 Gone\n",
-    visited: Visited::ShutOut(Shut::Gone),
+    entry: TicketFate::Left,
+    notes: "granted B 1 0\nshut out 1 0 gone\n",
     ..SILENT
 };
 
@@ -292,11 +335,14 @@ const CASES: [VisitCase; 7] = [SILENT, OTHER, WRONG, CLOSED, GONE, STEPPING, CUT
 #[test]
 fn a_visit_asks_for_no_more_than_it_may(rt: HostRuntime) -> Result<(), Fail> {
     for case in &CASES {
-        let mut backend = backend(&rt, case.shut, case.calls)?;
+        let mut backend = backend(&rt, case.entry, case.calls)?;
         let mut lines = LineReader::new(rt.alloc(), Reading::new(case.input.as_bytes()));
         let mut writer = Writing::new(ArrayVec::<u8, 256>::new());
         let visited = visit(&mut backend, &mut lines, &mut writer);
-        assert_eq!(rt; visited, case.visited);
+        assert_eq!(rt;
+            visited,
+            backend.shut().map_or(case.visited, Visited::ShutOut)
+        );
         assert_eq!(rt; writer.into_inner().as_slice(), case.replies.as_bytes());
         assert_eq!(rt; text_of(&backend)?.as_str(), case.notes);
     }
@@ -310,11 +356,13 @@ struct LostSink {
 }
 
 impl Sink for LostSink {
-    ghost use Rattle.std.specs.Prelude.{Some, []};
+    ghost use Rattle.std.specs.Prelude.{false, Some, []};
 
     ghost contents = { λ _. Some [] };
 
     ghost faults = { λ sink. Some sink.faults };
+
+    ghost unflushed = { λ _. false };
 
     fn write(&mut self, _bytes: &[u8]) -> Result<usize, WriteFault> {
         self.faults = self.faults.saturating_add(1);
@@ -329,7 +377,7 @@ impl Sink for LostSink {
 /// The state comes home from a user that cannot be welcomed, and no end is made for it.
 #[test]
 fn a_user_that_is_not_welcomed_leaves_at_once(rt: HostRuntime) -> Result<(), Fail> {
-    let mut backend = backend(&rt, None, u64::MAX)?;
+    let mut backend = backend(&rt, TicketFate::Open, u64::MAX)?;
     let mut lines = LineReader::new(rt.alloc(), Reading::new(STEP.as_bytes()));
     let mut writer = LostSink { faults: 0 };
     let visited = visit(&mut backend, &mut lines, &mut writer);

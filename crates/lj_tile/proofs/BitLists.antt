@@ -7,7 +7,7 @@ use Rattle.std.proofs.lemmas.Nat.{shr-shr}
 use Rattle.std.proofs.lemmas.Nat.Bits.{bit_at_above, bit_at-zero, bit_at-lt, bit_at_and, bit_at_lowest, bit_at-suc}
 use Rattle.std.proofs.lemmas.Bool.{cases_lt, cases_eq}
 use Rattle.lj_ring.specs.Ring.{sum_below}
-use Rattle.lj_tile.specs.Species.{is_in}
+use Rattle.lj_task.specs.Species.{is_in}
 use Rattle.lj_tile.specs.Pairs.{members}
 use Rattle.lj_tile.proofs.SumLemmas.{m_zero, sum_far, sum_same}
 

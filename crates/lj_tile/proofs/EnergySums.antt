@@ -14,10 +14,10 @@ use Rattle.lj_ring.specs.declared.coordinates.Place.{Place}
 use Rattle.lj_ring.specs.declared.mixes.Class.{Class}
 use Rattle.lj_ring.specs.declared.mixes.Species.{Species}
 use Rattle.lj_ring.specs.declared.mixes.Species.TheVariants.{First, Second}
-use Rattle.lj_tile.specs.Pushes.{energy}
-use Rattle.lj_tile.specs.Species.{species_at}
-use Rattle.lj_tile.specs.Tiles.{place_at, chosen_energy}
-use Rattle.lj_tile.specs.Task.{Task, task_energy, are_in_order, class_in}
+use Rattle.lj_task.specs.Pushes.{energy}
+use Rattle.lj_task.specs.Species.{species_at}
+use Rattle.lj_task.specs.Tiles.{place_at, chosen_energy}
+use Rattle.lj_task.specs.Task.{Task, task_energy, are_in_order, class_in}
 use Rattle.lj_tile.specs.Rows.{energy_of, energy_row, energy_in, energies_in}
 use Rattle.lj_tile.specs.Pairs.{row_pairs}
 use Rattle.lj_tile.specs.Energies.{pair_energy, list_energy, lists_energy, chosen_row, rows_energy}

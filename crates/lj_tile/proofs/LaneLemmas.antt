@@ -1,36 +1,9 @@
--- Numbers in eight lanes, two at a time, and choices between them.
-use Rattle.std.proofs.Common.{ℕ, ◌-◌, ◌^◌, ◌<◌, ◌≡◌, min, Bool, true, false, cond, ltb, leb, bit_xor, refl, if◌then◌else◌, List, length, get_or, map, replicate, ap, sym, ◌∙◌, w32, arith}
+-- Choices between numbers in eight lanes.
+use Rattle.std.proofs.Common.{ℕ, ◌-◌, ◌^◌, ◌<◌, ◌≡◌, Bool, true, false, cond, ltb, leb, bit_xor, refl, if◌then◌else◌, List, length, get_or, map, replicate, ap, sym, ◌∙◌, arith}
 use Rattle.std.specs.Simd.Lanes.{zip2, sel_l, top}
-use Rattle.std.proofs.lemmas.List.{length-map, get_or-map, get_or-replicate, length-replicate}
-use Rattle.std.proofs.lemmas.Bool.Decides.{nat_tests}
-use Rattle.std.proofs.lemmas.Simd.{get_or-zip2, length-zip2, tops_compared, get_or-sel_l}
-
--- two vectors lane by lane
-pub both_lanes : (f : ℕ → ℕ → ℕ) (v w : List ℕ) → length v ≡ 8 → length w ≡ 8 → (k : ℕ) → k < 8
-    → get_or (zip2 f v w) k 0 ≡ f (get_or v k 0) (get_or w k 0)
-both_lanes f v w p q k l = get_or-zip2 f v w k 0 0 0 (omega (arith, p)) (omega (arith, q))
-
--- one number with each lane
-pub splat_left : (f : ℕ → ℕ → ℕ) (v : List ℕ) (n : ℕ) → length v ≡ 8 → (k : ℕ) → k < 8
-    → get_or (zip2 f (replicate 8 n) v) k 0 ≡ f n (get_or v k 0)
-splat_left f v n long k l =
-    both_lanes f (replicate 8 n) v (length-replicate {A = ℕ} 8 n) long k l
-    ∙ ap (λ m. f m (get_or v k 0)) (get_or-replicate 8 k n 0 l)
-
-lesser : (a b : ℕ) → cond (ltb a b) a b ≡ min a b
-lesser a b = grind (arith, nat_tests)
-
--- the lesser of two, lane by lane
-pub least_lanes : (v w : List ℕ) → length v ≡ 8 → length w ≡ 8 → (k : ℕ) → k < 8
-    → get_or (sel_l (map (top 31) (zip2 (λ a b. cond (ltb a b) (2 ^ 32 - 1) 0) v w)) v w) k 0
-    ≡ min (get_or v k 0) (get_or w k 0)
-least_lanes v w p q k l =
-    let tests = zip2 ltb v w in
-    let as_long : length tests ≡ length v = length-zip2 ltb v w (omega (arith, p, q)) in
-    ap (λ ms. get_or (sel_l ms v w) k 0) (tops_compared w32 ltb v w)
-    ∙ get_or-sel_l tests v w k 0 (omega (arith, as_long, p)) (omega (arith, p)) (omega (arith, q))
-    ∙ ap (λ t. cond t (get_or v k 0) (get_or w k 0)) (get_or-zip2 ltb v w k 0 0 false (omega (arith, p)) (omega (arith, q)))
-    ∙ lesser (get_or v k 0) (get_or w k 0)
+use Rattle.std.proofs.lemmas.List.{length-map, get_or-map, length-replicate}
+use Rattle.std.proofs.lemmas.Simd.{length-zip2, get_or-sel_l}
+use Rattle.lj_ring.proofs.LaneLemmas.{both_lanes, splat_left}
 
 -- lanes of masks: of the numbers from n on, and of those above n
 abbrev pub mask_from : ℕ → ℕ → ℕ
@@ -67,9 +40,9 @@ choice_lanes m n v w x y p q r s k l =
     let tops : length (map (top 31) masks) ≡ 8 = length-map masks (top 31) ∙ h in
     get_or-sel_l (map (top 31) masks) x y k 0 (omega (arith, tops)) (omega (arith, r)) (omega (arith, s))
     ∙ ap (λ t. cond t (get_or x k 0) (get_or y k 0)) (get_or-map (top 31) masks k 0 false (omega (arith, h)))
-    ∙ ap (λ t. cond (top 31 t) (get_or x k 0) (get_or y k 0)) (both_lanes bit_xor first second f g k l)
+    ∙ ap (λ t. cond (top 31 t) (get_or x k 0) (get_or y k 0)) (both_lanes 8 bit_xor first second f g k l)
     ∙ ap (λ t. cond (top 31 (bit_xor t (get_or second k 0))) (get_or x k 0) (get_or y k 0))
-    (splat_left mask_from v m p k l)
+    (splat_left 8 mask_from v m p k l)
     ∙ ap (λ t. cond (top 31 (bit_xor (cond (leb m (get_or v k 0)) (2 ^ 32 - 1) 0) t)) (get_or x k 0) (get_or y k 0))
-    (splat_left mask_above w n q k l)
+    (splat_left 8 mask_above w n q k l)
     ∙ one_of (leb m (get_or v k 0)) (ltb n (get_or w k 0)) (get_or x k 0) (get_or y k 0)

@@ -17,7 +17,7 @@ use Rattle.lj_table.proofs.Quotients.{mul_neg, div_neg}
 use Rattle.lj_tile.specs.declared.pair_lanes.Eight.{Eight}
 use Rattle.lj_tile.specs.Lanes.{IsPush, signed_push}
 use Rattle.lj_tile.specs.Energies.{signed_number}
-use Rattle.lj_tile.specs.Pushes.{push, push_along}
+use Rattle.lj_task.specs.Pushes.{push, push_along}
 
 -- a product of less than 2^61 by the products of the halves of the one factor
 pub by_halves : (n h : ℕ) → n < 2 ^ 37 → h ≤ 2 ^ 24

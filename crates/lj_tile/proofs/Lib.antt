@@ -1,12 +1,9 @@
 pub mod PushLemmas
-pub mod Opposites
 pub mod SumLemmas
 pub mod RowLemmas
 pub mod Splits
-pub mod SameLemmas
 pub mod NearLemmas
 pub mod NearLanes
-pub mod FirstSums
 pub mod BitLists
 pub mod ListLemmas
 pub mod PairSums

@@ -1,17 +1,18 @@
 -- The steps of the quick test, lane by lane.
-use Rattle.std.proofs.Common.{ℕ, ◌+◌, ◌-◌, ◌*◌, ◌/◌, ◌%◌, ◌^◌, ◌<◌, ◌≤◌, ◌≡◌, Bool, true, false, cond, ltb, ℤ, pos, List, length, get_or, map, refl, sym, ap, subst, ◌∙◌, inl, inr, bit_or, Fits, w16, max, min, ◌++◌, take, drop, pow_pos, to_z, of_z, arith}
-use Rattle.std.specs.Simd.Lanes.{zip2, mask_l, sel_l, top, chunk, pick_l, Each1}
+use Rattle.std.proofs.Common.{ℕ, ◌+◌, ◌-◌, ◌*◌, ◌/◌, ◌%◌, ◌^◌, ◌<◌, ◌≤◌, ◌≡◌, Bool, true, false, cond, ltb, ℤ, pos, List, length, get_or, map, refl, sym, ap, subst, ◌∙◌, inl, inr, bit_or, w16, max, min, ◌++◌, take, drop, pow_pos, to_z, of_z, arith}
+use Rattle.std.specs.Simd.Lanes.{zip2, mask_l, top, chunk, pick_l}
 use Rattle.std.specs.List.{range_with_len}
 use Rattle.std.specs.Int.{bit_at}
 use Rattle.std.specs.Int.Signed.{lt_z}
 use Rattle.std.proofs.lemmas.List.{get_or-map, get_or-take, get_or-drop, get_or_append_left, length-map, length-append}
 use Rattle.std.proofs.lemmas.List.FromFn.{length-range_with_len}
-use Rattle.std.proofs.lemmas.Bool.{cases_lt, ltb-false, ltb-true}
+use Rattle.std.proofs.lemmas.Bool.{cases_lt, ltb-false}
 use Rattle.std.proofs.lemmas.Nat.{mod-mul-add}
 use Rattle.std.proofs.Math.Nat.{mod-lt}
 use Rattle.std.proofs.lemmas.Nat.Bits.{bit_at_or, bit_at_cat_low, bit_at_cat_high}
 use Rattle.std.proofs.lemmas.Int.{to_z_pos}
-use Rattle.std.proofs.lemmas.Simd.{get_or-zip2, length-zip2, length-sel_l, get_or-sel_l, tops_compared, Each1-get_or, pick_l-range_with_len, get_or-chunk, mask_l-mod, bit_mask_l}
+use Rattle.std.proofs.lemmas.Simd.{get_or-zip2, length-zip2, tops_compared, pick_l-range_with_len, get_or-chunk, mask_l-mod, bit_mask_l}
+use Rattle.lj_ring.proofs.LaneLemmas.{chosen, min_lanes}
 use Rattle.lj_tile.proofs.NearLemmas.{not_set}
 
 -- sixteen lanes of a longer list
@@ -19,66 +20,6 @@ pub sixteen_of : (at : ℕ) (v : List ℕ) (k : ℕ) → at + 16 ≤ 64 → k < 
     → get_or (chunk 0 16 (take (64 - at) (drop at v))) k 0 ≡ get_or v (at + k) 0
 sixteen_of at v k in_v l =
     get_or-take 16 (take (64 - at) (drop at v)) k 0 l ∙ get_or-take (64 - at) (drop at v) k 0 (omega (arith, in_v, l)) ∙ get_or-drop at v k 0
-
-abbrev pub wrapped_difference : ℕ → ℕ → ℕ
-wrapped_difference a b = (a + (2 ^ 16 - b)) % 2 ^ 16
-
-abbrev pub is_less : ℕ → ℕ → ℕ
-is_less a b = cond (ltb a b) (2 ^ 16 - 1) 0
-
--- the greater of two numbers, less one of them
-more_than : (t : Bool) (a b : ℕ) → a < 2 ^ 16 → b < 2 ^ 16 → ltb a b ≡ t → wrapped_difference (cond t b a) b ≡ a - b
-more_than true a b p q e = let less : a < b = ltb-true a b e in omega (arith, less, p, q)
-more_than false a b p q e = let more : b ≤ a = ltb-false a b e in omega (arith, more, p, q)
-
--- lanes chosen by which of two is less
-chosen_lanes : (n : ℕ) (a b u v : List ℕ) → length a ≡ n → length b ≡ n → length u ≡ n → length v ≡ n → (k : ℕ) → k < n
-    → get_or (sel_l (map (top 15) (zip2 is_less a b)) u v) k 0 ≡ cond (ltb (get_or a k 0) (get_or b k 0)) (get_or u k 0) (get_or v k 0)
-chosen_lanes n a b u v a_long b_long u_long v_long k l =
-    let tops : map (top 15) (zip2 is_less a b) ≡ zip2 ltb a b = tops_compared w16 ltb a b in
-    let long : length (zip2 ltb a b) ≡ n = length-zip2 ltb a b (a_long ∙ sym b_long) ∙ a_long in
-    rw tops
-    (get_or-sel_l (zip2 ltb a b) u v k 0 (omega (arith, long, l)) (omega (arith, u_long, l)) (omega (arith, v_long, l))
-    ∙ ap (λ t. cond t (get_or u k 0) (get_or v k 0)) (get_or-zip2 ltb a b k 0 0 false (omega (arith, a_long, l)) (omega (arith, b_long, l))))
-
-length-chosen : (n : ℕ) (a b u v : List ℕ) → length a ≡ n → length b ≡ n → length u ≡ n → length v ≡ n
-    → length (sel_l (map (top 15) (zip2 is_less a b)) u v) ≡ n
-length-chosen n a b u v a_long b_long u_long v_long =
-    let tops : map (top 15) (zip2 is_less a b) ≡ zip2 ltb a b = tops_compared w16 ltb a b in
-    let long : length (zip2 ltb a b) ≡ n = length-zip2 ltb a b (a_long ∙ sym b_long) ∙ a_long in
-    rw tops (length-sel_l (zip2 ltb a b) u v (long ∙ sym u_long) (long ∙ sym v_long) ∙ long)
-
--- what the second lane leaves of the first
-pub left_lanes : (v by : List ℕ) → length v ≡ 16 → length by ≡ 16 → Each1 (Fits w16) v → Each1 (Fits w16) by → (k : ℕ) → k < 16
-    → get_or (zip2 wrapped_difference (sel_l (map (top 15) (zip2 is_less v by)) by v) by) k 0 ≡ get_or v k 0 - get_or by k 0
-left_lanes v by p q v_fits by_fits k l =
-    let more : List ℕ = sel_l (map (top 15) (zip2 is_less v by)) by v in
-    let long : length more ≡ 16 = length-chosen 16 v by by v p q q p in
-    let a_fits : Fits w16 (get_or v k 0) = Each1-get_or (Fits w16) v k 0 (omega (arith, p, l)) v_fits in
-    let b_fits : Fits w16 (get_or by k 0) = Each1-get_or (Fits w16) by k 0 (omega (arith, q, l)) by_fits in
-    get_or-zip2 wrapped_difference more by k 0 0 0 (omega (arith, long, l)) (omega (arith, q, l))
-    ∙ ap (λ n. wrapped_difference n (get_or by k 0)) (chosen_lanes 16 v by by v p q q p k l)
-    ∙ more_than (ltb (get_or v k 0) (get_or by k 0)) (get_or v k 0) (get_or by k 0) a_fits.fits b_fits.fits refl
-
-chosen_least : (t : Bool) (a b : ℕ) → ltb a b ≡ t → cond t a b ≡ min a b
-chosen_least true a b e = let less : a < b = ltb-true a b e in omega (arith, less)
-chosen_least false a b e = let more : b ≤ a = ltb-false a b e in omega (arith, more)
-
-chosen_greatest : (t : Bool) (a b : ℕ) → ltb a b ≡ t → cond t b a ≡ max a b
-chosen_greatest true a b e = let less : a < b = ltb-true a b e in omega (arith, less)
-chosen_greatest false a b e = let more : b ≤ a = ltb-false a b e in omega (arith, more)
-
--- the lesser of two lanes
-pub least_lanes : (n : ℕ) (a b : List ℕ) → length a ≡ n → length b ≡ n → (k : ℕ) → k < n
-    → get_or (sel_l (map (top 15) (zip2 is_less a b)) a b) k 0 ≡ min (get_or a k 0) (get_or b k 0)
-least_lanes n a b p q k l =
-    chosen_lanes n a b a b p q p q k l ∙ chosen_least (ltb (get_or a k 0) (get_or b k 0)) (get_or a k 0) (get_or b k 0) refl
-
--- the greater of two lanes
-pub greatest_lanes : (n : ℕ) (a b : List ℕ) → length a ≡ n → length b ≡ n → (k : ℕ) → k < n
-    → get_or (sel_l (map (top 15) (zip2 is_less a b)) b a) k 0 ≡ max (get_or a k 0) (get_or b k 0)
-greatest_lanes n a b p q k l =
-    chosen_lanes n a b b a p q q p k l ∙ chosen_greatest (ltb (get_or a k 0) (get_or b k 0)) (get_or a k 0) (get_or b k 0) refl
 
 -- neighbouring lanes, as they are taken out of a vector
 abbrev part : ℕ → ℕ → List ℕ → List ℕ
@@ -104,15 +45,15 @@ mod-once k n some l =
     omega (arith, once, some)
 
 -- of the lanes of both halves, the lesser ones
-abbrev pub lesser_half : ℕ → List ℕ → List ℕ
-lesser_half n v = sel_l (map (top 15) (zip2 is_less (part 0 n v) (part n n v))) (part 0 n v) (part n n v)
+abbrev pub min_half : ℕ → List ℕ → List ℕ
+min_half n v = chosen w16 (part 0 n v) (part n n v) (part 0 n v) (part n n v)
 
-pub lesser_of_both : (n : ℕ) (v : List ℕ) → 0 < n → length v ≡ n + n → (k : ℕ) → k < n + n → get_or (lesser_half n v) (k % n) 0 ≤ get_or v k 0
-lesser_of_both n v some long k l =
+pub min_of_both : (n : ℕ) (v : List ℕ) → 0 < n → length v ≡ n + n → (k : ℕ) → k < n + n → get_or (min_half n v) (k % n) 0 ≤ get_or v k 0
+min_of_both n v some long k l =
     let j : ℕ = k % n in
     let in_half : j < n = mod-lt k some in
-    let lane : get_or (lesser_half n v) j 0 ≡ min (get_or (part 0 n v) j 0) (get_or (part n n v) j 0) =
-    least_lanes n (part 0 n v) (part n n v) (length-part 0 n v) (length-part n n v) j in_half in
+    let lane : get_or (min_half n v) j 0 ≡ min (get_or (part 0 n v) j 0) (get_or (part n n v) j 0) =
+    min_lanes w16 n (part 0 n v) (part n n v) (length-part 0 n v) (length-part n n v) j in_half in
     let low : get_or (part 0 n v) j 0 ≡ get_or v (0 + j) 0 = part_lanes 0 n v (omega (arith, long)) j in_half in
     let high : get_or (part n n v) j 0 ≡ get_or v (n + j) 0 = part_lanes n n v (omega (arith, long)) j in_half in
     elim (cases_lt k n) [
@@ -150,15 +91,6 @@ neither_first a b k e = let most : max (bit_at a k) (bit_at b k) ≡ 0 = sym (bi
 
 neither_second : (a b k : ℕ) → bit_at (bit_or a b) k ≡ 0 → bit_at b k ≡ 0
 neither_second a b k e = let most : max (bit_at a k) (bit_at b k) ≡ 0 = sym (bit_at_or a b k) ∙ e in omega (arith, most)
-
--- lanes that are kept as numbers with a sign
-pub signed_lanes : (f : ℕ → ℕ) (v : List ℕ) → length v ≡ 16 → ((n : ℕ) → f n ≡ n) → ((k : ℕ) → k < 16 → get_or v k 0 < 2 ^ 15)
-    → (k : ℕ) → k < 16 → get_or (map (to_z w16) (map f v)) k (pos 0) ≡ pos (get_or v k 0)
-signed_lanes f v long same small k l =
-    let kept : length (map f v) ≡ 16 = length-map v f ∙ long in
-    get_or-map (to_z w16) (map f v) k 0 (pos 0) (omega (arith, kept, l))
-    ∙ ap (λ n. to_z w16 n) (get_or-map f v k 0 0 (omega (arith, long, l)) ∙ same (get_or v k 0))
-    ∙ to_z_pos w16 (get_or v k 0) (small k l)
 
 abbrev pub is_less_signed : ℕ → ℕ → ℕ
 is_less_signed a b = cond (lt_z (to_z w16 a) (to_z w16 b)) (2 ^ 16 - 1) 0

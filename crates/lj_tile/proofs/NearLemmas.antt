@@ -1,23 +1,17 @@
 -- The quick test of which places are near, lane by lane.
-use Rattle.std.proofs.Common.{ℕ, zero, suc, ◌+◌, ◌-◌, ◌*◌, ◌/◌, ◌%◌, ◌^◌, ◌<◌, ◌≤◌, ◌≡◌, min, Bool, true, false, cond, ltb, unsigned_abs, List, length, get_or, map, replicate, refl, sym, ap, ◌∙◌, bit_and, pow_pos, ◌⊎◌, inl, inr, arith}
-use Rattle.std.specs.Simd.Lanes.{zip2, mask_l}
+use Rattle.std.proofs.Common.{ℕ, zero, suc, ◌+◌, ◌-◌, ◌*◌, ◌/◌, ◌%◌, ◌^◌, ◌<◌, ◌≤◌, ◌≡◌, min, Bool, true, false, cond, ltb, unsigned_abs, List, length, get_or, map, refl, sym, ap, ◌∙◌, bit_and, pow_pos, ◌⊎◌, inl, inr, arith}
+use Rattle.std.specs.Simd.Lanes.{mask_l}
 use Rattle.std.specs.Int.{bit_at, div_ceil}
-use Rattle.std.proofs.lemmas.List.{get_or-map, get_or-replicate, length-replicate}
+use Rattle.std.proofs.lemmas.List.{get_or-map}
 use Rattle.std.proofs.lemmas.Bool.{cases_eq, cases_lt, ltb-false, ltb-true}
 use Rattle.std.proofs.lemmas.Int.{ints}
 use Rattle.std.proofs.lemmas.Nat.{mul-le, mod-mul-add, pow-add, le-div}
 use Rattle.std.proofs.Math.Nat.{div-mul-le_self, mod-add-div, mod-lt, div-lt_iff_lt-mul, div-div-eq-div-mul}
 use Rattle.std.proofs.lemmas.Grind.{pow_more, div_ceil_times}
 use Rattle.std.proofs.lemmas.Nat.Bits.{bit_at_and}
-use Rattle.std.proofs.lemmas.Simd.{get_or-zip2, bit_mask_l}
+use Rattle.std.proofs.lemmas.Simd.{bit_mask_l}
 use Rattle.lj_ring.specs.Ring.{image}
 use Rattle.lj_tile.specs.Grains.{grains, grains_between, grains_apart, square_unit}
-
--- each lane with one number
-pub splat_lanes : (f : ℕ → ℕ → ℕ) (v : List ℕ) (n : ℕ) → length v ≡ 16 → (k : ℕ) → k < 16 → get_or (zip2 f v (replicate 16 n)) k 0 ≡ f (get_or v k 0) n
-splat_lanes f v n long k l =
-    get_or-zip2 f v (replicate 16 n) k 0 0 0 (omega (arith, long)) (omega (arith, length-replicate {A = ℕ} 16 n))
-    ∙ ap (f (get_or v k 0)) (get_or-replicate 16 k n 0 l)
 
 pub not_set : (t : Bool) → cond {A = ℕ} t 1 0 ≡ 0 → t ≡ false
 not_set true e = absurd (omega arith)

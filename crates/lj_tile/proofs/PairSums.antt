@@ -6,16 +6,16 @@ use Rattle.std.proofs.lemmas.Bool.{cases_eq}
 use Rattle.std.proofs.lemmas.Bool.Decides.{nat_tests}
 use Rattle.lj_ring.specs.declared.coordinates.Place.{Place}
 use Rattle.lj_ring.specs.Scale.{Scale}
-use Rattle.lj_tile.specs.declared.pairs.Push.{Push}
-use Rattle.lj_tile.specs.declared.sums.ForceSums.{ForceSums}
-use Rattle.lj_tile.specs.Pushes.{push, no_push, sum_of_pushes, opposite_push}
-use Rattle.lj_tile.specs.Tiles.{place_at}
+use Rattle.lj_task.specs.declared.pushes.Push.{Push}
+use Rattle.lj_task.specs.declared.force_sums.ForceSums.{ForceSums}
+use Rattle.lj_task.specs.Pushes.{push, no_push, sum_of_pushes, opposite_push}
+use Rattle.lj_task.specs.Tiles.{place_at}
 use Rattle.lj_tile.specs.Pairs.{first_of, second_of, push_on_first, push_on_second, sum_of_pairs, IsMore, HavePushes, HaveTotals, total}
 use Rattle.lj_tile.specs.declared.pair_lanes.Eight.{Eight}
 use Rattle.lj_tile.specs.Lanes.{IsPush}
 use Rattle.std.proofs.lemmas.List.{take-append-drop}
 use Rattle.std.proofs.Math.Seq.{take-suc, take-add}
-use Rattle.lj_tile.proofs.Opposites.{same_push}
+use Rattle.lj_task.proofs.Opposites.{same_push}
 use Rattle.lj_tile.proofs.RowLemmas.{length_set}
 
 mod_sum : (a b c : ℕ) → ((a + b) % 2 ^ 32 + c) % 2 ^ 32 ≡ (a + (b + c) % 2 ^ 32) % 2 ^ 32

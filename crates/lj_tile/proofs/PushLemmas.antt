@@ -9,8 +9,8 @@ use Rattle.lj_ring.specs.Ring.{ring_residue, image, squared_distance, IsLeastIma
 use Rattle.lj_ring.specs.Scale.{Scale}
 use Rattle.lj_table.specs.Entries.{push_at}
 use Rattle.lj_table.proofs.Quotients.{quotient_size, small_product}
-use Rattle.lj_tile.specs.declared.pairs.Push.{Push}
-use Rattle.lj_tile.specs.Pushes.{push, no_push}
+use Rattle.lj_task.specs.declared.pushes.Push.{Push}
+use Rattle.lj_task.specs.Pushes.{push, no_push}
 
 -- the low 32 bits of a signed number are its coordinate
 pub low_bits : (z : ℤ) → FitsSigned w64 z → of_z w64 z % 2 ^ 32 ≡ ring_residue z
@@ -113,12 +113,6 @@ pub push_is : (u : Scale) (p q : Place) (factor ix iy iz : ℤ) (x y z : ℕ)
     → (let made : Push = record { x = x; y = y; z = z } in made ≡ push u p q)
 unfolding push
 push_is u p q factor ix iy iz x y z f i j k e g h = rw (e, g, h, f, i, j, k) refl
-
--- a pair whose entry is 0 does not push
-pub nothing_is : (u : Scale) (p q : Place) → push_at u (squared_distance p q) ≡ pos 0 → no_push ≡ push u p q
-unfolding push
-nothing_is u p q none =
-    rw (none, zero-*ℤ (pos u.step_factor), zero-*ℤ (image p.x q.x), zero-*ℤ (image p.y q.y), zero-*ℤ (image p.z q.z)) refl
 
 -- a signed number whose bits are 0 is 0
 pub zero_bits : (z : ℤ) → FitsSigned w64 z → of_z w64 z ≡ 0 → z ≡ pos 0

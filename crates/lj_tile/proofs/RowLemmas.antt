@@ -13,18 +13,18 @@ use Rattle.lj_ring.proofs.MixLemmas.{class_symmetric}
 use Rattle.lj_ring.specs.declared.coordinates.Place.{Place}
 use Rattle.lj_table.specs.Entries.{push_at, energy_at, energy_entry}
 use Rattle.lj_table.proofs.Quotients.{weighted_none}
-use Rattle.lj_tile.specs.declared.pairs.Push.{Push}
-use Rattle.lj_tile.specs.Pushes.{push, no_push, sum_of_pushes, energy}
-use Rattle.lj_tile.specs.Tiles.{place_at, chosen_push, push_sum}
-use Rattle.lj_tile.specs.Block.{Block}
-use Rattle.lj_tile.specs.Species.{species_at}
+use Rattle.lj_task.specs.declared.pushes.Push.{Push}
+use Rattle.lj_task.specs.Pushes.{push, no_push, sum_of_pushes, energy}
+use Rattle.lj_task.specs.Tiles.{place_at, chosen_push, push_sum}
+use Rattle.lj_task.specs.Block.{Block}
+use Rattle.lj_task.specs.Species.{species_at}
 use Rattle.std.specs.Int.{bit_at}
-use Rattle.lj_tile.specs.Task.{Task, IsTask, are_apart, are_in_order, class_in, task_force, task_second}
-use Rattle.lj_tile.specs.Rows.{push_of, push_back, sum_on_first, sum_on_second, push_in, pushes_in}
+use Rattle.lj_task.specs.Task.{Task, IsTask, are_apart, are_in_order, class_in, task_force, task_second}
+use Rattle.lj_tile.specs.Rows.{ordered_push, push_back, sum_on_first, sum_on_second, push_in, pushes_in}
 use Rattle.lj_tile.specs.Rows.{IsSilent}
-use Rattle.lj_tile.proofs.PushLemmas.{nothing_is}
+use Rattle.lj_task.proofs.Opposites.{nothing_is}
 use Rattle.lj_tile.proofs.SumLemmas.{sum_far, sum_same}
-use Rattle.lj_tile.proofs.Opposites.{same_push, entry_far, nothing_back}
+use Rattle.lj_task.proofs.Opposites.{same_push, entry_far, nothing_back}
 
 sum_more : (f : ℕ → ℕ) (n p : ℕ) → p ≡ f n → (ring_sum n f + p) % 2 ^ 32 ≡ ring_sum (n + 1) f
 sum_more f n p e = rw (add-one, e) (omega arith)
@@ -81,7 +81,7 @@ pushes_past u set here places m n le none =
 -- a row of silent places adds nothing
 pub row_silent : (w : Task) (t : ℕ) → ((s : ℕ) → s < length w.b.places → IsSilent w t s)
     → no_push ≡ sum_on_first w t (length w.b.places)
-row_silent w t silent = sums_far (push_of w t) 0 (length w.b.places) (omega arith) (λ s h k. (silent s k).there)
+row_silent w t silent = sums_far (ordered_push w t) 0 (length w.b.places) (omega arith) (λ s h k. (silent s k).there)
 
 pub length_set : (sums : List Push) (n : ℕ) (sum : Push) → length (slice_set sums n sum) ≡ length sums
 length_set sums n sum = search (rules, arith)
@@ -138,7 +138,7 @@ pub first_is : (w : Task) (t : ℕ) → IsTask w → w.name.bi < w.name.bj → t
 unfolding push_sum
 first_is w t sound less t_in =
     let few : t < 64 = omega (arith, t_in, sound.most_first) in
-    sums_same (push_of w t) _ (length w.b.places) (λ s h.
+    sums_same (ordered_push w t) _ (length w.b.places) (λ s h.
     ap (λ chosen. chosen_push (class_in w t s).scale chosen (place_at w.a.places t) (place_at w.b.places s))
     (in_order w t s few less ∙ sym (apart w t s few less)))
 
@@ -206,7 +206,7 @@ module _ (axis : Push → ℕ) (none : axis no_push ≡ 0) (u : Scale) (p q : Pl
       ]
 
 either_way : (axis : Push → ℕ) → axis no_push ≡ 0 → (w : Task) (t s : ℕ) → w.name.bi ≡ w.name.bj → w.a ≡ w.b
-    → axis (push_of w t s) + axis (push_back w s t)
+    → axis (ordered_push w t s) + axis (push_back w s t)
     ≡ axis (chosen_push (class_in w t s).scale (are_apart w t s) (place_at w.a.places t) (place_at w.b.places s))
 unfolding chosen_part
 either_way axis none w t s same blocks =
@@ -225,13 +225,13 @@ joined_is w t sound same =
     (along (λ p. p.x) refl) (along (λ p. p.y) refl) (along (λ p. p.z) refl)
   where
     along : (axis : Push → ℕ) → axis no_push ≡ 0
-        → (ring_sum (length w.b.places) (λ s. axis (push_of w t s)) + ring_sum (length w.a.places) (λ s. axis (push_back w s t))) % 2 ^ 32
+        → (ring_sum (length w.b.places) (λ s. axis (ordered_push w t s)) + ring_sum (length w.a.places) (λ s. axis (push_back w s t))) % 2 ^ 32
         ≡ ring_sum (length w.b.places) (λ s.
         axis (chosen_push (class_in w t s).scale (are_apart w t s) (place_at w.a.places t) (place_at w.b.places s)))
     along axis none =
         let blocks : w.a ≡ w.b = sound.diagonal same in
         let sizes : length w.a.places ≡ length w.b.places = ap (λ (block : Block). length block.places) blocks in
-        let both = sum_both (length w.b.places) (λ s. axis (push_of w t s)) (λ s. axis (push_back w s t)) _
+        let both = sum_both (length w.b.places) (λ s. axis (ordered_push w t s)) (λ s. axis (push_back w s t)) _
         (λ s h. either_way axis none w t s same blocks) in
         let counted = ap (λ n. sum_below n (λ s. axis (push_back w s t))) sizes in
         omega (arith, both, counted)

@@ -9,16 +9,16 @@ use Rattle.std.proofs.lemmas.List.{map-append, append-nil, get_or_append_left}
 use Rattle.std.proofs.Math.Seq.{get_or-append_right}
 use Rattle.lj_ring.specs.declared.coordinates.Place.{Place}
 use Rattle.lj_ring.specs.Scale.{Scale}
-use Rattle.lj_tile.specs.declared.pairs.Push.{Push}
-use Rattle.lj_tile.specs.declared.sums.ForceSums.{ForceSums}
-use Rattle.lj_tile.specs.Pushes.{push, no_push, sum_of_pushes}
-use Rattle.lj_tile.specs.Species.{is_in}
-use Rattle.lj_tile.specs.Tiles.{place_at, chosen_push}
-use Rattle.lj_tile.specs.Task.{Task}
+use Rattle.lj_task.specs.declared.pushes.Push.{Push}
+use Rattle.lj_task.specs.declared.force_sums.ForceSums.{ForceSums}
+use Rattle.lj_task.specs.Pushes.{push, no_push, sum_of_pushes}
+use Rattle.lj_task.specs.Species.{is_in}
+use Rattle.lj_task.specs.Tiles.{place_at, chosen_push}
+use Rattle.lj_task.specs.Task.{Task}
 use Rattle.lj_tile.specs.Rows.{pushes_in, push_in, push_back, sum_on_first}
 use Rattle.lj_tile.specs.Pairs.{members, row_pairs, first_of, second_of, ArePairs, push_on_first, push_on_second, sum_of_pairs}
 use Rattle.lj_tile.specs.Pairs.{HaveTotals, total, total_of_two, HaveRow}
-use Rattle.lj_tile.proofs.Opposites.{same_push}
+use Rattle.lj_task.proofs.Opposites.{same_push}
 use Rattle.lj_ring.specs.declared.mixes.Species.TheVariants.{First, Second}
 use Rattle.lj_tile.proofs.Splits.{in_none, in_firsts, in_seconds, RowSplit, SplitRow, scale_with, row_sum}
 use Rattle.lj_tile.proofs.RowLemmas.{pushes_more, pushes_past}

@@ -5,8 +5,8 @@ use Rattle.std.proofs.lemmas.Bool.{cases_eq}
 use Rattle.std.proofs.lemmas.Bool.Decides.{nat_tests}
 use Rattle.std.proofs.lemmas.Nat.Bits.{bit_at_and, bit_at_not, bit_at-lt}
 use Rattle.lj_ring.specs.declared.mixes.Species.TheVariants.{First, Second}
-use Rattle.lj_tile.specs.Species.{species_at, is_in}
-use Rattle.lj_tile.specs.Task.{Task}
+use Rattle.lj_task.specs.Species.{species_at, is_in}
+use Rattle.lj_task.specs.Task.{Task}
 use Rattle.lj_tile.specs.Pairs.{AreRowsOf}
 use Rattle.lj_tile.proofs.RowSums.{of_one, of_other, of_none, IsOfOne, IsSilentRow}
 

@@ -5,16 +5,16 @@ use Rattle.std.specs.Int.{bit_at}
 use Rattle.std.proofs.lemmas.Bool.{cases_lt, cases_eq}
 use Rattle.std.proofs.lemmas.Bool.Decides.{nat_tests}
 use Rattle.lj_ring.specs.Scale.{Scale}
-use Rattle.lj_tile.specs.declared.pairs.Push.{Push}
-use Rattle.lj_tile.specs.declared.sums.ForceSums.{ForceSums}
-use Rattle.lj_tile.specs.Pushes.{no_push, sum_of_pushes}
-use Rattle.lj_tile.specs.Species.{is_in}
-use Rattle.lj_tile.specs.Task.{Task}
+use Rattle.lj_task.specs.declared.pushes.Push.{Push}
+use Rattle.lj_task.specs.declared.force_sums.ForceSums.{ForceSums}
+use Rattle.lj_task.specs.Pushes.{no_push, sum_of_pushes}
+use Rattle.lj_task.specs.Species.{is_in}
+use Rattle.lj_task.specs.Task.{Task}
 use Rattle.lj_tile.specs.Rows.{IsSilent}
 use Rattle.lj_tile.specs.Rows.{push_back, sum_on_first, sum_on_second}
 use Rattle.lj_tile.specs.Pairs.{push_on_first, push_on_second, sum_of_pairs}
 use Rattle.lj_tile.specs.Pairs.{IsMore, HavePushes, total_of_two, HaveRow, HaveRows, rows_on_first, rows_on_second, row_on_second, IsPushOnRing}
-use Rattle.lj_tile.proofs.Opposites.{same_push}
+use Rattle.lj_task.proofs.Opposites.{same_push}
 use Rattle.lj_tile.proofs.RowLemmas.{row_silent, second_more}
 use Rattle.lj_tile.proofs.PairSums.{sums_joined, more_none}
 use Rattle.lj_tile.proofs.RowPairs.{chosen, not_chosen, none_behind}

@@ -11,13 +11,13 @@ use Rattle.lj_ring.specs.Mix.{class_of, can_interact}
 use Rattle.lj_ring.specs.Ring.{ring_sum, squared_distance, IsOnRing}
 use Rattle.lj_ring.proofs.MixLemmas.{cannot_interact}
 use Rattle.lj_ring.specs.Scale.{Scale}
-use Rattle.lj_tile.specs.declared.pairs.Push.{Push}
-use Rattle.lj_tile.specs.Pushes.{no_push, sum_of_pushes}
-use Rattle.lj_tile.specs.Species.{is_in, species_at}
-use Rattle.lj_tile.specs.Tiles.{place_at, chosen_push}
-use Rattle.lj_tile.specs.Task.{Task, are_in_order, class_in}
-use Rattle.lj_tile.specs.Rows.{push_of, sum_on_first, pushes_in, push_in, IsSilent}
-use Rattle.lj_tile.proofs.Opposites.{same_push}
+use Rattle.lj_task.specs.declared.pushes.Push.{Push}
+use Rattle.lj_task.specs.Pushes.{no_push, sum_of_pushes}
+use Rattle.lj_task.specs.Species.{is_in, species_at}
+use Rattle.lj_task.specs.Tiles.{place_at, chosen_push}
+use Rattle.lj_task.specs.Task.{Task, are_in_order, class_in}
+use Rattle.lj_tile.specs.Rows.{ordered_push, sum_on_first, pushes_in, push_in, IsSilent}
+use Rattle.lj_task.proofs.Opposites.{same_push}
 use Rattle.lj_tile.specs.Pairs.{AreOnRing}
 use Rattle.lj_tile.proofs.RowLemmas.{sum_both, not_in_order, far_silent}
 
@@ -131,10 +131,10 @@ no_part axis none u v p q x y whole e f g = rw (e, f, g, none) (omega arith)
 
 split_push : (axis : Push → ℕ) → axis no_push ≡ 0 → (w : Task) (t firsts seconds s : ℕ) → RowSplit w t firsts seconds s
     → axis (push_in (scale_with w t First) firsts (place_at w.a.places t) w.b.places s)
-    + axis (push_in (scale_with w t Second) seconds (place_at w.a.places t) w.b.places s) ≡ axis (push_of w t s)
+    + axis (push_in (scale_with w t Second) seconds (place_at w.a.places t) w.b.places s) ≡ axis (ordered_push w t s)
 split_push axis none w t firsts seconds s split =
     elim split [
-      | in_none e f silent ↦ no_part axis none _ _ _ _ _ _ (push_of w t s) e f silent.there
+      | in_none e f silent ↦ no_part axis none _ _ _ _ _ _ (ordered_push w t s) e f silent.there
       | in_firsts e f ordered species ↦
           first_part axis none _ _ _ _ _ _ (are_in_order w t s) (class_in w t s).scale e f ordered (by_class w t s First species)
       | in_seconds e f ordered species ↦
@@ -154,9 +154,9 @@ row_sum w t firsts seconds split =
     along : (axis : Push → ℕ) → axis no_push ≡ 0
         → (ring_sum (length w.b.places) (λ s. axis (push_in (scale_with w t First) firsts (place_at w.a.places t) w.b.places s))
         + ring_sum (length w.b.places) (λ s. axis (push_in (scale_with w t Second) seconds (place_at w.a.places t) w.b.places s))) % 2 ^ 32
-        ≡ ring_sum (length w.b.places) (λ s. axis (push_of w t s))
+        ≡ ring_sum (length w.b.places) (λ s. axis (ordered_push w t s))
     along axis none =
-        let both = sum_both (length w.b.places) _ _ (λ s. axis (push_of w t s))
+        let both = sum_both (length w.b.places) _ _ (λ s. axis (ordered_push w t s))
         (λ s h. split_push axis none w t firsts seconds s (split s h)) in
         omega (arith, both)
 

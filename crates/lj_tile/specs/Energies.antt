@@ -6,16 +6,13 @@ use Rattle.lj_ring.specs.declared.mixes.Class.{Class}
 use Rattle.lj_ring.specs.declared.mixes.Species.{Species}
 use Rattle.lj_ring.specs.declared.mixes.Species.TheVariants.{First, Second}
 use Rattle.lj_ring.specs.Mix.{class_of}
-use Rattle.lj_tile.specs.Pushes.{energy}
-use Rattle.lj_tile.specs.Species.{is_in}
-use Rattle.lj_tile.specs.Tiles.{place_at}
-use Rattle.lj_tile.specs.Task.{Task}
+use Rattle.lj_task.specs.Pushes.{energy}
+use Rattle.lj_task.specs.Species.{is_in}
+use Rattle.lj_task.specs.Tiles.{place_at}
+use Rattle.lj_task.specs.Task.{Task}
 use Rattle.lj_tile.specs.Rows.{energy_row}
 use Rattle.lj_tile.specs.Pairs.{first_of, second_of}
-
--- n or -n
-abbrev pub signed_number : Bool → ℕ → ℤ
-signed_number below n = if below then neg_ℤ (pos n) else pos n
+pub use Rattle.lj_fixed.specs.Decimal.{signed_number}
 
 -- the energy of a pair of one class
 abbrev pub pair_energy : Class → (a b : List Place) → ℕ → ℤ

@@ -2,7 +2,7 @@
 use Rattle.std.specs.Prelude.{ℕ, Bool, ◌^◌, ◌≡◌, slice_index, nat_le, if◌then◌else◌}
 use Rattle.lj_ring.specs.declared.coordinates.Place.{Place}
 use Rattle.lj_ring.specs.Ring.{ring_difference}
-use Rattle.lj_tile.specs.declared.pairs.Push.{Push}
+use Rattle.lj_task.specs.declared.pushes.Push.{Push}
 use Rattle.lj_tile.specs.declared.pair_lanes.Eight.{Eight}
 
 -- lane k has the differences of the coordinates of two places on the ring

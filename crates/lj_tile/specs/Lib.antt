@@ -1,17 +1,7 @@
-pub mod Species
-pub mod Pushes
-pub mod Block
-pub mod Tiles
-pub mod Task
-pub mod Frames
-pub mod SameTasks
-pub mod Blank
 pub mod Rows
 pub mod Pairs
 pub mod Lanes
-pub mod Results
 pub mod Grains
 pub mod Near
 pub mod Worked
-pub mod Limits
 pub mod Energies

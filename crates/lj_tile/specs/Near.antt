@@ -2,7 +2,7 @@
 use Rattle.std.specs.Prelude.{ℕ, Bool, ◌+◌, ◌*◌, ◌^◌, ◌≡◌, ◌<◌, ◌≤◌, false, List, length, slice_index}
 use Rattle.lj_ring.specs.declared.coordinates.Place.{Place}
 use Rattle.lj_ring.specs.Ring.{IsOnRing, place_at}
-use Rattle.lj_tile.specs.declared.blocks.TheConstants.{BLOCK}
+use Rattle.lj_task.specs.declared.blocks.TheConstants.{BLOCK}
 use Rattle.lj_tile.specs.declared.near.Bounds.{Bounds}
 use Rattle.lj_tile.specs.declared.near.Columns.{Columns}
 use Rattle.lj_tile.specs.declared.near.Lanes.{Lanes}

@@ -3,21 +3,21 @@ use Rattle.std.specs.Prelude.{ℕ, zero, suc, ◌+◌, ◌*◌, ◌/◌, ◌%◌
 use Rattle.std.specs.Prelude.{slice_index_or, if◌then◌else◌}
 use Rattle.lj_ring.specs.Scale.{Scale}
 use Rattle.lj_ring.specs.Ring.{IsOnRing}
-use Rattle.lj_tile.specs.declared.blocks.TheConstants.{BLOCK}
+use Rattle.lj_task.specs.declared.blocks.TheConstants.{BLOCK}
 use Rattle.lj_tile.specs.declared.near.Columns.{Columns}
 use Rattle.lj_tile.specs.declared.near_pairs.TheConstants.{FULL}
-use Rattle.lj_tile.specs.declared.pairs.Push.{Push}
-use Rattle.lj_tile.specs.Pushes.{no_push, sum_of_pushes, push}
+use Rattle.lj_task.specs.declared.pushes.Push.{Push}
+use Rattle.lj_task.specs.Pushes.{no_push, sum_of_pushes, push}
 use Rattle.std.specs.Int.{bit_at}
 use Rattle.lj_ring.specs.Mix.{class_of, can_interact}
 use Rattle.lj_tile.specs.Near.{HasColumns}
 use Rattle.lj_ring.specs.declared.mixes.Species.{Species}
-use Rattle.lj_tile.specs.Species.{is_in, species_at}
-use Rattle.lj_tile.specs.Task.{Task}
+use Rattle.lj_task.specs.Species.{is_in, species_at}
+use Rattle.lj_task.specs.Task.{Task}
 use Rattle.lj_tile.specs.Rows.{sum_on_first, push_back}
-use Rattle.lj_tile.specs.Tiles.{place_at}
+use Rattle.lj_task.specs.Tiles.{place_at}
 use Rattle.lj_ring.specs.declared.coordinates.Place.{Place}
-use Rattle.lj_tile.specs.declared.sums.ForceSums.{ForceSums}
+use Rattle.lj_task.specs.declared.force_sums.ForceSums.{ForceSums}
 
 -- the members of a set that are below n, in order
 unfoldable pub members : ℕ → ℕ → List ℕ

@@ -4,15 +4,15 @@ use Rattle.lj_ring.specs.Ring.{ring_sum, int_sum_below}
 use Rattle.lj_ring.specs.declared.mixes.Class.{Class}
 use Rattle.lj_ring.specs.declared.coordinates.Place.{Place}
 use Rattle.lj_ring.specs.Scale.{Scale}
-use Rattle.lj_tile.specs.declared.pairs.Push.{Push}
-use Rattle.lj_tile.specs.Pushes.{no_push}
-use Rattle.lj_tile.specs.Species.{is_in}
-use Rattle.lj_tile.specs.Tiles.{place_at, chosen_push, chosen_energy}
-use Rattle.lj_tile.specs.Task.{Task, are_in_order, class_in}
+use Rattle.lj_task.specs.declared.pushes.Push.{Push}
+use Rattle.lj_task.specs.Pushes.{no_push}
+use Rattle.lj_task.specs.Species.{is_in}
+use Rattle.lj_task.specs.Tiles.{place_at, chosen_push, chosen_energy}
+use Rattle.lj_task.specs.Task.{Task, are_in_order, class_in}
 
 -- the push by place s of the second block on place t of the first if the atom of s is the later one, else none
-abbrev pub push_of : Task → ℕ → ℕ → Push
-push_of w t s = chosen_push (class_in w t s).scale (are_in_order w t s) (place_at w.a.places t) (place_at w.b.places s)
+abbrev pub ordered_push : Task → ℕ → ℕ → Push
+ordered_push w t s = chosen_push (class_in w t s).scale (are_in_order w t s) (place_at w.a.places t) (place_at w.b.places s)
 
 -- the push by place t of the first block on place s of the second if the atom of s is the later one, else none
 abbrev pub push_back : Task → ℕ → ℕ → Push
@@ -21,9 +21,9 @@ push_back w t s = chosen_push (class_in w t s).scale (are_in_order w t s) (place
 -- the ring sum of the pushes on place t of the first block by the first n places of the second
 abbrev pub sum_on_first : Task → ℕ → ℕ → Push
 sum_on_first w t n = record {
-  x = ring_sum n (λ s. (push_of w t s).x);
-  y = ring_sum n (λ s. (push_of w t s).y);
-  z = ring_sum n (λ s. (push_of w t s).z);
+  x = ring_sum n (λ s. (ordered_push w t s).x);
+  y = ring_sum n (λ s. (ordered_push w t s).y);
+  z = ring_sum n (λ s. (ordered_push w t s).z);
 }
 
 -- the ring sum of the pushes on place s of the second block by the first n places of the first
@@ -40,7 +40,7 @@ energy_of w t s = chosen_energy (class_in w t s) (are_in_order w t s) (place_at 
 
 -- the push and the energy of places t and s are 0
 pub record IsSilent (w : Task) (t s : ℕ) : Type 0 where
-  pub there : push_of w t s ≡ no_push
+  pub there : ordered_push w t s ≡ no_push
   pub back : push_back w t s ≡ no_push
   pub energy : energy_of w t s ≡ pos 0
 

@@ -4,12 +4,12 @@ ghost use Rattle.lj_tile.specs.declared.near_pairs.TheConstants.{FULL};
 ghost use Rattle.lj_tile.specs.Pairs.{ArePairs};
 ghost use Rattle.lj_tile.specs.Energies.{list_energy};
 
-use crate::blocks::BLOCK;
 use crate::near_pairs::NearPairs;
 use crate::pair_lanes::energies;
 use crate::pair_sums::{apart, first_of, second_of};
 use lj_ring::{Class, Place, dist2};
 use lj_table::Table;
+use lj_task::BLOCK;
 
 /// Returns the sum of the energies of a list's pairs in whole eights, and drops these pairs: fewer than eight are left.
 pub(crate) fn energy_of_most(

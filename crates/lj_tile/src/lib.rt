@@ -1,23 +1,18 @@
-//! Pushes and energies of pairs of atoms, and the tasks into which a step is divided.
+//! How a task is computed: the pairs within reach are found in lanes, and their pushes or energies summed, eight at once.
 #![tactic(auto)]
 
-mod blocks;
+mod computing;
 mod energies;
 mod near;
 mod near_pairs;
 mod pair_lanes;
 mod pair_sums;
 mod pairs;
-mod results;
-mod shared_frames;
 mod sums;
-mod task_name;
-mod tasks;
 
-pub use blocks::{BLOCK, Block, BlockRef, MAX_BLOCKS};
-pub use lj_base::{Label, Name};
-pub use pairs::{Push, pair_push};
-pub use results::{Done, DoneRef, Sums, compute, compute_into, compute_sums};
-pub use shared_frames::SharedFrame;
-pub use task_name::{Kind, TaskName, TaskNameRef};
-pub use tasks::{Task, TaskRef};
+pub use computing::{TableKernel, compute, compute_into, compute_sums};
+pub use lj_task::{
+    BLOCK, Block, BlockRef, Done, DoneRef, ForceSums, Kernel, Kind, Label, MAX_BLOCKS, Name, Push,
+    SharedFrame, Sums, Task, TaskName, TaskNameRef, TaskRef,
+};
+pub use pairs::pair_push;

@@ -1,14 +1,15 @@
 //! A quick test of which places of a block may interact with a given place, in lanes.
 ghost use Rattle.std.specs.Prelude.{◌≡◌, ◌≤◌, ◌<◌, ◌+◌, ◌-◌, ◌*◌, ◌/◌, ◌%◌, ◌^◌, ℕ, Bool, List, length, slice_index};
-ghost use Rattle.std.specs.Prelude.{unsigned_abs, slice_index_or, min, max, pos, false};
+ghost use Rattle.std.specs.Prelude.{unsigned_abs, min, max, false};
 ghost use Rattle.std.specs.Int.{bit_at};
 ghost use Rattle.lj_ring.specs.declared.coordinates.Place.{Place};
 ghost use Rattle.lj_ring.specs.Ring.{squared_distance, image, place_at};
 ghost use Rattle.lj_ring.specs.Mix.{can_interact};
 ghost use Rattle.lj_tile.specs.Grains.{grains, grains_apart, square_unit};
 
-use crate::blocks::BLOCK;
+use lj_ring::lanes::{u16_lanes, u32_lanes};
 use lj_ring::{Mix, Place};
+use lj_task::BLOCK;
 use std::simd::prelude::*;
 
 /// The binary logarithm of the coarsest grain in ring units: 2^16 of these grains make the edge.
@@ -195,7 +196,7 @@ impl Lanes {
         let x = shifted(sixteen(&self.x, at), here.x, span);
         let y = shifted(sixteen(&self.y, at), here.y, span);
         let z = shifted(sixteen(&self.z, at), here.z, span);
-        less_than(x, 2 * span + 1) & less_than(y, 2 * span + 1) & less_than(z, 2 * span + 1)
+        lt_bitmask(x, 2 * span + 1) & lt_bitmask(y, 2 * span + 1) & lt_bitmask(z, 2 * span + 1)
     }
 
     /// Returns the bounds of the places, which are in coarsest grains.
@@ -316,7 +317,7 @@ fn coarse_squares(there: u16x16, here: u32, grain: u32) -> u16x16
         slice_index result k * square_unit grain < size * size + square_unit grain }
     ensures small { (k : ℕ) → k < 16 → slice_index result k ≤ 2 ^ 14 }
 {
-    square_units(differences(there, splat(in_grains(here, grain))))
+    square_units(u16_lanes::sub(there, u16_lanes::splat(in_grains(here, grain))))
 }
 
 /// Returns the squares of the distances of coordinates `here`, given in coarsest grains, from the span, in whole units
@@ -329,9 +330,9 @@ fn outside_squares(here: u16x16, interval: Interval) -> u16x16
         slice_index result k * square_unit 16 < size * size + square_unit 16 }
     ensures small { (k : ℕ) → k < 16 → slice_index result k ≤ 2 ^ 14 }
 {
-    let apart = differences(here, splat(interval.middle));
-    let length = lesser(apart, differences(splat(0), apart));
-    square_units(less(length, splat(interval.half)))
+    let apart = u16_lanes::sub(here, u16_lanes::splat(interval.middle));
+    let length = u16_lanes::min(apart, u16_lanes::sub(u16_lanes::splat(0), apart));
+    square_units(u16_lanes::saturating_sub(length, u16_lanes::splat(interval.half)))
 }
 
 /// Returns the span of coordinates in grains, round the ring: from the least to the greatest image from the first one.
@@ -340,12 +341,13 @@ fn interval_over(grains: &[u16; BLOCK]) -> Interval
     ensures { (k : ℕ) → k < BLOCK → grains_apart (slice_index grains.now k) result.middle ≤ result.half }
 {
     let start = grains[0].wrapping_sub(1 << 15);
-    let a = differences(sixteen(grains, 0), splat(start));
-    let b = differences(sixteen(grains, 16), splat(start));
-    let c = differences(sixteen(grains, 32), splat(start));
-    let d = differences(sixteen(grains, 48), splat(start));
-    let least = least(lesser(lesser(a, b), lesser(c, d)));
-    let greatest = greatest(greater(greater(a, b), greater(c, d)));
+    let starts = u16_lanes::splat(start);
+    let a = u16_lanes::sub(sixteen(grains, 0), starts);
+    let b = u16_lanes::sub(sixteen(grains, 16), starts);
+    let c = u16_lanes::sub(sixteen(grains, 32), starts);
+    let d = u16_lanes::sub(sixteen(grains, 48), starts);
+    let least = reduce_min(u16_lanes::min(u16_lanes::min(a, b), u16_lanes::min(c, d)));
+    let greatest = reduce_max(u16_lanes::max(u16_lanes::max(a, b), u16_lanes::max(c, d)));
     let half = greatest.saturating_sub(least) / 2 + 1;
     Interval {
         middle: start.wrapping_add(least).wrapping_add(half),
@@ -361,22 +363,8 @@ fn shifted(there: u16x16, here: u32, span: u16) -> u16x16
     ensures { (k c : ℕ) → k < 16 → c < 2 ^ 32 → slice_index there k ≡ grains 16 c
         → 2 * span < slice_index result k → span * 2 ^ 16 ≤ unsigned_abs (image here c) }
 {
-    raised(differences(there, splat(in_grains(here, COARSEST))), span)
-}
-
-#[inline(always)]
-fn splat(number: u16) -> u16x16
-    ensures { (k : ℕ) → k < 16 → slice_index result k ≡ number }
-{
-    u16x16::splat(number)
-}
-
-#[inline(always)]
-fn differences(a: u16x16, b: u16x16) -> u16x16
-    ensures { (k : ℕ) → k < 16
-        → slice_index result k ≡ (slice_index a k + (2 ^ 16 - slice_index b k)) % 2 ^ 16 }
-{
-    a - b
+    let here = u16_lanes::splat(in_grains(here, COARSEST));
+    u16_lanes::add(u16_lanes::sub(there, here), u16_lanes::splat(span))
 }
 
 /// Returns the squares of differences in grains, the shorter way round, in whole units of 2^16 square grains. LLVM
@@ -386,59 +374,18 @@ fn square_units(v: u16x16) -> u16x16
     ensures { (k : ℕ) → k < 16 → let size = min (slice_index v k) (2 ^ 16 - slice_index v k) in
         slice_index result k ≡ size * size / 2 ^ 16 }
 {
-    narrowed(shift_by_16(squares(signed(v))))
+    let sizes = sign_extended(v);
+    u32_lanes::cast_u16(u32_lanes::shr(u32_lanes::mul(sizes, sizes), 16))
 }
 
 /// Returns the lanes as signed numbers, modulo 2^32.
 #[inline(always)]
-fn signed(v: u16x16) -> u32x16
+fn sign_extended(v: u16x16) -> u32x16
     ensures { (k : ℕ) → k < 16 →
         slice_index result k ≡ ((slice_index v k + 2 ^ 15) % 2 ^ 16 + (2 ^ 32 - 2 ^ 15)) % 2 ^ 32 }
 {
-    less_half(widened(raised(v, 1 << 15)))
-}
-
-#[inline(always)]
-fn raised(v: u16x16, by: u16) -> u16x16
-    ensures { (k : ℕ) → k < 16 → slice_index result k ≡ (slice_index v k + by) % 2 ^ 16 }
-{
-    v + u16x16::splat(by)
-}
-
-#[inline(always)]
-fn widened(v: u16x16) -> u32x16
-    ensures { (k : ℕ) → k < 16 → slice_index result k ≡ slice_index v k }
-{
-    v.cast::<u32>()
-}
-
-#[inline(always)]
-fn less_half(v: u32x16) -> u32x16
-    ensures { (k : ℕ) → k < 16 → slice_index result k ≡ (slice_index v k + (2 ^ 32 - 2 ^ 15)) % 2 ^ 32 }
-{
-    v - u32x16::splat(1 << 15)
-}
-
-#[inline(always)]
-fn squares(v: u32x16) -> u32x16
-    ensures { (k : ℕ) → k < 16 → slice_index result k ≡ slice_index v k * slice_index v k % 2 ^ 32 }
-{
-    v * v
-}
-
-#[inline(always)]
-fn shift_by_16(v: u32x16) -> u32x16
-    ensures { (k : ℕ) → k < 16 → slice_index result k ≡ slice_index v k / 2 ^ 16 }
-{
-    v >> u32x16::splat(16)
-}
-
-#[inline(always)]
-fn narrowed(v: u32x16) -> u16x16
-    requires { (k : ℕ) → k < 16 → slice_index v k < 2 ^ 16 }
-    ensures { (k : ℕ) → k < 16 → slice_index result k ≡ slice_index v k }
-{
-    v.cast::<u16>()
+    let turned = u16_lanes::cast_u32(u16_lanes::add(v, u16_lanes::splat(1 << 15)));
+    u32_lanes::sub(turned, u32_lanes::splat(1 << 15))
 }
 
 /// Sets bit k if the sum of lanes k is below `reach`: if lane k of `z` is less than `reach` minus the others. Signed
@@ -450,8 +397,8 @@ fn below(x: u16x16, y: u16x16, z: u16x16, reach: u16) -> u64
     ensures { (k : ℕ) → k < 16 → bit_at result k ≡ 0
         → reach ≤ slice_index x k + slice_index y k + slice_index z k }
 {
-    with_sign(left(reach, x, y))
-        .simd_gt(with_sign(z))
+    u16_lanes::cast_i16(left(reach, x, y))
+        .simd_gt(u16_lanes::cast_i16(z))
         .to_bitmask()
 }
 
@@ -460,27 +407,12 @@ fn below(x: u16x16, y: u16x16, z: u16x16, reach: u16) -> u64
 fn left(reach: u16, x: u16x16, y: u16x16) -> u16x16
     ensures { (k : ℕ) → k < 16 → slice_index result k ≡ reach - slice_index x k - slice_index y k }
 {
-    less(less(splat(reach), x), y)
-}
-
-#[inline(always)]
-fn less(v: u16x16, by: u16x16) -> u16x16
-    ensures { (k : ℕ) → k < 16 → slice_index result k ≡ slice_index v k - slice_index by k }
-{
-    v.saturating_sub(by)
-}
-
-#[inline(always)]
-fn with_sign(v: u16x16) -> i16x16
-    requires { (k : ℕ) → k < 16 → slice_index v k < 2 ^ 15 }
-    ensures { (k : ℕ) → k < 16 → slice_index_or result k (pos 0) ≡ pos (slice_index v k) }
-{
-    v.cast::<i16>()
+    u16_lanes::saturating_sub(u16_lanes::saturating_sub(u16_lanes::splat(reach), x), y)
 }
 
 /// Sets bit k if lane k is below `bound`.
 #[inline(always)]
-fn less_than(v: u16x16, bound: u16) -> u64
+fn lt_bitmask(v: u16x16, bound: u16) -> u64
     ensures { (k : ℕ) → k < 16 → bit_at result k ≡ 0 → bound ≤ slice_index v k }
 {
     v.simd_lt(u16x16::splat(bound)).to_bitmask()
@@ -507,51 +439,37 @@ fn joined(first: u64, second: u64, third: u64, fourth: u64) -> u64
 }
 
 #[inline(always)]
-fn lesser(a: u16x16, b: u16x16) -> u16x16
-    ensures { (k : ℕ) → k < 16 → slice_index result k ≡ min (slice_index a k) (slice_index b k) }
-{
-    a.simd_min(b)
-}
-
-#[inline(always)]
-fn greater(a: u16x16, b: u16x16) -> u16x16
-    ensures { (k : ℕ) → k < 16 → slice_index result k ≡ max (slice_index a k) (slice_index b k) }
-{
-    a.simd_max(b)
-}
-
-#[inline(always)]
-fn least(v: u16x16) -> u16
+fn reduce_min(v: u16x16) -> u16
     ensures { (k : ℕ) → k < 16 → result ≤ slice_index v k }
 {
-    let pair = lesser_of_4(lesser_of_8(lesser_of_16(v)));
+    let pair = min_of_4(min_of_8(min_of_16(v)));
     pair[0].min(pair[1])
 }
 
 #[inline(always)]
-fn greatest(v: u16x16) -> u16
+fn reduce_max(v: u16x16) -> u16
     ensures { (k : ℕ) → k < 16 → slice_index v k ≤ result }
 {
-    u16::MAX - least(differences(splat(u16::MAX), v))
+    u16::MAX - reduce_min(u16_lanes::sub(u16_lanes::splat(u16::MAX), v))
 }
 
 /// Returns the lesser of lanes k and k + 8.
 #[inline(always)]
-fn lesser_of_16(v: u16x16) -> u16x8
+fn min_of_16(v: u16x16) -> u16x8
     ensures { (k : ℕ) → k < 16 → slice_index result (k % 8) ≤ slice_index v k }
 {
     v.extract::<0, 8>().simd_min(v.extract::<8, 8>())
 }
 
 #[inline(always)]
-fn lesser_of_8(v: u16x8) -> u16x4
+fn min_of_8(v: u16x8) -> u16x4
     ensures { (k : ℕ) → k < 8 → slice_index result (k % 4) ≤ slice_index v k }
 {
     v.extract::<0, 4>().simd_min(v.extract::<4, 4>())
 }
 
 #[inline(always)]
-fn lesser_of_4(v: u16x4) -> u16x2
+fn min_of_4(v: u16x4) -> u16x2
     ensures { (k : ℕ) → k < 4 → slice_index result (k % 2) ≤ slice_index v k }
 {
     v.extract::<0, 2>().simd_min(v.extract::<2, 2>())

@@ -4,7 +4,7 @@ ghost use Rattle.std.specs.Prelude.{bit_and};
 ghost use Rattle.std.specs.Int.{trailing_zeros, w64};
 ghost use Rattle.lj_tile.specs.Pairs.{row_pairs};
 
-use crate::blocks::BLOCK;
+use lj_task::BLOCK;
 use std::marker::Model;
 use std::simd::prelude::*;
 
@@ -30,7 +30,7 @@ impl Model for NearPairs {
 
     ghost use Rattle.std.specs.Prelude.{◌<◌, ◌+◌};
     ghost use Rattle.lj_tile.specs.declared.near_pairs.TheConstants.{FULL};
-    ghost use Rattle.lj_tile.specs.declared.blocks.TheConstants.{BLOCK};
+    ghost use Rattle.lj_task.specs.declared.blocks.TheConstants.{BLOCK};
 
     ghost invariant = { λ n. n.count < FULL + BLOCK };
 }

@@ -1,12 +1,13 @@
 //! Pushes and energies of eight pairs at a time, in lanes.
-ghost use Rattle.std.specs.Prelude.{◌≡◌, ◌≤◌, ◌<◌, ◌+◌, ◌-◌, ◌*◌, ◌/◌, ◌%◌, ◌^◌, ℕ, min, nat_lt, unsigned_abs, slice_index, slice_index_or, pos};
+ghost use Rattle.std.specs.Prelude.{◌≡◌, ◌≤◌, ◌<◌, ◌*◌, ◌/◌, ◌%◌, ◌^◌, ℕ, min, nat_lt, unsigned_abs, slice_index, slice_index_or, pos};
 ghost use Rattle.std.specs.Int.{cast_signed, w32};
 ghost use Rattle.lj_ring.specs.declared.coordinates.Place.{Place};
 ghost use Rattle.lj_ring.specs.Ring.{ring_difference};
-ghost use Rattle.lj_tile.specs.Pushes.{push, energy};
+ghost use Rattle.lj_task.specs.Pushes.{push, energy};
 ghost use Rattle.lj_tile.specs.Lanes.{AreApartBy, IsPush, signed_push};
 ghost use Rattle.lj_tile.specs.Energies.{signed_number};
 
+use lj_ring::lanes::{u32_lanes, u64_lanes};
 use lj_ring::{Class, Scale, Weight};
 use lj_table::{LAST_APART, LAST_POSITIVE, Table};
 use std::simd::prelude::*;
@@ -33,9 +34,9 @@ pub(crate) fn pushes(images: &Eight, scale: &Scale, table: &Table) -> Eight
     let bins = scale.bins(x, y, z);
     let factors = multiplied(table.push_sizes(bins), scale.step_factor());
     Eight {
-        x: signed(along(factors, x), images.x, bins),
-        y: signed(along(factors, y), images.y, bins),
-        z: signed(along(factors, z), images.z, bins),
+        x: signed_pushes(along(factors, x), images.x, bins),
+        y: signed_pushes(along(factors, y), images.y, bins),
+        z: signed_pushes(along(factors, z), images.z, bins),
     }
 }
 
@@ -50,7 +51,7 @@ pub(crate) fn energies(images: &Eight, class: &Class, table: &Table) -> [i64; 8]
     let bins = class
         .scale
         .bins(lengths(images.x), lengths(images.y), lengths(images.z));
-    with_signs(weighted(table.energy_sizes(bins), class.weight), bins)
+    signed_energies(weighted(table.energy_sizes(bins), class.weight), bins)
 }
 
 /// Multiplies sizes of energies by a weight in 256ths, and rounds down.
@@ -60,12 +61,12 @@ fn weighted(sizes: u64x8, weight: Weight) -> u64x8
     ensures value { (k : ℕ) → k < 8 → slice_index result k ≡ slice_index sizes k * weight / 256 }
     ensures size { (k : ℕ) → k < 8 → slice_index result k < 2 ^ 45 }
 {
-    in_wholes(multiplied(sizes, weight.parts()))
+    u64_lanes::shr(multiplied(sizes, weight.parts()), 8)
 }
 
 /// Returns the energies of these sizes, negative in the bins behind [`LAST_POSITIVE`].
 #[inline(always)]
-fn with_signs(sizes: u64x8, bins: u32x8) -> [i64; 8]
+fn signed_energies(sizes: u64x8, bins: u32x8) -> [i64; 8]
     requires { (k : ℕ) → k < 8 → slice_index sizes k < 2 ^ 45 }
     ensures { (k : ℕ) → k < 8 → slice_index_or result k (pos 0)
         ≡ signed_number (nat_lt LAST_POSITIVE (slice_index bins k)) (slice_index sizes k) }
@@ -73,14 +74,14 @@ fn with_signs(sizes: u64x8, bins: u32x8) -> [i64; 8]
     let (sizes, bins) = (sizes.to_array(), bins.to_array());
     let mut energies = [0; 8];
     for k in 0..8 {
-        energies[k] = with_sign(sizes[k], bins[k] > LAST_POSITIVE);
+        energies[k] = signed_energy(sizes[k], bins[k] > LAST_POSITIVE);
     }
     energies
 }
 
 /// Returns the number of this size, negative or not.
 #[inline(always)]
-fn with_sign(size: u64, negative: bool) -> i64
+fn signed_energy(size: u64, negative: bool) -> i64
     requires { size < 2 ^ 45 }
     ensures { result ≡ signed_number negative size }
 {
@@ -94,7 +95,7 @@ fn lengths(images: u32x8) -> u32x8
     ensures { (k : ℕ) → k < 8
         → slice_index result k ≡ unsigned_abs (cast_signed w32 (slice_index images k)) }
 {
-    lesser(images, opposites(images))
+    u32_lanes::min(images, opposites(images))
 }
 
 /// Multiplies numbers below 2^37 by the step factor, through the products of their halves.
@@ -105,11 +106,10 @@ fn multiplied(sizes: u64x8, step_factor: u32) -> u64x8
     ensures value { (k : ℕ) → k < 8 → slice_index result k ≡ slice_index sizes k * step_factor }
     ensures size { (k : ℕ) → k < 8 → slice_index result k < 2 ^ 61 }
 {
-    let step_factor = low(splat(u64::from(step_factor)));
-    sums(
-        products(low(sizes), step_factor),
-        raised(products(high(sizes), step_factor)),
-    )
+    let step_factor = u64_lanes::low_half(u64_lanes::splat(u64::from(step_factor)));
+    let lower = u64_lanes::mul(u64_lanes::low_half(sizes), step_factor);
+    let upper = u64_lanes::mul(u64_lanes::high_half(sizes), step_factor);
+    u64_lanes::add(lower, u64_lanes::shl(upper, 32))
 }
 
 /// Returns `factor * length / 2^56`, modulo 2^32.
@@ -119,18 +119,17 @@ fn along(factors: u64x8, lengths: u32x8) -> u32x8
     ensures { (k : ℕ) → k < 8
         → slice_index result k ≡ slice_index factors k * slice_index lengths k / 2 ^ 56 % 2 ^ 32 }
 {
-    let lengths = widened(lengths);
-    let product = sums(
-        products(high(factors), lengths),
-        high(products(low(factors), lengths)),
-    );
-    narrowed(low(lowered(product)))
+    let lengths = u32_lanes::cast_u64(lengths);
+    let upper = u64_lanes::mul(u64_lanes::high_half(factors), lengths);
+    let lower = u64_lanes::mul(u64_lanes::low_half(factors), lengths);
+    let product = u64_lanes::add(upper, u64_lanes::high_half(lower));
+    u64_lanes::cast_u32(u64_lanes::low_half(u64_lanes::shr(product, 24)))
 }
 
 /// Returns the pushes of these sizes: along the images where they are repulsive, and against them where they are
 /// attractive.
 #[inline(always)]
-fn signed(sizes: u32x8, images: u32x8, bins: u32x8) -> u32x8
+fn signed_pushes(sizes: u32x8, images: u32x8, bins: u32x8) -> u32x8
     ensures { (k : ℕ) → k < 8 → slice_index result k
         ≡ signed_push (nat_lt LAST_APART (slice_index bins k)) (slice_index images k) (slice_index sizes k) }
 {
@@ -144,88 +143,5 @@ fn signed(sizes: u32x8, images: u32x8, bins: u32x8) -> u32x8
 fn opposites(v: u32x8) -> u32x8
     ensures { (k : ℕ) → k < 8 → slice_index result k ≡ ring_difference 0 (slice_index v k) }
 {
-    u32x8::splat(0) - v
-}
-
-#[inline(always)]
-fn lesser(a: u32x8, b: u32x8) -> u32x8
-    ensures { (k : ℕ) → k < 8 → slice_index result k ≡ min (slice_index a k) (slice_index b k) }
-{
-    a.simd_min(b)
-}
-
-#[inline(always)]
-fn splat(number: u64) -> u64x8
-    ensures { (k : ℕ) → k < 8 → slice_index result k ≡ number }
-{
-    u64x8::splat(number)
-}
-
-#[inline(always)]
-fn sums(a: u64x8, b: u64x8) -> u64x8
-    ensures { (k : ℕ) → k < 8 → slice_index result k ≡ (slice_index a k + slice_index b k) % 2 ^ 64 }
-{
-    a + b
-}
-
-#[inline(always)]
-fn products(a: u64x8, b: u64x8) -> u64x8
-    ensures { (k : ℕ) → k < 8 → slice_index result k ≡ slice_index a k * slice_index b k % 2 ^ 64 }
-{
-    a * b
-}
-
-/// Returns the lower 32 bits of each lane.
-#[inline(always)]
-fn low(v: u64x8) -> u64x8
-    ensures { (k : ℕ) → k < 8 → slice_index result k ≡ slice_index v k % 2 ^ 32 }
-{
-    v & u64x8::splat(0xffff_ffff)
-}
-
-/// Returns the upper 32 bits of each lane.
-#[inline(always)]
-fn high(v: u64x8) -> u64x8
-    ensures { (k : ℕ) → k < 8 → slice_index result k ≡ slice_index v k / 2 ^ 32 }
-{
-    v >> u64x8::splat(32)
-}
-
-/// Moves the lower 32 bits of each lane up.
-#[inline(always)]
-fn raised(v: u64x8) -> u64x8
-    ensures { (k : ℕ) → k < 8 → slice_index result k ≡ slice_index v k * 2 ^ 32 % 2 ^ 64 }
-{
-    v << u64x8::splat(32)
-}
-
-#[inline(always)]
-fn lowered(v: u64x8) -> u64x8
-    ensures { (k : ℕ) → k < 8 → slice_index result k ≡ slice_index v k / 2 ^ 24 }
-{
-    v >> u64x8::splat(24)
-}
-
-/// Divides by 256, rounded down.
-#[inline(always)]
-fn in_wholes(v: u64x8) -> u64x8
-    ensures { (k : ℕ) → k < 8 → slice_index result k ≡ slice_index v k / 2 ^ 8 }
-{
-    v >> u64x8::splat(8)
-}
-
-#[inline(always)]
-fn widened(v: u32x8) -> u64x8
-    ensures value { (k : ℕ) → k < 8 → slice_index result k ≡ slice_index v k }
-    ensures small { (k : ℕ) → k < 8 → slice_index v k < 2 ^ 32 }
-{
-    v.cast::<u64>()
-}
-
-#[inline(always)]
-fn narrowed(v: u64x8) -> u32x8
-    requires { (k : ℕ) → k < 8 → slice_index v k < 2 ^ 32 }
-    ensures { (k : ℕ) → k < 8 → slice_index result k ≡ slice_index v k }
-{
-    v.cast::<u32>()
+    u32_lanes::sub(u32_lanes::splat(0), v)
 }

@@ -4,19 +4,18 @@ ghost use Rattle.lj_ring.specs.Ring.{IsOnRing};
 ghost use Rattle.lj_ring.specs.Scale.{IsScale};
 ghost use Rattle.lj_tile.specs.declared.near_pairs.TheConstants.{FULL};
 ghost use Rattle.lj_tile.specs.Lanes.{AreApartBy};
-ghost use Rattle.lj_tile.specs.Pushes as pushes_of;
-ghost use Rattle.lj_tile.specs.Pushes.{no_push, sum_of_pushes, opposite_push};
+ghost use Rattle.lj_task.specs.Pushes as pushes_of;
+ghost use Rattle.lj_task.specs.Pushes.{no_push, sum_of_pushes, opposite_push};
 ghost use Rattle.lj_tile.specs.Pairs as pairs_of;
 ghost use Rattle.lj_tile.specs.Pairs.{ArePairs, AreOnRing, HavePushes, HaveTotals};
-ghost use Rattle.lj_tile.specs.Tiles.{place_at};
+ghost use Rattle.lj_task.specs.Tiles.{place_at};
 
-use crate::blocks::BLOCK;
 use crate::near_pairs::NearPairs;
 use crate::pair_lanes::{Eight, pushes};
-use crate::pairs::{Push, pair_push};
-use crate::sums::ForceSums;
+use crate::pairs::pair_push;
 use lj_ring::{Place, Scale};
 use lj_table::Table;
+use lj_task::{BLOCK, ForceSums, Push};
 use std::simd::prelude::*;
 
 /// Adds the pushes of a list's pairs in whole eights to the sums of their places, and drops these pairs: fewer than
@@ -57,6 +56,7 @@ pub(crate) fn add_all(
     requires pairs { ArePairs first.now second.now pairs.now }
     ensures { HavePushes scale.now first.now second.now pairs.now sums.old sums.new }
 {
+    let _room = sums.room();
     let done = add_eights(pairs, first, second, scale, table, sums);
     for i in done..pairs.len() {
         let pair = pairs.at(i);
@@ -119,6 +119,7 @@ fn add_eight(
     let (x, y, z) = (eight.x.to_array(), eight.y.to_array(), eight.z.to_array());
     // Reading the step factor shows that no pair that interacts lies half the box apart: opposite pushes are exact.
     let _step_factor = scale.step_factor();
+    let _room = sums.room();
     for k in 0..8 {
         let push = Push {
             x: x[k],

@@ -1,84 +1,26 @@
 //! The sums of a task, of pushes and of energies.
 ghost use Rattle.std.specs.Prelude.{◌≡◌, ◌≤◌, ◌<◌, ◌+◌, ◌*◌, ◌^◌, ◌&&◌, ◌++◌, ◌+ℤ◌, ℕ, length, slice_index_or};
-ghost use Rattle.std.specs.Prelude.{unsigned_abs, nat_lt, take, replicate};
+ghost use Rattle.std.specs.Prelude.{unsigned_abs, nat_lt};
 ghost use Rattle.std.specs.Int.{bit_at};
 ghost use Rattle.lj_ring.specs.Ring.{IsOnRing};
-ghost use Rattle.lj_tile.specs.Pushes.{no_push, sum_of_pushes};
-ghost use Rattle.lj_tile.specs.Species as species;
-ghost use Rattle.lj_tile.specs.Species.{is_in};
-ghost use Rattle.lj_tile.specs.Tiles.{place_at};
-ghost use Rattle.lj_tile.specs.Task.{task_force, task_second, task_energy, are_in_order};
+ghost use Rattle.lj_task.specs.Pushes.{no_push, sum_of_pushes};
+ghost use Rattle.lj_task.specs.Species as species;
+ghost use Rattle.lj_task.specs.Species.{is_in};
+ghost use Rattle.lj_task.specs.Tiles.{place_at};
+ghost use Rattle.lj_task.specs.Task.{task_force, task_second, task_energy, are_in_order};
 ghost use Rattle.lj_tile.specs.Rows.{sum_on_first, sum_on_second, energy_row, IsSilent};
 ghost use Rattle.lj_tile.specs.Pairs.{row_pairs, scale_between, AreColumnsOf, AreFewPairs, AreOnRing, AreRowsOf};
 ghost use Rattle.lj_tile.specs.Pairs.{HaveRow, HaveRows, HaveTotals, IsPushOnRing};
 ghost use Rattle.lj_tile.specs.Energies.{energy_with_both, list_energy, rows_energy};
 ghost use Rattle.lj_ring.specs.declared.mixes.Species.TheVariants as variants;
 
-use crate::blocks::BLOCK;
 use crate::energies::{energy_of_all, energy_of_most};
 use crate::near::Columns;
 use crate::near_pairs::{FULL, NearPairs};
 use crate::pair_sums::{add_all, work_off};
-use crate::pairs::Push;
-use crate::tasks::TaskRef;
 use lj_ring::{Class, Place, Scale, Species};
 use lj_table::Table;
-
-/// The sums of the pushes on the places of the first block of a task, and on those of the second.
-#[derive(Clone, Copy, Debug)]
-pub(crate) struct ForceSums {
-    pub(crate) first: [Push; BLOCK],
-    pub(crate) second: [Push; BLOCK],
-}
-
-impl ForceSums {
-    /// Makes sums without a push on any place.
-    pub(crate) fn none() -> ForceSums
-        ensures first { result.first ≡ replicate BLOCK no_push }
-        ensures second { result.second ≡ replicate BLOCK no_push }
-    {
-        ForceSums {
-            first: [Push::NONE; BLOCK],
-            second: [Push::NONE; BLOCK],
-        }
-    }
-
-    /// Returns the sum of the pushes on place `t` of the first block.
-    pub(crate) fn first_at(&self, t: usize) -> Push
-        requires { t < BLOCK }
-        ensures { result ≡ slice_index_or self.now.first t no_push }
-    {
-        self.first[t]
-    }
-
-    /// Returns the sum of the pushes on place `s` of the second block.
-    pub(crate) fn second_at(&self, s: usize) -> Push
-        requires { s < BLOCK }
-        ensures { result ≡ slice_index_or self.now.second s no_push }
-    {
-        self.second[s]
-    }
-
-    /// Returns the sums for the first `count` places of the first block.
-    #[inline]
-    pub(crate) fn first_sums(&self, count: usize) -> &[Push]
-        requires { count ≤ BLOCK }
-        ensures count { length result.now ≡ count }
-        ensures value { result.now ≡ take count self.now.first }
-    {
-        &self.first[..count]
-    }
-
-    /// Returns the sums for the first `count` places of the second block.
-    #[inline]
-    pub(crate) fn second_sums(&self, count: usize) -> &[Push]
-        requires { count ≤ BLOCK }
-        ensures count { length result.now ≡ count }
-        ensures value { result.now ≡ take count self.now.second }
-    {
-        &self.second[..count]
-    }
-}
+use lj_task::{BLOCK, ForceSums, Push, TaskRef};
 
 /// Sums the pushes on the places of both blocks, in place of older sums. If the two are one block, the first sums have
 /// it all.
@@ -101,6 +43,7 @@ fn join(sums: &mut ForceSums)
         ≡ sum_of_pushes (slice_index_or sums.old.first t no_push) (slice_index_or sums.old.second t no_push) }
     ensures second { sums.new.second ≡ sums.old.second }
 {
+    let _room = sums.room();
     for t in 0..BLOCK {
         sums.first[t] = sums.first[t].plus(sums.second[t]);
     }

@@ -3,7 +3,7 @@ use Rattle.std.proofs.Common.{ℕ, List, [], ◌∷◌, Option, sym, subst}
 use Rattle.lj_wire.specs.declared.hello.Hello.TheVariants.{Asked}
 use Rattle.lj_wire.specs.Greetings.{Greets}
 use Rattle.lj_wire.specs.LineReader.{LineReader}
-use Rattle.lj_access.specs.Rows.{Ticket}
+use Rattle.lj_access.specs.UserRows.{Ticket}
 use Rattle.lj_visit.specs.declared.visiting.Visited.{Visited}
 use Rattle.lj_visit.specs.declared.visiting.Visited.TheVariants.{NoLine, Denied, ShutOut, NotWelcomed, Attended}
 use Rattle.lj_visit.specs.Events.{Event, Happens}

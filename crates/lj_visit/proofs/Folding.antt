@@ -7,14 +7,14 @@ use Rattle.lj_session.specs.Users.{User}
 use Rattle.lj_session.specs.UserState.{UserState, user_of}
 use Rattle.lj_wire.specs.declared.item.Item.{Item}
 use Rattle.lj_wire.specs.Streams.{AreMarks, Dialogue}
-use Rattle.lj_wire.specs.Texts.{is_memory}
+use Rattle.lj_wire.specs.ReplyTexts.{is_memory}
 use Rattle.lj_wire.specs.Told.{item_text, texts, last_user}
 use Rattle.lj_wire.proofs.Progressing.{added, marks-length, texts-length}
 use Rattle.lj_engine.specs.declared.served.Served.{Served}
 use Rattle.lj_engine.specs.declared.served.Served.TheVariants.{End, Bye, Ended, ReadFault, WriteFault, PoolClosed, TooManyStrays}
 use Rattle.lj_end.specs.Seen.{Seen, nothing_seen}
 use Rattle.lj_engine.specs.Served.{BreaksOff, IsServed}
-use Rattle.lj_visit.specs.VisitLaws.{Attendance, IsAttendance, IsWhole, IsBroken, AnswersItems, AnswersAll, Follow, NoneFails, all_written}
+use Rattle.lj_visit.specs.VisitLaws.{Attendance, IsAttendance, IsVisitDialogue, IsBroken, AnswersItems, AnswersVisits, Follow, NoneFails, all_written}
 
 texts-join : (user : User) (items others : List Item) (marks more : List Bool) → length marks ≡ length items
     → texts user (items ++ others) (marks ++ more) ≡ texts user items marks ++ texts (last_user user items marks) others more
@@ -50,7 +50,7 @@ pub record Fold (visit : Attendance) (items : List Item) (marks : List Bool) : T
 abbrev pub IsFolded : Attendance → Type 0
 IsFolded visit = (items : List Item) × (marks : List Bool) × Fold visit items marks
 
-fold-whole : (visit : Attendance) → visit.served ≢ WriteFault → IsWhole visit → IsFolded visit
+fold-whole : (visit : Attendance) → visit.served ≢ WriteFault → IsVisitDialogue visit → IsFolded visit
 fold-whole visit unbroken whole = (
   whole.items,
   whole.marks,
@@ -96,11 +96,11 @@ answered_by TooManyStrays state read written seen next is = absurd (let given : 
 
 -- each visit is a whole dialogue, or one that is broken off
 pub answered : (visit : Attendance) → IsAttendance visit
-    → (visit.served ≢ WriteFault × IsWhole visit) ⊎ ((visit.served ≡ WriteFault) × IsBroken visit)
+    → (visit.served ≢ WriteFault × IsVisitDialogue visit) ⊎ ((visit.served ≡ WriteFault) × IsBroken visit)
 answered visit is = answered_by visit.served visit.state visit.read visit.written visit.seen visit.next is
 
 folded_by : (visit : Attendance)
-    → (visit.served ≢ WriteFault × IsWhole visit) ⊎ ((visit.served ≡ WriteFault) × IsBroken visit) → IsFolded visit
+    → (visit.served ≢ WriteFault × IsVisitDialogue visit) ⊎ ((visit.served ≡ WriteFault) × IsBroken visit) → IsFolded visit
 folded_by visit (inl whole) = fold-whole visit whole.0 whole.1
 folded_by visit (inr broken) = fold-broken visit broken.0 broken.1
 
@@ -108,7 +108,7 @@ folded_by visit (inr broken) = fold-broken visit broken.0 broken.1
 pub record Folds (state : UserState) (visits : List Attendance) (last : UserState) : Type 0 where
   pub items : List Item
   pub marks : List Bool
-  pub answers : AnswersAll visits items marks
+  pub answers : AnswersVisits visits items marks
   pub are_marks : AreMarks marks (texts (user_of state) items marks)
   pub last_is : user_of last ≡ last_user (user_of state) items marks
   pub written_is : NoneFails visits → all_written visits ≡ concat (texts (user_of state) items marks)

@@ -2,9 +2,9 @@
 -- made.
 use Rattle.std.specs.Prelude.{◌≡◌, ℕ, List, ◌++◌, Option, Some, None, ⊤}
 use Rattle.lj_session.specs.UserState.{UserState}
-use Rattle.lj_access.specs.Rows.{Ticket}
+use Rattle.lj_access.specs.UserRows.{Ticket}
 use Rattle.lj_end.specs.Seen.{Seen}
-use Rattle.lj_visit.specs.declared.backend.Shut.{Shut}
+use Rattle.lj_visit.specs.declared.shut.Shut.{Shut}
 
 -- A ticket is granted to a name and a token, or denied; it enters, and its user's state is lent to it, or it does not. An end is
 -- made for a user; later it is taken back, with what it has seen and how often it was asked for others, and what the pool has of

@@ -1,3 +1,4 @@
+pub mod Lent
 pub mod Events
 pub mod Visits
 pub mod VisitLaws

@@ -26,8 +26,8 @@ abbrev pub IsAttendance : Attendance → Type 0
 IsAttendance visit = IsServed visit.served visit.state visit.read visit.written nothing_seen visit.seen (Some visit.next)
 
 -- What was written is the dialogue of what was read, from the state that was lent.
-abbrev pub IsWhole : Attendance → Type 0
-IsWhole visit = Dialogue (user_of visit.state) visit.read visit.written (user_of visit.next)
+abbrev pub IsVisitDialogue : Attendance → Type 0
+IsVisitDialogue visit = Dialogue (user_of visit.state) visit.read visit.written (user_of visit.next)
 
 -- A write failed: what was written ends within the text of the last item that was answered.
 abbrev pub IsBroken : Attendance → Type 0
@@ -36,23 +36,23 @@ IsBroken visit = BreaksOff (user_of visit.state) visit.read visit.written (user_
 -- Each visit is a whole dialogue, or one broken off by a failed write.
 abbrev pub AttendedIsAnswered : Type 0
 AttendedIsAnswered = (visit : Attendance) → IsAttendance visit
-    → (visit.served ≢ WriteFault × IsWhole visit) ⊎ ((visit.served ≡ WriteFault) × IsBroken visit)
+    → (visit.served ≢ WriteFault × IsVisitDialogue visit) ⊎ ((visit.served ≡ WriteFault) × IsBroken visit)
 
 -- the answered items of a visit, with their marks; the last one too if a write failed within its text
 abbrev pub AnswersItems : Attendance → List Item → List Bool → Type 0
 AnswersItems visit items marks =
-    ((whole : IsWhole visit) × (visit.served ≢ WriteFault) × (items ≡ whole.items) × (marks ≡ whole.marks))
+    ((whole : IsVisitDialogue visit) × (visit.served ≢ WriteFault) × (items ≡ whole.items) × (marks ≡ whole.marks))
     ⊎ ((broken : IsBroken visit) × (visit.served ≡ WriteFault)
     × (items ≡ broken.reaches.progress.items ++ broken.item ∷ [])
     × (marks ≡ broken.reaches.progress.marks ++ broken.mark ∷ []))
 
 -- the answered items of all visits, with their marks
-abbrev pub AnswersAll : List Attendance → List Item → List Bool → Type 0
-AnswersAll [] items marks = (items ≡ []) × (marks ≡ [])
-AnswersAll (visit ∷ visits) items marks =
+abbrev pub AnswersVisits : List Attendance → List Item → List Bool → Type 0
+AnswersVisits [] items marks = (items ≡ []) × (marks ≡ [])
+AnswersVisits (visit ∷ visits) items marks =
     (own : List Item) × (own_marks : List Bool) × (others : List Item) × (other_marks : List Bool)
     × (items ≡ own ++ others) × (marks ≡ own_marks ++ other_marks)
-    × AnswersItems visit own own_marks × AnswersAll visits others other_marks
+    × AnswersItems visit own own_marks × AnswersVisits visits others other_marks
 
 -- from a state on, each visit is lent the state that came home before it, and `last` comes home last
 abbrev pub Follow : UserState → List Attendance → UserState → Type 0
@@ -73,7 +73,7 @@ all_written visits = concat (map (λ (visit : Attendance). visit.written) visits
 pub record IsOneFold (quota : Quota) (visits : List Attendance) (last : UserState) : Type 0 where
   pub items : List Item
   pub marks : List Bool
-  pub answers : AnswersAll visits items marks
+  pub answers : AnswersVisits visits items marks
   pub are_marks : AreMarks marks (alone quota items marks).0
   pub last_is : user_of last ≡ (alone quota items marks).1
   pub written_is : NoneFails visits → all_written visits ≡ concat (alone quota items marks).0

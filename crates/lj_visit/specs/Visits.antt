@@ -1,5 +1,5 @@
 -- A visit: what is read, what is written and what happens, by how it ends.
-use Rattle.std.specs.Prelude.{◌≡◌, ℕ, ◌<◌, ◌≤◌, List, [], ◌∷◌, ◌++◌, length, take, Option, Some, None, IfSome, codes, ◌⊎◌}
+use Rattle.std.specs.Prelude.{◌≡◌, ℕ, ◌<◌, ◌≤◌, Bool, false, List, [], ◌∷◌, ◌++◌, length, take, Option, Some, None, IfSome, codes, ◌⊎◌}
 use Rattle.std.specs.Io.KnownBytes.{Appends}
 use Rattle.lj_session.specs.declared.refusal.Refusal.TheVariants.{Denied as DeniedRefusal}
 use Rattle.lj_session.specs.UserState.{UserState, Reached}
@@ -9,22 +9,24 @@ use Rattle.lj_wire.specs.Ends.{Rises}
 use Rattle.lj_wire.specs.Greetings.{Greets, GreetsNone, HasFailedEarly}
 use Rattle.lj_wire.specs.LineReader.{LineReader}
 use Rattle.lj_session.specs.Refusals.{refusal_text}
-use Rattle.lj_wire.specs.Texts.{ended_line, ok_line}
-use Rattle.lj_access.specs.Rows.{Ticket}
+use Rattle.lj_wire.specs.ReplyTexts.{ended_line, ok_line}
+use Rattle.lj_access.specs.UserRows.{Ticket}
 use Rattle.lj_engine.specs.declared.served.Served.{Served}
 use Rattle.lj_engine.specs.declared.served.Served.TheVariants.{ReadFault, TooManyStrays}
 use Rattle.lj_end.specs.Seen.{Seen, nothing_seen}
-use Rattle.lj_engine.specs.Served.{HandsBack, HasCause, Serves}
-use Rattle.lj_visit.specs.declared.backend.Shut.{Shut}
+use Rattle.lj_engine.specs.Served.{ReturnsState, HasCause, Serves}
+use Rattle.lj_engine.specs.Waiting.{Flushes}
+use Rattle.lj_visit.specs.declared.shut.Shut.{Shut}
 use Rattle.lj_visit.specs.declared.visiting.Visited.{Visited}
 use Rattle.lj_visit.specs.declared.visiting.Visited.TheVariants.{NoLine, Denied, ShutOut, NotWelcomed, Attended}
 use Rattle.lj_visit.specs.Events.{Event, Happens}
 use Rattle.lj_visit.specs.Events.Event.{granted, denied, entered, shut_out, opened, withdrawn, left, closed}
 
--- the state of a writer: the bytes written, and its count of faults, where they are known
+-- the state of a writer: the bytes written, and its count of faults, where they are known; and whether bytes may be held back
 pub record Writer : Type 0 where
   pub contents : Option (List ℕ)
   pub faults : Option ℕ
+  pub unflushed : Bool
 
 -- ERR 01 DENIED
 abbrev pub denied_line : List ℕ
@@ -34,12 +36,13 @@ denied_line = ended_line (refusal_text DeniedRefusal)
 abbrev pub welcome_line : List ℕ → List ℕ
 welcome_line name = ok_line (codes "HELLO" ∷ name ∷ [])
 
--- The first bytes of a line are written: all of them, unless a write fails.
-pub record Tells (line : List ℕ) (old new : Writer) : Type 0 where
+-- The first bytes of a line are written: all of them, and none is held back, unless a write or a flush fails.
+pub record WritesLine (line : List ℕ) (old new : Writer) : Type 0 where
   pub bytes : ℕ
   pub within : bytes ≤ length line
   pub written : Appends old.contents new.contents (take bytes line)
   pub whole : bytes < length line → Rises old.faults new.faults
+  pub sent : (new.unflushed ≡ false) ⊎ Rises old.faults new.faults
 
 -- no first line came
 abbrev pub IsUnasked : LineReader → LineReader → Type 0
@@ -54,7 +57,7 @@ events_denied (Asked name token) = denied name token ∷ []
 pub record IsDenied (first last : LineReader) (old new : Writer) (before after : Option (List Event)) : Type 0 where
   pub hello : Hello
   pub greets : Greets first last hello
-  pub tells : Tells denied_line old new
+  pub tells : WritesLine denied_line old new
   pub happens : Happens before after (events_denied hello)
 
 -- The first line was read, and a ticket was granted that did not enter.
@@ -97,11 +100,12 @@ pub record IsServing (served : Served) (ticket : Ticket) (state : UserState) (fi
   pub serves : Serves served state first.left last.left old.contents new.contents nothing_seen seen next
   pub cause : HasCause served last.left first.errors last.errors old.faults new.faults nothing_seen seen
   pub all_read : served ≡ ReadFault → last.held ≡ []
-  pub handed_back : IfSome next (HandsBack state seen)
+  pub flushed : Flushes served old.unflushed new.unflushed
+  pub handed_back : IfSome next (ReturnsState state seen)
   pub happens : Happens before after (opened ticket.user ∷ withdrawn ticket.user seen 0
       ∷ (events_leaving ticket next ++ events_closing served))
 
--- The ticket entered, OK HELLO was written, and the lines that follow were served from the state that was lent.
+-- The ticket entered, OK HELLO was written and flushed, and the lines that follow were served from the state that was lent.
 pub record IsAttended (served : Served) (first last : LineReader) (old new : Writer) (before after : Option (List Event)) :
     Type 0 where
   pub name : List ℕ
@@ -115,8 +119,8 @@ pub record IsAttended (served : Served) (first last : LineReader) (old new : Wri
   pub welcomes : Appends old.contents welcomed (welcome_line name)
   pub lent : Option (List Event)
   pub enters : Happens before lent (granted name token ticket ∷ entered ticket state ∷ [])
-  pub serving :
-      IsServing served ticket state lines last (record { contents = welcomed; faults = old.faults }) new lent after
+  pub serving : IsServing served ticket state lines last
+      (record { contents = welcomed; faults = old.faults; unflushed = false }) new lent after
 
 -- what a visit reads, writes and does, by how it ends
 abbrev pub IsVisit : Visited → LineReader → LineReader → Writer → Writer → Option (List Event) → Option (List Event) → Type 0
@@ -140,4 +144,5 @@ IsAdmission NotWelcomed name ticket first last old new before after =
 IsAdmission (Attended served) name ticket first last old new before after =
     (state : UserState) × (lent : Option (List Event)) × Reached state × Happens before lent (entered ticket state ∷ [])
     × (welcomed : Option (List ℕ)) × Appends old.contents welcomed (welcome_line name)
-    × IsServing served ticket state first last (record { contents = welcomed; faults = old.faults }) new lent after
+    × IsServing served ticket state first last
+    (record { contents = welcomed; faults = old.faults; unflushed = false }) new lent after

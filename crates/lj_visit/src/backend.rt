@@ -5,17 +5,11 @@ ghost use Rattle.lj_end.specs.Seen.{nothing_seen};
 ghost use Rattle.lj_visit.specs.Events.{Event, Happens};
 ghost use Rattle.lj_visit.specs.Events.Event.{granted, denied, entered, shut_out, opened, withdrawn, left, closed};
 
-use lj_access::{Denied, Ticket};
+use crate::lent::{LentState, LentTicket};
+use crate::shut::Shut;
+use lj_access::Denied;
 use lj_base::{Name, Token};
-use lj_end::Pool;
-use lj_session::UserState;
-
-/// A user's state, lent to a ticket.
-#[derive(Drop)]
-pub struct LentState {
-    pub ticket: Ticket,
-    pub state: UserState,
-}
+use lj_end::PoolEnd;
 
 /// An end of a pool for the user of this number.
 #[derive(Drop)]
@@ -24,19 +18,10 @@ pub struct UserEnd<P> {
     pub user: u8,
 }
 
-/// Why a ticket did not enter.
-#[derive(Clone, Copy, PartialEq, Eq, Debug)]
-pub enum Shut {
-    /// No ticket enters any more.
-    Closed,
-    /// Its client was gone.
-    Gone,
-}
-
 /// The backend of a connection, as it is lent to one visit.
 pub trait Backend {
     /// The end of a pool.
-    type End: Pool;
+    type End: PoolEnd;
 
     // The events so far, in order, where they are known.
     ghost events: { Self → Option (List Event) };
@@ -45,9 +30,9 @@ pub trait Backend {
     ///
     /// # Errors
     /// No user has both, or all tickets of this user are granted.
-    fn hello(&mut self, name: &Name, token: &Token) -> Result<Ticket, Denied>
+    fn hello(&mut self, name: &Name, token: &Token) -> Result<LentTicket, Denied>
         ensures granted { IfOk result (λ ticket. Happens (events self.old) (events self.new)
-            (granted name.now token.now ticket ∷ [])) }
+            (granted name.now token.now ticket.ticket ∷ [])) }
         ensures denied { OnErr result (Happens (events self.old) (events self.new)
             (denied name.now token.now ∷ [])) };
 
@@ -56,26 +41,26 @@ pub trait Backend {
     ///
     /// # Errors
     /// No ticket enters any more, or the client has gone while the ticket waited. The ticket is given up then.
-    fn enter(&mut self, ticket: Ticket, held: bool) -> Result<LentState, Shut>
-        ensures ticket { IfOk result (λ lent. lent.ticket ≡ ticket) }
+    fn enter(&mut self, ticket: LentTicket, held: bool) -> Result<LentState, Shut>
+        ensures ticket { IfOk result (λ lent. lent.ticket ≡ ticket.ticket) }
         ensures reached { IfOk result (λ lent. Reached lent.state) }
         ensures entered { IfOk result (λ lent. Happens (events self.old) (events self.new)
-            (entered ticket lent.state ∷ [])) }
+            (entered ticket.ticket lent.state ∷ [])) }
         ensures shut { IfErr result (λ why. Happens (events self.old) (events self.new)
-            (shut_out ticket why ∷ [])) };
+            (shut_out ticket.ticket why ∷ [])) };
 
     /// Makes an end of the pool for the user of this number. Nothing is owed to it.
     fn open(&mut self, user: u8) -> UserEnd<Self::End>
         ensures user { result.user ≡ user }
-        ensures seen { ⟦<<Self as Backend>::End as Pool>⟧.seen result.pool ≡ nothing_seen }
-        ensures own { ⟦<<Self as Backend>::End as Pool>⟧.for_others result.pool user ≡ 0 }
+        ensures seen { ⟦<<Self as Backend>::End as PoolEnd>⟧.seen result.pool ≡ nothing_seen }
+        ensures own { ⟦<<Self as Backend>::End as PoolEnd>⟧.for_others result.pool user ≡ 0 }
         ensures opened { Happens (events self.old) (events self.new) (opened user ∷ []) };
 
     /// Takes an end back, and drops what the pool has of its user.
     fn finish(&mut self, end: UserEnd<Self::End>)
         ensures { Happens (events self.old) (events self.new) (withdrawn end.user
-            (⟦<<Self as Backend>::End as Pool>⟧.seen end.pool)
-            (⟦<<Self as Backend>::End as Pool>⟧.for_others end.pool end.user) ∷ []) };
+            (⟦<<Self as Backend>::End as PoolEnd>⟧.seen end.pool)
+            (⟦<<Self as Backend>::End as PoolEnd>⟧.for_others end.pool end.user) ∷ []) };
 
     /// Takes a state home from the ticket that it was lent to. The user's next ticket may then enter.
     fn leave(&mut self, lent: LentState)

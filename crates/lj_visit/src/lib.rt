@@ -3,9 +3,13 @@
 #![tactic(auto)]
 
 mod backend;
+mod lent;
+mod shut;
 mod visit_laws;
 mod visiting;
 
-pub use backend::{Backend, LentState, Shut, UserEnd};
+pub use backend::{Backend, UserEnd};
+pub use lent::{Lender, LentState, LentTicket};
+pub use shut::{SeenClosed, Shut};
 pub use visit_laws::{attended_is_answered, visits_are_one_fold};
 pub use visiting::{Visited, visit};

@@ -1,14 +1,15 @@
 //! A connection, from its first line to its end.
-ghost use Rattle.std.specs.Prelude.{◌≡◌, ◌≤◌, ℕ, length, take, OnOk, OnErr};
+ghost use Rattle.std.specs.Prelude.{◌≡◌, ◌≤◌, ℕ, false, length, take, OnOk, OnErr};
 ghost use Rattle.std.specs.Io.KnownBytes.{Appends};
 ghost use Rattle.lj_wire.specs.declared.reader.phase.Phase.TheVariants.{Open};
 ghost use Rattle.lj_wire.specs.Ends.{Rises};
 ghost use Rattle.lj_visit.specs.declared.visiting.Visited.TheVariants.{Denied};
 ghost use Rattle.lj_visit.specs.Events.{Happens};
-ghost use Rattle.lj_visit.specs.Visits.{IsAdmission, IsServing, IsVisit, Tells, denied_line, events_closing, events_leaving, welcome_line};
+ghost use Rattle.lj_visit.specs.Visits.{IsAdmission, IsServing, IsVisit, WritesLine, denied_line, events_closing, events_leaving, welcome_line};
 
-use crate::backend::{Backend, LentState, Shut};
-use lj_access::Ticket;
+use crate::backend::Backend;
+use crate::lent::{LentState, LentTicket};
+use crate::shut::Shut;
 use lj_base::Name;
 use lj_engine::{Served, serve_lines};
 use lj_session::{Refusal, UserState};
@@ -43,8 +44,8 @@ pub fn visit<B: Backend, S: Source, W: Sink>(
     requires fresh { lines.old.items ≡ 0 }
     requires at_work { lines.old.phase ≡ Open }
     ensures { IsVisit result lines.old lines.new
-        (record { contents = W.contents writer.old; faults = W.faults writer.old })
-        (record { contents = W.contents writer.new; faults = W.faults writer.new })
+        (record { contents = W.contents writer.old; faults = W.faults writer.old; unflushed = W.unflushed writer.old })
+        (record { contents = W.contents writer.new; faults = W.faults writer.new; unflushed = W.unflushed writer.new })
         (B.events backend.old) (B.events backend.new) }
 {
     let (name, token) = match lines.hello() {
@@ -62,15 +63,15 @@ pub fn visit<B: Backend, S: Source, W: Sink>(
 fn admit<B: Backend, S: Source, W: Sink>(
     backend: &mut B,
     name: &Name,
-    ticket: Ticket,
+    ticket: LentTicket,
     lines: &mut LineReader<S>,
     writer: &mut W,
 ) -> Visited
     requires fresh { lines.old.items ≡ 0 }
     requires at_work { lines.old.phase ≡ Open }
-    ensures { IsAdmission result name.now ticket lines.old lines.new
-        (record { contents = W.contents writer.old; faults = W.faults writer.old })
-        (record { contents = W.contents writer.new; faults = W.faults writer.new })
+    ensures { IsAdmission result name.now ticket.ticket lines.old lines.new
+        (record { contents = W.contents writer.old; faults = W.faults writer.old; unflushed = W.unflushed writer.old })
+        (record { contents = W.contents writer.new; faults = W.faults writer.new; unflushed = W.unflushed writer.new })
         (B.events backend.old) (B.events backend.new) }
 {
     let lent = match backend.enter(ticket, lines.holds_bytes()) {
@@ -94,12 +95,12 @@ fn serve_user<B: Backend, S: Source, W: Sink>(
     requires fresh { lines.old.items ≡ 0 }
     requires at_work { lines.old.phase ≡ Open }
     ensures { IsServing result lent.ticket lent.state lines.old lines.new
-        (record { contents = W.contents writer.old; faults = W.faults writer.old })
-        (record { contents = W.contents writer.new; faults = W.faults writer.new })
+        (record { contents = W.contents writer.old; faults = W.faults writer.old; unflushed = W.unflushed writer.old })
+        (record { contents = W.contents writer.new; faults = W.faults writer.new; unflushed = W.unflushed writer.new })
         (B.events backend.old) (B.events backend.new) }
 {
-    let LentState { ticket, state } = lent;
-    let mut end = backend.open(ticket.user());
+    let (ticket, state) = lent.take_out();
+    let mut end = backend.open(ticket.ticket().user());
     let (state, served) = serve_lines(state, end.user, lines, writer, &mut end.pool);
     backend.finish(end);
     bring_home(backend, ticket, state);
@@ -107,12 +108,14 @@ fn serve_user<B: Backend, S: Source, W: Sink>(
     served
 }
 
-/// Takes the state home, if there is one, from the ticket that it was lent to.
-fn bring_home<B: Backend>(backend: &mut B, ticket: Ticket, state: Option<UserState>)
-    ensures { Happens (B.events backend.old) (B.events backend.new) (events_leaving ticket state) }
+/// Takes the state home, if there is one, from the ticket that it was lent to. The ticket is lost with a state that the pool has
+/// kept from coming home.
+fn bring_home<B: Backend>(backend: &mut B, ticket: LentTicket, state: Option<UserState>)
+    ensures { Happens (B.events backend.old) (B.events backend.new) (events_leaving ticket.ticket state) }
 {
-    if let Some(state) = state {
-        backend.leave(LentState { ticket, state });
+    match state {
+        Some(state) => backend.leave(ticket.with_state(state)),
+        None => ticket.lose(),
     }
 }
 
@@ -129,6 +132,7 @@ fn close_after<B: Backend>(backend: &mut B, served: Served)
 fn welcome<W: Sink>(writer: &mut W, name: &Name) -> Result<(), WriteFault>
     ensures written { OnOk result
         (Appends (W.contents writer.old) (W.contents writer.new) (welcome_line name.now)) }
+    ensures sent { OnOk result (W.unflushed writer.new ≡ false) }
     ensures counted { OnOk result (W.faults writer.new ≡ W.faults writer.old) }
     ensures begun { OnErr result ((n : ℕ) × (n ≤ length (welcome_line name.now))
         × Appends (W.contents writer.old) (W.contents writer.new) (take n (welcome_line name.now))) }
@@ -142,9 +146,9 @@ fn welcome<W: Sink>(writer: &mut W, name: &Name) -> Result<(), WriteFault>
 /// Writes the refusal DENIED, and returns how the visit has ended.
 fn deny<W: Sink>(writer: &mut W) -> Visited
     ensures denied { result ≡ Denied }
-    ensures told { Tells denied_line
-        (record { contents = W.contents writer.old; faults = W.faults writer.old })
-        (record { contents = W.contents writer.new; faults = W.faults writer.new }) }
+    ensures told { WritesLine denied_line
+        (record { contents = W.contents writer.old; faults = W.faults writer.old; unflushed = W.unflushed writer.old })
+        (record { contents = W.contents writer.new; faults = W.faults writer.new; unflushed = W.unflushed writer.new }) }
 {
     let mut line = Line::new();
     put_refusal_line(&mut line, Refusal::Denied);
@@ -155,6 +159,7 @@ fn deny<W: Sink>(writer: &mut W) -> Visited
 /// Writes a line and flushes it. After a fault the first bytes of it may have been written.
 fn tell<W: Sink>(writer: &mut W, line: &Line) -> Result<(), WriteFault>
     ensures written { OnOk result (Appends (W.contents writer.old) (W.contents writer.new) line.now.items) }
+    ensures sent { OnOk result (W.unflushed writer.new ≡ false) }
     ensures counted { OnOk result (W.faults writer.new ≡ W.faults writer.old) }
     ensures begun { OnErr result ((n : ℕ) × (n ≤ length line.now.items)
         × Appends (W.contents writer.old) (W.contents writer.new) (take n line.now.items)) }

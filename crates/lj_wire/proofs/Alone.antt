@@ -4,7 +4,7 @@ use Rattle.lj_session.specs.Users.{fresh_user}
 use Rattle.lj_session.specs.Answers.{answer}
 use Rattle.lj_session.specs.UserState.{UserState, Reached, user_of}
 use Rattle.lj_wire.specs.declared.item.Item.TheVariants.{Command}
-use Rattle.lj_wire.specs.Laws.{CommandsAreItems, IsReachedAlone}
+use Rattle.lj_wire.specs.StreamLaws.{CommandsAreItems, IsReachedAlone}
 
 pub as_items : CommandsAreItems
 as_items user [] marks = refl

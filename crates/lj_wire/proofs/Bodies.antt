@@ -10,7 +10,7 @@ use Rattle.lj_session.specs.Answers.{command_result}
 use Rattle.lj_wire.specs.declared.verb.Verb.{Verb}
 use Rattle.lj_wire.specs.declared.verb.Verb.TheVariants as verbs
 use Rattle.lj_wire.specs.Verbs.{verb_of}
-use Rattle.lj_wire.specs.Commands.{Words, load_of, load_mix_of, load_command, item_or_syntax, last_count, counted_item}
+use Rattle.lj_wire.specs.Commands.{Words, load_of, load_mix_of, load_command, item_or_syntax, load_count, counted_item}
 use Rattle.lj_wire.specs.Commands.{verb_item, verb_body_len}
 use Rattle.lj_wire.specs.Commands.{item_of_words, body_len, is_over, over_item, words_in, body_len_announced, item_with, item_of}
 use Rattle.lj_wire.specs.Told.{item_reply}
@@ -32,9 +32,9 @@ lost_verb : (user : User) (verb : Option Verb) (words : Words) (body : List ℕ)
     → 0 < verb_body_len verb words
     → item_reply user (verb_item verb words Lost) mark ≡ item_reply user (verb_item verb words (Read body)) true
 lost_verb user (Some verbs.Load) words body mark some =
-    lost_counted user (last_count words) (load_of words) body mark
+    lost_counted user (load_count words) (load_of words) body mark
 lost_verb user (Some verbs.LoadMix) words body mark some =
-    lost_counted user (last_count words) (load_mix_of words) body mark
+    lost_counted user (load_count words) (load_mix_of words) body mark
 lost_verb user (Some _) words body mark some = absurd (omega (arith, some))
 lost_verb user None words body mark some = absurd (omega (arith, some))
 

@@ -8,7 +8,7 @@ use Rattle.std.proofs.lemmas.Bool.{leb-true}
 use Rattle.lj_fixed.specs.Numbers.{number_of}
 use Rattle.lj_wire.specs.declared.verb.Verb.{Verb}
 use Rattle.lj_wire.specs.Verbs.{has_body, verb_of}
-use Rattle.lj_wire.specs.Commands.{◌>>=◌, Words, count_of, last_count, is_over, words_in, body_len, verb_body_len}
+use Rattle.lj_wire.specs.Commands.{◌>>=◌, Words, count_of, load_count, is_over, words_in, body_len, verb_body_len}
 use Rattle.lj_wire.specs.Commands.{body_len_announced}
 
 -- no count is above its limit
@@ -30,8 +30,8 @@ count_of-most word = by_number (number_of word)
     by_number None = omega arith
     by_number (Some count) = limited (nat_le (length word) 7) count
 
-last_count-most : (words : Words) → unwrap_or (last_count words) 0 ≤ 1048576
-last_count-most words = by_last (last_or None words)
+load_count-most : (words : Words) → unwrap_or (load_count words) 0 ≤ 1048576
+load_count-most words = by_last (last_or None words)
   where
     by_last : (last : Option (List ℕ)) → unwrap_or (last >>= count_of) 0 ≤ 1048576
     by_last None = omega arith
@@ -42,8 +42,8 @@ unfolding body_len
 body_len-most [] = omega arith
 body_len-most (word ∷ words) = by_verb (verb_of word)
   where
-    by_test : (load : Bool) → cond load (unwrap_or (last_count words) 0) 0 ≤ 1048576
-    by_test true = last_count-most words
+    by_test : (load : Bool) → cond load (unwrap_or (load_count words) 0) 0 ≤ 1048576
+    by_test true = load_count-most words
     by_test false = omega arith
 
     by_verb : (verb : Option Verb) → verb_body_len verb words ≤ 1048576

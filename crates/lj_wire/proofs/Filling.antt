@@ -18,7 +18,7 @@ use Rattle.lj_wire.specs.Displacements.{displacement_of}
 use Rattle.lj_wire.specs.Verbs.{verb_of}
 use Rattle.lj_wire.specs.Commands.{◌>>=◌, Words, one_name, two_names, name_and_number, bare_command, session_command}
 use Rattle.lj_wire.specs.Commands.{branch_command, number_command, tug_command, list_command, load_of, load_mix_of}
-use Rattle.lj_wire.specs.Commands.{load_command, item_or_syntax, last_count, counted_item, verb_item, item_of_words, is_over}
+use Rattle.lj_wire.specs.Commands.{load_command, item_or_syntax, load_count, counted_item, verb_item, item_of_words, is_over}
 use Rattle.lj_wire.specs.Commands.{over_item, words_in, item_with}
 
 -- what is no load stays as it is
@@ -83,8 +83,8 @@ counted_filled (Some count) load body = load_filled load body
 verb_filled : (verb : Option Verb) (words : Words) (body : LoadBody)
     → with_body (verb_item verb words Unread) body ≡ verb_item verb words body
 verb_filled None words body = refl
-verb_filled (Some verb.Load) words body = counted_filled (last_count words) (load_of words) body
-verb_filled (Some verb.LoadMix) words body = counted_filled (last_count words) (load_mix_of words) body
+verb_filled (Some verb.Load) words body = counted_filled (load_count words) (load_of words) body
+verb_filled (Some verb.LoadMix) words body = counted_filled (load_count words) (load_mix_of words) body
 verb_filled (Some verb.Advance) words body = number_stays command.Advance (λ p body. refl) words body
 verb_filled (Some verb.Start) words body = number_stays command.Start (λ p body. refl) words body
 verb_filled (Some verb.Reverse) words body = session_stays command.Reverse (λ name body. refl) words body

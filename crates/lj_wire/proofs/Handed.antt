@@ -8,7 +8,7 @@ use Rattle.lj_session.specs.Users.{User}
 use Rattle.lj_wire.specs.declared.item.Item.{Item}
 use Rattle.lj_wire.specs.declared.reader.phase.Phase.TheVariants.{Open, Over}
 use Rattle.lj_wire.specs.Items.{is_ending}
-use Rattle.lj_wire.specs.LineReader.{LineReader, IsLost, IsHandedOut, HandsAll, AreHandedOut, Ceases}
+use Rattle.lj_wire.specs.LineReader.{LineReader, IsLost, IsHandedItem, HandsAll, AreHandedOut, Ceases}
 use Rattle.lj_wire.specs.Streams.{IsPart, Splits}
 use Rattle.lj_wire.specs.Told.{item_reply}
 use Rattle.lj_wire.proofs.Splitting.{same_item, no_part}
@@ -31,7 +31,7 @@ known bytes front old new is c = by_new new (subst (λ (o : Option (List ℕ)). 
     by_new (Some behind) c = (behind, refl, c)
 
 -- the item that is handed out for another ends the connection where that does
-pub ends_alike : (found item : Item) → IsHandedOut found item → is_ending item ≡ is_ending found
+pub ends_alike : (found item : Item) → IsHandedItem found item → is_ending item ≡ is_ending found
 ends_alike found item (inl same) = ap is_ending same
 ends_alike found item (inr l) = ap is_ending l.item_is ∙ sym (ap is_ending l.found_is)
 
@@ -55,12 +55,12 @@ come_first old new bytes rest (item ∷ handed) (next ∷ items) is h s =
     let k = known bytes h.1.front old.left h.0.left is h.1.taken in
     let same = same_item old.items h.1.front s.0 k.0 s.1 h.1.found next (sym k.2 ∙ s.2) h.1.is_item s.3 in
     let alike = ends_alike h.1.found item h.1.is_found ∙ ap is_ending same.1 in
-    let handed_is : IsHandedOut next item = subst (λ found. IsHandedOut found item) same.1 h.1.is_found in
+    let handed_is : IsHandedItem next item = subst (λ found. IsHandedItem found item) same.1 h.1.is_found in
     by_end (is_ending next) refl (h.1.phase_is ∙ ap (λ end. cond end Over Open) alike) handed_is
     (λ goes. come_first h.0 new s.1 rest handed items (k.1 ∙ ap Some same.0) h.2
     (subst (λ n. Splits n s.1 items rest) (sym h.1.items_is) (s.5 goes)))
   where
-    by_end : (end : Bool) → is_ending next ≡ end → h.0.phase ≡ cond (is_ending next) Over Open → IsHandedOut next item
+    by_end : (end : Bool) → is_ending next ≡ end → h.0.phase ≡ cond (is_ending next) Over Open → IsHandedItem next item
         → (is_ending next ≡ false → First items handed) → First (next ∷ items) (item ∷ handed)
     by_end true e phase is_handed onward =
         let none = none_after h.0 new handed (phase ∙ ap (λ end. cond end Over Open) e) h.2 in
@@ -92,12 +92,12 @@ are_all old last new bytes rest (item ∷ handed) (next ∷ items) is h c s =
     let k = known bytes h.1.front old.left h.0.left is h.1.taken in
     let same = same_item old.items h.1.front s.0 k.0 s.1 h.1.found next (sym k.2 ∙ s.2) h.1.is_item s.3 in
     let alike = ends_alike h.1.found item h.1.is_found ∙ ap is_ending same.1 in
-    let handed_is : IsHandedOut next item = subst (λ found. IsHandedOut found item) same.1 h.1.is_found in
+    let handed_is : IsHandedItem next item = subst (λ found. IsHandedItem found item) same.1 h.1.is_found in
     by_end (is_ending next) refl (h.1.phase_is ∙ ap (λ end. cond end Over Open) alike) handed_is
     (λ goes. are_all h.0 last new s.1 rest handed items (k.1 ∙ ap Some same.0) h.2 c
     (subst (λ n. Splits n s.1 items rest) (sym h.1.items_is) (s.5 goes)))
   where
-    by_end : (end : Bool) → is_ending next ≡ end → h.0.phase ≡ cond (is_ending next) Over Open → IsHandedOut next item
+    by_end : (end : Bool) → is_ending next ≡ end → h.0.phase ≡ cond (is_ending next) Over Open → IsHandedItem next item
         → (is_ending next ≡ false → AreHandedOut items handed) → AreHandedOut (next ∷ items) (item ∷ handed)
     by_end true e phase is_handed onward =
         let over = phase ∙ ap (λ end. cond end Over Open) e in

@@ -10,6 +10,7 @@ mod Displacements
 mod Lines
 mod Counts
 mod Parsing
+mod Bare
 pub mod Filling
 mod Bodies
 pub mod Known

@@ -20,7 +20,7 @@ use Rattle.lj_session.specs.declared.reply.Reply.TheVariants.{Dumped, Listed, Li
 use Rattle.lj_session.specs.UserState.{LiveSession, settled_session}
 use Rattle.lj_session.specs.Users.{User}
 use Rattle.lj_session.proofs.PendingSteps.{count-meant}
-use Rattle.lj_wire.specs.Texts.{atom_lines, dump_lines, branch_lines, branch_line, reply_lines}
+use Rattle.lj_wire.specs.ReplyTexts.{atom_lines, dump_lines, branch_lines, branch_line, reply_lines}
 
 atom_lines-few : (edge : ℕ) (symbols : List (List ℕ)) (places : List Place)
     → length (atom_lines edge symbols places) ≤ length places
@@ -30,26 +30,26 @@ atom_lines-few edge (symbol ∷ symbols) (place ∷ places) = let rest = atom_li
 
 -- the lines of the frame of a session that is meant
 pub dump-few : (entry : Option LiveSession) (live : Sim) (name : List ℕ) (count : ℕ)
-    → option_map (λ held. held.live) entry ≡ Some live → count ≡ length live.sim.cur
-    → IfSome entry (λ held. length (dump_lines name (Some (settled_session held))) ≤ count + 2 + 1)
+    → option_map (λ session. session.live) entry ≡ Some live → count ≡ length live.sim.cur
+    → IfSome entry (λ session. length (dump_lines name (Some (settled_session session))) ≤ count + 2 + 1)
 dump-few None live name count is counted = tt
-dump-few (Some held) live name count is counted =
-    let same : held.live ≡ live = cc in
-    let meant = (settled_session held).sim.cur in
-    let few = atom_lines-few (edge_of held.live.composition.mix) held.symbols meant in
+dump-few (Some session) live name count is counted =
+    let same : session.live ≡ live = cc in
+    let meant = (settled_session session).sim.cur in
+    let few = atom_lines-few (edge_of session.live.composition.mix) session.symbols meant in
     let atoms : count ≡ length meant =
-    counted ∙ ap (λ l. length l.sim.cur) (sym same) ∙ sym (count-meant held) in
+    counted ∙ ap (λ l. length l.sim.cur) (sym same) ∙ sym (count-meant session) in
     omega (arith, few, atoms)
 
 -- the lines of what is saved in a session that is meant
 pub branches-few : (entry : Option LiveSession) (saved : List (List ℕ × Simulation)) (name : List ℕ) (count : ℕ)
-    → option_map (λ held. held.saved) entry ≡ Some saved → count ≡ length saved
-    → IfSome entry (λ held. length (branch_lines name (Some (settled_session held))) ≤ count + 1)
+    → option_map (λ session. session.saved) entry ≡ Some saved → count ≡ length saved
+    → IfSome entry (λ session. length (branch_lines name (Some (settled_session session))) ≤ count + 1)
 branches-few None saved name count is counted = tt
-branches-few (Some held) saved name count is counted =
-    let same : held.saved ≡ saved = cc in
-    let lines : length (map branch_line held.saved) ≡ length held.saved = length-map held.saved branch_line in
-    let all : count ≡ length held.saved = counted ∙ ap length (sym same) in
+branches-few (Some session) saved name count is counted =
+    let same : session.saved ≡ saved = cc in
+    let lines : length (map branch_line session.saved) ≡ length session.saved = length-map session.saved branch_line in
+    let all : count ≡ length session.saved = counted ∙ ap length (sym same) in
     omega (arith, lines, all)
 
 -- the first bytes of two texts

@@ -33,7 +33,7 @@ use Rattle.lj_session.specs.Loads.{session_within_quota, session_read}
 use Rattle.lj_session.specs.Answers.{session_of, command_result, reply_and_user}
 use Rattle.lj_wire.specs.declared.item.Item.{Item}
 use Rattle.lj_wire.specs.declared.item.Item.TheVariants as items
-use Rattle.lj_wire.specs.Texts.{text, is_memory}
+use Rattle.lj_wire.specs.ReplyTexts.{text, is_memory}
 use Rattle.lj_wire.specs.Told.{item_text}
 
 -- what a command comes to, and what is then told

@@ -3,15 +3,15 @@ use Rattle.std.proofs.Common.{◌≡◌, ℕ, ◌+◌, ◌-◌, ◌<◌, ◌≤�
 use Rattle.std.proofs.Common.{sym, ap, ◌∙◌, subst, arith, append_assoc}
 use Rattle.std.proofs.lemmas.List.{take-append-drop, drop_at, drop_all, length-append, length-take-le}
 use Rattle.lj_wire.specs.declared.line_limits.TheConstants.{MAX_LINE_BYTES, LONG_LINE_BYTES}
-use Rattle.lj_wire.specs.Input.{Input, Takes, Grows}
-use Rattle.lj_wire.specs.Steps.{TakesLongLine}
+use Rattle.lj_wire.specs.Input.{Input, TakesBytes, Grows, HoldsLine}
+use Rattle.lj_wire.specs.ItemSteps.{TakesLongLine}
 use Rattle.lj_wire.specs.Streams.{LacksLineFeed}
-use Rattle.lj_wire.proofs.Splitting.{no_feed_beyond}
-use Rattle.lj_wire.proofs.Taking.{Takes-none, Takes-trans, Takes-kept, Takes-held, lacks_both}
+use Rattle.lj_wire.proofs.Splitting.{no_feed_beyond, no_feed_within, same_line}
+use Rattle.lj_wire.proofs.Taking.{TakesBytes-none, TakesBytes-trans, TakesBytes-kept, TakesBytes-held, lacks_both}
 
 pub record Passing (old new : Input) (seen : ℕ) : Type 0 where
   pub bytes : List ℕ
-  pub taken : Takes old new bytes
+  pub taken : TakesBytes old new bytes
   pub one_line : LacksLineFeed bytes
   pub counted : length bytes ≡ seen
   pub long : MAX_LINE_BYTES < seen
@@ -22,11 +22,11 @@ pub record Passing (old new : Input) (seen : ℕ) : Type 0 where
 
 -- a front of what is held is taken after what was taken before
 pub taken_more : (old mid grown new : Input) (bytes front behind : List ℕ) (count : ℕ)
-    → Takes old mid bytes → Grows mid grown count
-    → grown.held ≡ front ++ behind → new.held ≡ behind → new.unread ≡ grown.unread → Takes old new (bytes ++ front)
+    → TakesBytes old mid bytes → Grows mid grown count
+    → grown.held ≡ front ++ behind → new.held ≡ behind → new.unread ≡ grown.unread → TakesBytes old new (bytes ++ front)
 taken_more old mid grown new bytes front behind count t g e is same =
-    Takes-trans old grown new bytes front (Takes-kept old mid grown bytes t g.kept)
-    (Takes-held grown new front behind e is same)
+    TakesBytes-trans old grown new bytes front (TakesBytes-kept old mid grown bytes t g.kept)
+    (TakesBytes-held grown new front behind e is same)
 
 -- the line feed comes
 pub passing_feed : (old mid grown new : Input) (seen count wanted : ℕ) (line behind : List ℕ)
@@ -48,7 +48,7 @@ passing_feed old mid grown new seen count wanted line behind p g low within e on
     let shorter = length-take-le wanted grown.held within in
     record {
       line = p.bytes ++ line;
-      taken = subst (Takes old new) (sym (append_assoc p.bytes line (10 ∷ [])))
+      taken = subst (TakesBytes old new) (sym (append_assoc p.bytes line (10 ∷ [])))
           (taken_more old mid grown new p.bytes (line ++ 10 ∷ []) rest count p.taken g cut left same);
       is_line = (
         lacks_both p.bytes line p.one_line one,
@@ -60,20 +60,20 @@ passing_feed old mid grown new seen count wanted line behind p g low within e on
 
 -- the first bytes of what is held are taken, after those that were taken before
 record TakesFront (old grown new : Input) (bytes : List ℕ) (count : ℕ) : Type 0 where
-  taken : Takes old new (bytes ++ take count grown.held)
+  taken : TakesBytes old new (bytes ++ take count grown.held)
   counted : length (bytes ++ take count grown.held) ≡ length bytes + count
   emptied : length grown.held ≤ count → new.held ≡ []
   errors : new.errors ≡ grown.errors
 
-takes_front : (old grown new : Input) (bytes : List ℕ) (count : ℕ) → Takes old grown bytes → count ≤ length grown.held
+takes_front : (old grown new : Input) (bytes : List ℕ) (count : ℕ) → TakesBytes old grown bytes → count ≤ length grown.held
     → new ≡ record grown { held = drop count grown.held } → TakesFront old grown new bytes count
 takes_front old grown new bytes count t within taken =
     let front = take count grown.held in
     let held = ap (λ a. a.held) taken in
     let cut = sym (take-append-drop count grown.held) in
     record {
-      taken = Takes-trans old grown new bytes front t
-          (Takes-held grown new front (drop count grown.held) cut held (ap (λ a. a.unread) taken));
+      taken = TakesBytes-trans old grown new bytes front t
+          (TakesBytes-held grown new front (drop count grown.held) cut held (ap (λ a. a.unread) taken));
       counted = length-append bytes front ∙ ap (λ n. length bytes + n) (length-take-le count grown.held within);
       emptied = λ all. held ∙ drop_all count grown.held all;
       errors = ap (λ a. a.errors) taken;
@@ -85,7 +85,7 @@ pub passing_more : (old mid grown new : Input) (seen count wanted : ℕ) → Pas
     → LacksLineFeed (take wanted grown.held) → new ≡ record grown { held = drop wanted grown.held }
     → Passing old new (seen + wanted)
 passing_more old mid grown new seen count wanted p g errors more is one taken =
-    let read = Takes-kept old mid grown p.bytes p.taken g.kept in
+    let read = TakesBytes-kept old mid grown p.bytes p.taken g.kept in
     let front = takes_front old grown new p.bytes wanted read (omega arith) taken in
     record {
       bytes = p.bytes ++ take wanted grown.held;
@@ -102,7 +102,7 @@ passing_more old mid grown new seen count wanted p g errors more is one taken =
 -- so many bytes were to be taken, and so many of them are left
 pub record Counting (old new : Input) (count left : ℕ) : Type 0 where
   pub bytes : List ℕ
-  pub taken : Takes old new bytes
+  pub taken : TakesBytes old new bytes
   pub counted : length bytes + left ≡ count
   pub held : 0 < left → new.held ≡ []
   pub errors : new.errors ≡ old.errors
@@ -111,7 +111,7 @@ pub record Counting (old new : Input) (count left : ℕ) : Type 0 where
 pub counting_start : (old new : Input) (count some : ℕ) → some ≡ min (length old.held) count
     → new ≡ record old { held = drop some old.held } → Counting old new count (count - some)
 counting_start old new count some is taken =
-    let front = takes_front old old new [] some (Takes-none old) (omega arith) taken in
+    let front = takes_front old old new [] some (TakesBytes-none old) (omega arith) taken in
     record {
       bytes = take some old.held;
       taken = front.taken;
@@ -126,7 +126,7 @@ pub counting_more : (old mid grown new : Input) (count left read some : ℕ) →
     → new ≡ record grown { held = drop some grown.held } → 0 < left → Counting old new count (left - some)
 counting_more old mid grown new count left read some p g errors is taken more_left =
     let front =
-    takes_front old grown new p.bytes some (Takes-kept old mid grown p.bytes p.taken g.kept) (omega arith) taken in
+    takes_front old grown new p.bytes some (TakesBytes-kept old mid grown p.bytes p.taken g.kept) (omega arith) taken in
     record {
       bytes = p.bytes ++ take some grown.held;
       taken = front.taken;
@@ -163,3 +163,20 @@ searched_line old new line behind (inr s) e less =
 pub searched_long : (old new : Input) → Searched old new → length old.held ≤ length new.held
 searched_long old new (inl same) = omega (arith, ap (λ a. length a.held) same)
 searched_long old new (inr s) = omega (arith, ap length s.2, length-append old.held s.1)
+
+-- where a line was held, no more was read
+pub searched_lacks : (old mid : Input) (count : ℕ) → Searched old mid → LacksLineFeed mid.held → HoldsLine old count → ⊥
+searched_lacks old mid count (inl same) lacks h =
+    no_feed_within h.line h.behind (subst LacksLineFeed (ap (λ a. a.held) same ∙ h.held) lacks)
+searched_lacks old mid count (inr s) lacks h =
+    no_feed_within h.line h.behind (subst LacksLineFeed h.held s.0)
+
+-- the line that is found is the one that was held
+pub searched_found : (old mid : Input) (count found : ℕ) (line behind : List ℕ) → Searched old mid
+    → mid.held ≡ line ++ 10 ∷ behind → LacksLineFeed line → length line ≡ found → HoldsLine old count
+    → (found ≡ count) × (mid ≡ old)
+searched_found old mid count found line behind (inl same) e one is h =
+    let lines = same_line line h.line behind h.behind one h.one_line (sym e ∙ ap (λ a. a.held) same ∙ h.held) in
+    (sym is ∙ ap length lines.0 ∙ h.counted, same)
+searched_found old mid count found line behind (inr s) e one is h =
+    absurd (no_feed_within h.line h.behind (subst LacksLineFeed h.held s.0))

@@ -7,28 +7,28 @@ use Rattle.std.proofs.lemmas.List.Folds.{concat-append}
 use Rattle.lj_session.specs.Users.{User}
 use Rattle.lj_wire.specs.declared.item.Item.{Item}
 use Rattle.lj_wire.specs.Items.{is_ending}
-use Rattle.lj_wire.specs.Texts.{is_memory}
+use Rattle.lj_wire.specs.ReplyTexts.{is_memory}
 use Rattle.lj_wire.specs.Told.{item_text, texts, last_user, first_mark, other_marks}
 use Rattle.lj_wire.specs.Streams.{IsItem, IsPart, Splits, AreMarks}
-use Rattle.lj_wire.specs.Progress.{Takes}
+use Rattle.lj_wire.specs.Progress.{TakesItems}
 
-pub Takes-more : (n : ℕ) (bytes : List ℕ) (items : List Item) (left front behind : List ℕ) (item : Item)
-    → Takes n bytes items left → left ≡ front ++ behind → IsItem (n + length items) front item → is_ending item ≡ false
-    → Takes n bytes (items ++ item ∷ []) behind
-Takes-more n bytes [] left front behind item t e i goes =
+pub TakesItems-more : (n : ℕ) (bytes : List ℕ) (items : List Item) (left front behind : List ℕ) (item : Item)
+    → TakesItems n bytes items left → left ≡ front ++ behind → IsItem (n + length items) front item → is_ending item ≡ false
+    → TakesItems n bytes (items ++ item ∷ []) behind
+TakesItems-more n bytes [] left front behind item t e i goes =
     (front, behind, t ∙ e, subst (λ m. IsItem m front item) (let s : n + 0 ≡ n = omega arith in s) i, goes, refl)
-Takes-more n bytes (first ∷ items) left front behind item t e i goes =
+TakesItems-more n bytes (first ∷ items) left front behind item t e i goes =
     let s : n + suc (length items) ≡ n + 1 + length items = omega arith in (
       t.0,
       t.1,
       t.2,
       t.3,
       t.4,
-      Takes-more (n + 1) t.1 items left front behind item t.5 e
+      TakesItems-more (n + 1) t.1 items left front behind item t.5 e
           (subst (λ m. IsItem m front item) s i) goes,
     )
 
-pub Splits-part : (n : ℕ) (bytes : List ℕ) (items : List Item) (left : List ℕ) → Takes n bytes items left
+pub Splits-part : (n : ℕ) (bytes : List ℕ) (items : List Item) (left : List ℕ) → TakesItems n bytes items left
     → IsPart (n + length items) left
     → Splits n bytes items left
 Splits-part n bytes [] left t p = (t, subst (λ m. IsPart m left) (let s : n + 0 ≡ n = omega arith in s) p)
@@ -38,7 +38,7 @@ Splits-part n bytes (first ∷ items) left t p =
     (t.0, t.1, t.2, t.3, (λ h. let differ : true ≡ false = sym h ∙ t.4 in cc), (λ h. next))
 
 pub Splits-end : (n : ℕ) (bytes : List ℕ) (items : List Item) (left front behind : List ℕ) (item : Item)
-    → Takes n bytes items left → left ≡ front ++ behind → IsItem (n + length items) front item → is_ending item ≡ true
+    → TakesItems n bytes items left → left ≡ front ++ behind → IsItem (n + length items) front item → is_ending item ≡ true
     → Splits n bytes (items ++ item ∷ []) behind
 Splits-end n bytes [] left front behind item t e i end = (
   front,

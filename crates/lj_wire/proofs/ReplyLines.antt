@@ -19,21 +19,21 @@ use Rattle.lj_ring.specs.declared.coordinates.Place.{Place}
 use Rattle.lj_step.specs.Motion.{Simulation}
 use Rattle.lj_step.specs.Sim.{Sim}
 use Rattle.lj_branch.specs.Named.{value_named}
-use Rattle.lj_session.specs.UserState.{LiveSession, UserState, live_session, live_session_at, names, user_of, as_session, settled_session, as_entry}
+use Rattle.lj_session.specs.UserState.{LiveSession, UserState, live_session, live_session_at, loaded_names, user_of, as_session, settled_session, as_entry}
 use Rattle.lj_session.specs.UserState.{pending_in}
 use Rattle.lj_session.specs.Users.{Session}
 use Rattle.lj_session.proofs.PendingSteps.{count-meant, meant-settled}
 use Rattle.lj_session.proofs.Holding.{pending-of}
-use Rattle.lj_wire.specs.Lines.{blank_and}
-use Rattle.lj_wire.specs.Texts.{line_of, session_line, branch_line, atom_line, atom_lines}
+use Rattle.lj_wire.specs.LineParts.{blank_and}
+use Rattle.lj_wire.specs.ReplyTexts.{line_of, session_line, branch_line, atom_line, atom_lines}
 
 -- the line of a session, by what its readers answer
 session_entry_line : (entry : Option (List ℕ × LiveSession)) (name : List ℕ) (step : ℤ) (live : Sim)
     (saved : List (List ℕ × Simulation))
     → option_map (λ e. e.0) entry ≡ Some name
-    → option_map (λ held. (settled_session held).sim.step) (option_map (λ e. e.1) entry) ≡ Some step
-    → option_map (λ held. held.live) (option_map (λ e. e.1) entry) ≡ Some live
-    → option_map (λ held. held.saved) (option_map (λ e. e.1) entry) ≡ Some saved
+    → option_map (λ session. (settled_session session).sim.step) (option_map (λ e. e.1) entry) ≡ Some step
+    → option_map (λ session. session.live) (option_map (λ e. e.1) entry) ≡ Some live
+    → option_map (λ session. session.saved) (option_map (λ e. e.1) entry) ≡ Some saved
     → Some (line_of (name ∷ signed_decimal step ∷ decimal (length live.sim.cur) ∷ decimal (length saved) ∷ []))
     ≡ option_map session_line (option_map as_entry entry)
 session_entry_line None name step live saved value_named is_step is_live is_saved = cc
@@ -45,10 +45,10 @@ session_entry_line (Some entry) name step live saved value_named is_step is_live
     rw (← n, ← t, ← l, ← s, count-meant entry.1) refl
 
 pub session_line_at : (state : UserState) (i : ℕ) (name : List ℕ) (step : ℤ) (live : Sim) (saved : List (List ℕ × Simulation))
-    → slice_get (names state) i ≡ Some name
-    → option_map (λ held. (settled_session held).sim.step) (live_session_at state i) ≡ Some step
-    → option_map (λ held. held.live) (live_session_at state i) ≡ Some live
-    → option_map (λ held. held.saved) (live_session_at state i) ≡ Some saved
+    → slice_get (loaded_names state) i ≡ Some name
+    → option_map (λ session. (settled_session session).sim.step) (live_session_at state i) ≡ Some step
+    → option_map (λ session. session.live) (live_session_at state i) ≡ Some live
+    → option_map (λ session. session.saved) (live_session_at state i) ≡ Some saved
     → Some (line_of (name ∷ signed_decimal step ∷ decimal (length live.sim.cur) ∷ decimal (length saved) ∷ []))
     ≡ option_map session_line (slice_get (user_of state).sessions i)
 session_line_at state i name step live saved value_named is_step is_live is_saved =
@@ -83,20 +83,20 @@ join-after word (next ∷ words) = ap (λ t. word ++ (32 ∷ t)) (join-after nex
 
 -- atom t's line in the frame of a session, by what its readers answer
 pub held_atom_line : (entry : Option LiveSession) (edge t : ℕ) (live : Sim) (symbol line : List ℕ)
-    → option_map (λ held. edge_of held.live.composition.mix) entry ≡ Some edge
-    → option_map (λ held. held.live) entry ≡ Some live
-    → IfSome entry (λ held. slice_get held.symbols t ≡ Some symbol)
-    → ForSome entry (λ held. t < length held.live.sim.cur)
+    → option_map (λ session. edge_of session.live.composition.mix) entry ≡ Some edge
+    → option_map (λ session. session.live) entry ≡ Some live
+    → IfSome entry (λ session. slice_get session.symbols t ≡ Some symbol)
+    → ForSome entry (λ session. t < length session.live.sim.cur)
     → line ≡ atom_line edge symbol (slice_index_or live.sim.cur t (record { x = 0; y = 0; z = 0 }))
-    → IfSome entry (λ held. Some line ≡ slice_get (atom_lines (edge_of held.live.composition.mix) held.symbols held.live.sim.cur) t)
+    → IfSome entry (λ session. Some line ≡ slice_get (atom_lines (edge_of session.live.composition.mix) session.symbols session.live.sim.cur) t)
 held_atom_line None edge t live symbol line is_edge is_live is_symbol within is_line = tt
-held_atom_line (Some held) edge t live symbol line is_edge is_live is_symbol within is_line =
-    let e : edge_of held.live.composition.mix ≡ edge = cc in
-    let l : held.live ≡ live = cc in
-    let text : line ≡ atom_line (edge_of held.live.composition.mix) symbol
-    (slice_index_or held.live.sim.cur t (record { x = 0; y = 0; z = 0 })) = rw (e, l) is_line in
-    ap Some text ∙ atom_lines-get (edge_of held.live.composition.mix) held.symbols held.live.sim.cur t
-    symbol is_symbol (within held refl)
+held_atom_line (Some session) edge t live symbol line is_edge is_live is_symbol within is_line =
+    let e : edge_of session.live.composition.mix ≡ edge = cc in
+    let l : session.live ≡ live = cc in
+    let text : line ≡ atom_line (edge_of session.live.composition.mix) symbol
+    (slice_index_or session.live.sim.cur t (record { x = 0; y = 0; z = 0 })) = rw (e, l) is_line in
+    ap Some text ∙ atom_lines-get (edge_of session.live.composition.mix) session.symbols session.live.sim.cur t
+    symbol is_symbol (within session refl)
 
 -- parts of a line, grouped another way
 regrouped : (a b c d e f g h last : List ℕ)
@@ -132,43 +132,43 @@ lookup-position {K} {X} test (e ∷ entries) =
 
 -- the session of a name is the one at the place of the name
 held_under : (state : UserState) (name : List ℕ) → value_named name state.sessions
-    ≡ option_and_then (live_session_at state) (position (bytes_eq name) (names state))
+    ≡ option_and_then (live_session_at state) (position (bytes_eq name) (loaded_names state))
 held_under state name =
-    let n = position_or_len (bytes_eq name) (names state) in
+    let n = position_or_len (bytes_eq name) (loaded_names state) in
     let found = lookup-position (bytes_eq name) state.sessions in
-    at (nat_lt n (length (names state))) refl found
+    at (nat_lt n (length (loaded_names state))) refl found
   where
-    at : (b : Bool) → nat_lt (position_or_len (bytes_eq name) (names state)) (length (names state)) ≡ b
-        → value_named name state.sessions ≡ live_session_at state (position_or_len (bytes_eq name) (names state))
+    at : (b : Bool) → nat_lt (position_or_len (bytes_eq name) (loaded_names state)) (length (loaded_names state)) ≡ b
+        → value_named name state.sessions ≡ live_session_at state (position_or_len (bytes_eq name) (loaded_names state))
         → value_named name state.sessions ≡ option_and_then (live_session_at state)
-        (cond b (Some (position_or_len (bytes_eq name) (names state))) None)
+        (cond b (Some (position_or_len (bytes_eq name) (loaded_names state))) None)
     at true within found = found
     at false past found =
-        let beyond : length state.sessions ≤ position_or_len (bytes_eq name) (names state) =
+        let beyond : length state.sessions ≤ position_or_len (bytes_eq name) (loaded_names state) =
         omega (arith, ltb-false _ _ past, length-map state.sessions (λ e. e.0)) in
         found ∙ ap (option_map (λ e. e.1)) (slice_get_past state.sessions _ beyond)
 
 -- the session of a name in the user that is meant, by the place of the name
-pub named-index : (state : UserState) (name : List ℕ) (index : Option ℕ) → index ≡ position (bytes_eq name) (names state)
+pub named-index : (state : UserState) (name : List ℕ) (index : Option ℕ) → index ≡ position (bytes_eq name) (loaded_names state)
     → value_named name (user_of state).sessions ≡ option_map settled_session (option_and_then (live_session_at state) index)
 named-index state name index is_index =
     lookup-map_values settled_session (bytes_eq name) state.sessions
     ∙ ap (option_map settled_session) (rw is_index (held_under state name))
 
 -- the place of a name is one of a session
-pub index_within : (state : UserState) (name : List ℕ) (i : ℕ) → Some i ≡ position (bytes_eq name) (names state)
+pub index_within : (state : UserState) (name : List ℕ) (i : ℕ) → Some i ≡ position (bytes_eq name) (loaded_names state)
     → i < length state.sessions
 index_within state name i found =
     omega (
       arith,
-      (position-Some (bytes_eq name) (names state) i [] (sym found)).0,
+      (position-Some (bytes_eq name) (loaded_names state) i [] (sym found)).0,
       length-map state.sessions (λ e. e.0),
     )
 
 -- what is true of the session at the place of a name is true of the session of that name
 pub under_name : (state : UserState) (name : List ℕ) (i : ℕ) (P : Option Session → Type 0)
-    → Some i ≡ position (bytes_eq name) (names state)
-    → IfSome (live_session_at state i) (λ held. P (Some (settled_session held))) → P (value_named name (user_of state).sessions)
+    → Some i ≡ position (bytes_eq name) (loaded_names state)
+    → IfSome (live_session_at state i) (λ session. P (Some (settled_session session))) → P (value_named name (user_of state).sessions)
 under_name state name i P found holds =
     let within : i < length state.sessions = index_within state name i found in
     let is_named = named-index state name (Some i) found in
@@ -176,38 +176,38 @@ under_name state name i P found holds =
   where
     there : (entry : Option LiveSession) → live_session_at state i ≡ entry
         → value_named name (user_of state).sessions ≡ option_map settled_session entry
-        → IfSome entry (λ held. P (Some (settled_session held))) → i < length state.sessions
+        → IfSome entry (λ session. P (Some (settled_session session))) → i < length state.sessions
         → P (value_named name (user_of state).sessions)
     there None gone is_named holds within =
-        let past : slice_get (names state) i ≡ None =
+        let past : slice_get (loaded_names state) i ≡ None =
         slice_get-map (λ e. e.0) state.sessions i ∙ lost (slice_get state.sessions i) gone in
-        let here = slice_get-get_or (names state) i [] (omega (arith, length-map state.sessions (λ e. e.0))) in
+        let here = slice_get-get_or (loaded_names state) i [] (omega (arith, length-map state.sessions (λ e. e.0))) in
         cc
       where
         lost : (entry : Option (List ℕ × LiveSession)) → option_map (λ e. e.1) entry ≡ None
             → option_map (λ e. e.0) entry ≡ None
         lost None h = refl
         lost (Some e) h = cc
-    there (Some held) is_held is_named holds within = subst P (sym is_named) holds
+    there (Some session) is_held is_named holds within = subst P (sym is_named) holds
 
 -- where the session of a name has no pending steps, the one at the place of the name has none
-pub settled_at : (state : UserState) (name : List ℕ) (i : ℕ) → Some i ≡ position (bytes_eq name) (names state)
-    → pending_in state name ≡ 0 → ForSome (live_session_at state i) (λ held. held.pending ≡ 0)
-settled_at state name i found none held there =
+pub settled_at : (state : UserState) (name : List ℕ) (i : ℕ) → Some i ≡ position (bytes_eq name) (loaded_names state)
+    → pending_in state name ≡ 0 → ForSome (live_session_at state i) (λ session. session.pending ≡ 0)
+settled_at state name i found none session there =
     let at_place : live_session state name ≡ live_session_at state i =
     subst (λ (index : Option ℕ). live_session state name ≡ option_and_then (live_session_at state) index) (sym found)
     (held_under state name) in
-    pending-of state name held (at_place ∙ there) none
+    pending-of state name session (at_place ∙ there) none
 
 -- what is true of a session as its present step began is true of the one that is meant, where it has no pending steps
-pub settled : (entry : Option LiveSession) (P : Option Session → Type 0) → ForSome entry (λ held. held.pending ≡ 0)
-    → IfSome entry (λ held. P (Some (as_session held))) → IfSome entry (λ held. P (Some (settled_session held)))
+pub settled : (entry : Option LiveSession) (P : Option Session → Type 0) → ForSome entry (λ session. session.pending ≡ 0)
+    → IfSome entry (λ session. P (Some (as_session session))) → IfSome entry (λ session. P (Some (settled_session session)))
 settled None P none holds = tt
-settled (Some held) P none holds =
-    subst (λ (session : Session). P (Some session)) (sym (meant-settled held (none held refl))) holds
+settled (Some session) P none holds =
+    subst (λ (value : Session). P (Some value)) (sym (meant-settled session (none session refl))) holds
 
 -- where a name has no place, no session has it
-pub no_name : (state : UserState) (name : List ℕ) → None ≡ position (bytes_eq name) (names state)
+pub no_name : (state : UserState) (name : List ℕ) → None ≡ position (bytes_eq name) (loaded_names state)
     → value_named name (user_of state).sessions ≡ None
 no_name state name lost = named-index state name None lost
 
@@ -235,31 +235,31 @@ listed_line state k head line some is_line =
 -- a line in the list of what is saved in a session
 pub saved_line : (entry : Option LiveSession) (saved : List (List ℕ × Simulation)) (k : ℕ)
     (head : LiveSession → List ℕ) (line : List ℕ) → 1 ≤ k
-    → option_map (λ held. held.saved) entry ≡ Some saved
+    → option_map (λ session. session.saved) entry ≡ Some saved
     → Some line ≡ option_map branch_line (slice_get saved (k - 1))
-    → IfSome entry (λ held. Some line ≡ slice_get (head held ∷ map branch_line held.saved) k)
+    → IfSome entry (λ session. Some line ≡ slice_get (head session ∷ map branch_line session.saved) k)
 saved_line None saved k head line some is_saved is_line = tt
-saved_line (Some held) saved k head line some is_saved is_line =
-    let e : held.saved ≡ saved = cc in
-    subst (λ (v : List (List ℕ × Simulation)). Some line ≡ slice_get (head held ∷ map branch_line v) k) (sym e)
+saved_line (Some session) saved k head line some is_saved is_line =
+    let e : session.saved ≡ saved = cc in
+    subst (λ (v : List (List ℕ × Simulation)). Some line ≡ slice_get (head session ∷ map branch_line v) k) (sym e)
     (is_line ∙ sym (slice_get-map branch_line saved (k - 1))
-    ∙ sym (after_first_line (head held) (map branch_line saved) k some))
+    ∙ sym (after_first_line (head session) (map branch_line saved) k some))
 
 -- a line of an atom in a frame
 pub dumped_atom : (entry : Option LiveSession) (k : ℕ) (a b c : LiveSession → List ℕ) (line : Option (List ℕ)) → 3 ≤ k
-    → IfSome entry (λ held. line ≡ slice_get (atom_lines (edge_of held.live.composition.mix) held.symbols held.live.sim.cur) (k - 3))
-    → IfSome entry (λ held. line ≡ slice_get (a held ∷ b held ∷ c held
-    ∷ atom_lines (edge_of held.live.composition.mix) held.symbols held.live.sim.cur) k)
+    → IfSome entry (λ session. line ≡ slice_get (atom_lines (edge_of session.live.composition.mix) session.symbols session.live.sim.cur) (k - 3))
+    → IfSome entry (λ session. line ≡ slice_get (a session ∷ b session ∷ c session
+    ∷ atom_lines (edge_of session.live.composition.mix) session.symbols session.live.sim.cur) k)
 dumped_atom None k a b c line some is_line = tt
-dumped_atom (Some held) k a b c line some is_line =
-    is_line ∙ sym (after_third_line (a held) (b held) (c held)
-    (atom_lines (edge_of held.live.composition.mix) held.symbols held.live.sim.cur) k some)
+dumped_atom (Some session) k a b c line some is_line =
+    is_line ∙ sym (after_third_line (a session) (b session) (c session)
+    (atom_lines (edge_of session.live.composition.mix) session.symbols session.live.sim.cur) k some)
 
 -- past the last atom of a session there is none
-pub past_last_atom : (entry : Option LiveSession) (live : Sim) (t : ℕ) → option_map (λ held. held.live) entry ≡ Some live
+pub past_last_atom : (entry : Option LiveSession) (live : Sim) (t : ℕ) → option_map (λ session. session.live) entry ≡ Some live
     → length live.sim.cur ≤ t
-    → IfSome entry (λ held. None ≡ slice_get (atom_lines (edge_of held.live.composition.mix) held.symbols held.live.sim.cur) t)
+    → IfSome entry (λ session. None ≡ slice_get (atom_lines (edge_of session.live.composition.mix) session.symbols session.live.sim.cur) t)
 past_last_atom None live t is_live past = tt
-past_last_atom (Some held) live t is_live past =
-    let l : held.live ≡ live = cc in
-    sym (atom_lines-past (edge_of held.live.composition.mix) held.symbols held.live.sim.cur t (rw l past))
+past_last_atom (Some session) live t is_live past =
+    let l : session.live ≡ live = cc in
+    sym (atom_lines-past (edge_of session.live.composition.mix) session.symbols session.live.sim.cur t (rw l past))

@@ -7,7 +7,7 @@ use Rattle.lj_session.specs.declared.reply.Reply.TheVariants.{Restored, Forgotte
 use Rattle.lj_session.specs.declared.reply.Reply.TheVariants.{Tugged, Measured, Shown, Dumped, Listed, ListedBranches}
 use Rattle.lj_session.specs.declared.reply.Reply.TheVariants.{Unloaded, Bye, Refused}
 use Rattle.lj_session.specs.Users.{User}
-use Rattle.lj_wire.specs.Texts.{text, reply_lines}
+use Rattle.lj_wire.specs.ReplyTexts.{text, reply_lines}
 
 one : (line : List ℕ) → line ≡ concat (line ∷ [])
 one line = sym (append-nil line)

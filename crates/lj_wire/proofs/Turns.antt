@@ -12,9 +12,9 @@ use Rattle.lj_session.specs.Owner.{rest_of, command_left}
 use Rattle.lj_wire.specs.declared.item.Item.{Item}
 use Rattle.lj_wire.specs.declared.item.Item.TheVariants as items
 use Rattle.lj_wire.specs.Items.{is_ending}
-use Rattle.lj_wire.specs.Texts.{text}
+use Rattle.lj_wire.specs.ReplyTexts.{text}
 use Rattle.lj_wire.specs.Told.{item_text}
-use Rattle.lj_wire.specs.Runs.{item_before}
+use Rattle.lj_wire.specs.PendingItems.{item_before}
 
 pub told_alike : (new : User) (left : Command) (old : User) (command : Command) (mark : Bool)
     → AnswersAlike new left old command

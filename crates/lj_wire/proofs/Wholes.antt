@@ -1,5 +1,5 @@
 -- Items read whole, and parts of items.
-use Rattle.std.proofs.Common.{◌<◌, ◌≡◌, ℕ, ◌+◌, ◌≤◌, true, cond, List, [], ◌∷◌, ◌++◌, length, take, drop, Option, Some}
+use Rattle.std.proofs.Common.{◌<◌, ◌≡◌, ℕ, ◌+◌, ◌≤◌, Bool, true, false, cond, if◌then◌else◌, Result, Ok, Err, IfOk, OnErr, List, [], ◌∷◌, ◌++◌, length, take, drop, Option, Some}
 use Rattle.std.proofs.Common.{None, inl, inr, refl, sym, ap, ◌∙◌, subst, arith, append_assoc}
 use Rattle.std.proofs.lemmas.Bool.{lt-ltb}
 use Rattle.std.proofs.lemmas.List.{drop_at, take_at, length-append, length-drop}
@@ -13,18 +13,19 @@ use Rattle.lj_session.specs.declared.command.Command.TheVariants.{ListBranches, 
 use Rattle.lj_wire.specs.declared.line_limits.TheConstants.{MAX_LINE_BYTES, LONG_LINE_BYTES, MAX_ITEMS}
 use Rattle.lj_wire.specs.declared.reader.buffer.TheConstants.{MAX_HELD_BYTES}
 use Rattle.lj_wire.specs.declared.item.Fault.TheVariants.{Line, Long, Enough}
+use Rattle.lj_wire.specs.declared.source_and_sink.ReadFault.{ReadFault}
 use Rattle.lj_wire.specs.declared.item.Item.{Item}
 use Rattle.lj_wire.specs.declared.item.Item.TheVariants.{Command, Bad, Last}
-use Rattle.lj_wire.specs.Input.{Input, bytes_untaken, Takes, HoldsLine, ReadsFor}
+use Rattle.lj_wire.specs.Input.{Input, bytes_untaken, TakesBytes, HoldsLine, ReadsFor}
 use Rattle.lj_wire.specs.Commands.{body_len_announced, is_over, over_item, body_len, words_in, item_of_words, item_with, item_of}
 use Rattle.lj_wire.specs.Items.{with_body}
 use Rattle.lj_wire.specs.declared.reader.phase.Phase.TheVariants.{Open, Over}
-use Rattle.lj_wire.specs.LineReader.{LineReader, IsLost, IsHandedOut, HandsOut}
-use Rattle.lj_wire.specs.Steps.{TakesLongLine, TakesLong, TakesFewer, ReadsBody, TakesRest, Finishes, TakesNoItem}
-use Rattle.lj_wire.specs.Steps.{ReadsItem, may_take_body}
+use Rattle.lj_wire.specs.LineReader.{LineReader, BeginsWithItem, IsLost, IsHandedItem, HandsOutItem}
+use Rattle.lj_wire.specs.ItemSteps.{TakesLongLine, TakesLong, TakesFewer, ReadsBody, TakesRest, FinishesItem, TakesNoItem}
+use Rattle.lj_wire.specs.ItemSteps.{ReadsItem, may_take_body}
 use Rattle.lj_wire.specs.Streams.{IsLine}
 use Rattle.lj_wire.proofs.Filling.{line_filled}
-use Rattle.lj_wire.proofs.Taking.{Takes-trans, Takes-held, Kept-takes}
+use Rattle.lj_wire.proofs.Taking.{TakesBytes-trans, TakesBytes-held, Kept-takes}
 
 -- a load whose body is lost
 lost : (item : Item) (body : List ℕ) (handed : Item) → may_take_body item ≡ true → handed ≡ with_body item Lost
@@ -63,7 +64,7 @@ rest_taken old new item count Unread handed can none is = absurd none
 
 -- the line of an item was taken, with its line feed
 pub record LineTaken (old new : Input) (line : List ℕ) : Type 0 where
-  pub taken : Takes old new (line ++ 10 ∷ [])
+  pub taken : TakesBytes old new (line ++ 10 ∷ [])
   pub is_line : IsLine line
 
 pub line_taken : (old mid new : Input) (count : ℕ) (line : List ℕ)
@@ -80,19 +81,19 @@ line_taken old mid new count line kept h is bounded after =
     let sizes = length-append h.line (10 ∷ h.behind) in
     let counted : length feed ≡ count + 1 = length-append h.line (10 ∷ []) ∙ ap (λ n. n + 1) h.counted in
     let left : new.held ≡ h.behind = held ∙ ap (drop (count + 1)) cut ∙ drop_at feed h.behind (count + 1) counted in
-    let taken = Kept-takes old mid new feed kept (Takes-held mid new feed h.behind cut left unread) in
+    let taken = Kept-takes old mid new feed kept (TakesBytes-held mid new feed h.behind cut left unread) in
     let is_line : IsLine h.line = (h.one_line, omega (arith, ap length h.held, sizes, bounded)) in
     record {
-      taken = subst (λ (l : List ℕ). Takes old new (l ++ 10 ∷ [])) (sym same) taken;
+      taken = subst (λ (l : List ℕ). TakesBytes old new (l ++ 10 ∷ [])) (sym same) taken;
       is_line = subst IsLine (sym same) is_line;
     }
 
 -- and more after it
-line_and : (old mid new : Input) (line more : List ℕ) → LineTaken old mid line → Takes mid new more
-    → Takes old new (line ++ 10 ∷ more)
+line_and : (old mid new : Input) (line more : List ℕ) → LineTaken old mid line → TakesBytes mid new more
+    → TakesBytes old new (line ++ 10 ∷ more)
 line_and old mid new line more t taken =
-    subst (Takes old new) (append_assoc line (10 ∷ []) more)
-    (Takes-trans old mid new (line ++ 10 ∷ []) more t.taken taken)
+    subst (TakesBytes old new) (append_assoc line (10 ∷ []) more)
+    (TakesBytes-trans old mid new (line ++ 10 ∷ []) more t.taken taken)
 
 -- less than the body was taken
 pub open_body : (old mid new : Input) (line : List ℕ) (count : ℕ) → LineTaken old mid line
@@ -128,7 +129,7 @@ goes_onward old found mid new line at count is searched taken reads held =
 pub finished : (old mid new : Input) (line : List ℕ) (item : Item) (count : ℕ) (handed : Option Item)
     → LineTaken old mid line
     → Onward old mid new line count
-    → item ≡ item_with line Unread → count ≡ body_len_announced line → Finishes mid item count handed new
+    → item ≡ item_with line Unread → count ≡ body_len_announced line → FinishesItem mid item count handed new
     → ReadsItem old handed new
 finished old mid new line item count (Some handed) t on is n f = record {
   front = line ++ 10 ∷ f.body;
@@ -144,7 +145,7 @@ finished old mid new line item count (Some handed) t on is n f = record {
         means = refl;
       });
   is_handed =
-      subst (λ found. IsHandedOut found handed) (ap (λ i. with_body i (Read f.body)) is
+      subst (λ found. IsHandedItem found handed) (ap (λ i. with_body i (Read f.body)) is
       ∙ line_filled line (Read f.body)) f.is_handed;
   reads_for = λ held. on (omega (arith, held, length-append line (10 ∷ f.body), f.counted));
 }
@@ -188,7 +189,7 @@ too_long old mid new kept more bounded t = record {
 -- after a million items the last fault is handed out, for which nothing is taken
 pub enough : (old new : LineReader) → old.phase ≡ Open → old.items ≡ MAX_ITEMS → old.left ≡ new.left
     → new.unread ≡ old.unread → new.items ≡ old.items + 1
-    → new.errors ≡ old.errors → new.phase ≡ Over → HandsOut old new (Last Enough)
+    → new.errors ≡ old.errors → new.phase ≡ Over → HandsOutItem old new (Last Enough)
 enough old new is_open items left unread counted errors over = record {
   was_open = is_open;
   front = [];
@@ -201,3 +202,24 @@ enough old new is_open items left unread counted errors over = record {
   unread_is = λ _. unread;
   phase_is = over;
 }
+
+-- an item that is held begins with a line that is held
+pub held_line : (ahead : Input) (begins : BeginsWithItem ahead.held) → HoldsLine ahead (length begins.line)
+held_line ahead begins =
+    record { line = begins.line; behind = begins.behind; held = begins.whole; one_line = begins.one_line; counted = refl }
+
+-- the line that is taken is the one that was held, so that no body follows it
+pub bare_taken : (old mid : Input) (begins : BeginsWithItem old.held) (count : ℕ) (line : List ℕ) → count ≡ length begins.line
+    → mid ≡ old → line ≡ take count mid.held → body_len_announced line ≡ 0
+bare_taken old mid begins count line counted same is =
+    let held = ap (λ a. take count a.held) same ∙ ap (take count) begins.whole in
+    let line_is : line ≡ begins.line = is ∙ held ∙ take_at begins.line (10 ∷ begins.behind) count (sym counted) in
+    ap body_len_announced line_is ∙ begins.bare
+
+-- an item without a body is finished
+pub finished_bare : (r : Result Bool ReadFault) (old new : Input) (item handed : Item) (count : ℕ) → count ≡ 0
+    → IfOk r (λ whole. FinishesItem old item count (if whole then Some handed else None) new)
+    → OnErr r (TakesFewer old new count) → r ≡ Ok true
+finished_bare (Ok true) old new item handed count none finishes fewer = refl
+finished_bare (Ok false) old new item handed count none finishes fewer = absurd (omega (arith, none, finishes.0.fewer))
+finished_bare (Err fault) old new item handed count none finishes fewer = absurd (omega (arith, none, fewer.fewer))

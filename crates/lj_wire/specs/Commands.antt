@@ -126,19 +126,19 @@ abbrev pub symbol_of : List ℕ → Option (List ℕ)
 symbol_of word = if is_symbol word then Some word else None
 
 -- `P Q`: two symbols that differ
-abbrev pub symbols_of : List ℕ → List ℕ → Option SymbolPair
-symbols_of p q = do
+abbrev pub pair_of_words : List ℕ → List ℕ → Option SymbolPair
+pair_of_words p q = do
   first ← symbol_of p
   second ← symbol_of q
   pair_of first second
 
 -- the class in the first three words, `sigma step_factor weight`, which may be any words; and the words after them
-abbrev pub class_in : Words → Option (ClassNumbers × Words)
-class_in (sigma ∷ step_factor ∷ weight ∷ words) = Some (
+abbrev pub class_of_words : Words → Option (ClassNumbers × Words)
+class_of_words (sigma ∷ step_factor ∷ weight ∷ words) = Some (
   record { sigma = result_ok (nano_of sigma); step_factor = number_of step_factor; weight = number_of weight },
   words,
 )
-class_in words = None
+class_of_words words = None
 
 -- the classes for two atoms of the first species, for one of each and for two of the second; `left` has the words after them
 pub record Classes : Type 0 where
@@ -150,15 +150,15 @@ pub record Classes : Type 0 where
 -- three classes
 abbrev pub classes_in : Words → Option Classes
 classes_in words = do
-  first ← class_in words
-  unlike ← class_in first.1
-  second ← class_in unlike.1
+  first ← class_of_words words
+  unlike ← class_of_words first.1
+  second ← class_of_words unlike.1
   Some (record { first = first.0; unlike = unlike.0; second = second.0; left = second.1 })
 
 -- LOADMIX: `s edge P Q`, the classes of P with P, of P with Q and of Q with Q, and `mode count`
 abbrev pub load_mix_of : Words → Option Load
 load_mix_of (s ∷ edge ∷ p ∷ q ∷ words) = do
-  symbols ← symbols_of p q
+  symbols ← pair_of_words p q
   classes ← classes_in words
   mode ← mode_and_count classes.left
   load_from s edge (Mixed symbols classes.first classes.unlike classes.second) mode
@@ -193,8 +193,8 @@ count_of word = do
   if nat_le (length word) MAX_COUNT_DIGITS && nat_le count MAX_BODY_BYTES then Some count else None
 
 -- the count in the line of a load: the last word after the verb
-abbrev pub last_count : Words → Option ℕ
-last_count words = last_or None words >>= count_of
+abbrev pub load_count : Words → Option ℕ
+load_count words = last_or None words >>= count_of
 
 -- the item of parsed words: their command, or a syntax fault
 abbrev pub item_or_syntax : Option Command → Item
@@ -210,13 +210,13 @@ counted_item None command = item.Last fault.Body
 abbrev pub verb_item : Option Verb → Words → LoadBody → Item
 verb_item None words body = item.Bad fault.Command
 verb_item (Some verb) words body =
-    if has_body verb then counted_item (last_count words) (verb_command verb body words)
+    if has_body verb then counted_item (load_count words) (verb_command verb body words)
     else item_or_syntax (verb_command verb body words)
 
 -- the number of bytes of body after a line with this verb: the count of a load, else 0
 abbrev pub verb_body_len : Option Verb → Words → ℕ
 verb_body_len None words = 0
-verb_body_len (Some verb) words = if has_body verb then unwrap_or (last_count words) 0 else 0
+verb_body_len (Some verb) words = if has_body verb then unwrap_or (load_count words) 0 else 0
 
 -- the item of a line of these words: without a word a syntax fault; a load gets this body
 unfoldable pub item_of_words : Words → LoadBody → Item

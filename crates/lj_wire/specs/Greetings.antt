@@ -10,7 +10,7 @@ use Rattle.lj_wire.specs.declared.hello.Hello.{Hello}
 use Rattle.lj_wire.specs.declared.hello.Hello.TheVariants.{Asked, Other}
 use Rattle.lj_wire.specs.declared.line_limits.TheConstants.{LONG_LINE_BYTES}
 use Rattle.lj_wire.specs.declared.reader.phase.Phase.TheVariants.{Open, Over, Failed}
-use Rattle.lj_wire.specs.Input.{Input, bytes_untaken, Takes, TakesPart, ReadsFor}
+use Rattle.lj_wire.specs.Input.{Input, bytes_untaken, TakesBytes, TakesPart, ReadsFor}
 use Rattle.lj_wire.specs.Commands.{◌>>=◌, Words, is_over, words_in}
 use Rattle.lj_wire.specs.LineReader.{LineReader, CeasesWithin, FailsWithin}
 use Rattle.lj_wire.specs.Streams.{LacksLineFeed, IsLine}
@@ -52,7 +52,7 @@ IsFirstLine bytes hello = IsHelloLine bytes hello ⊎ IsHelloTooLong bytes hello
 -- the first line was taken
 pub record TakesHello (old new : Input) (hello : Hello) : Type 0 where
   pub front : List ℕ
-  pub taken : Takes old new front
+  pub taken : TakesBytes old new front
   pub is_first : IsFirstLine front hello
   pub reads_for : ReadsFor old new (length front)
 

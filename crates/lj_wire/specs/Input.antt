@@ -35,8 +35,8 @@ abbrev pub ReadsFor : Input → Input → ℕ → Type 0
 ReadsFor old new count = count ≤ length old.held → new.unread ≡ old.unread
 
 -- these bytes are taken from the front
-abbrev pub Takes : Input → Input → List ℕ → Type 0
-Takes old new bytes = Consumes (bytes_untaken old) (bytes_untaken new) bytes
+abbrev pub TakesBytes : Input → Input → List ℕ → Type 0
+TakesBytes old new bytes = Consumes (bytes_untaken old) (bytes_untaken new) bytes
 
 -- the bytes held begin with a line of `count` bytes and its line feed
 pub record HoldsLine (ahead : Input) (count : ℕ) : Type 0 where
@@ -55,5 +55,5 @@ pub record HoldsNoFeed (ahead : Input) : Type 0 where
 -- bytes of a line were taken, without its line feed
 pub record TakesPart (old new : Input) : Type 0 where
   pub part : List ℕ
-  pub taken : Takes old new part
+  pub taken : TakesBytes old new part
   pub is_line : IsLine part

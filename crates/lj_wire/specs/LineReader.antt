@@ -12,7 +12,8 @@ use Rattle.lj_wire.specs.declared.reader.phase.Phase.TheVariants.{Open, Over, Fa
 use Rattle.lj_wire.specs.Ends.{Rises}
 use Rattle.lj_wire.specs.Items.{is_ending}
 use Rattle.lj_session.specs.Users.{User}
-use Rattle.lj_wire.specs.Streams.{IsItem, IsPart, Splits}
+use Rattle.lj_wire.specs.Commands.{body_len_announced}
+use Rattle.lj_wire.specs.Streams.{LacksLineFeed, IsItem, IsPart, Splits}
 use Rattle.lj_wire.specs.Told.{item_reply}
 
 -- The state of a reader. `left` has the bytes that are in no item yet, where they are known: `held`, which were read ahead, and
@@ -33,22 +34,30 @@ pub record IsLost (found item : Item) : Type 0 where
   pub item_is : item ≡ Command (Load (record load { body = Lost }))
 
 -- what is handed out for an item of the stream: the item, or a load whose body was lost
-abbrev pub IsHandedOut : Item → Item → Type 0
-IsHandedOut found item = (item ≡ found) ⊎ IsLost found item
+abbrev pub IsHandedItem : Item → Item → Type 0
+IsHandedItem found item = (item ≡ found) ⊎ IsLost found item
 
 -- The next item of the stream was handed out, and the reader is over if that item ends the connection. No read is made for an
 -- item already held, nor for the last fault after a million items, which has no bytes.
-pub record HandsOut (old new : LineReader) (item : Item) : Type 0 where
+pub record HandsOutItem (old new : LineReader) (item : Item) : Type 0 where
   pub was_open : old.phase ≡ Open
   pub front : List ℕ
   pub found : Item
   pub taken : Consumes old.left new.left front
   pub is_item : IsItem old.items front found
-  pub is_found : IsHandedOut found item
+  pub is_found : IsHandedItem found item
   pub items_is : new.items ≡ old.items + 1
   pub errors_is : new.errors ≡ old.errors
   pub unread_is : length front ≤ length old.held → new.unread ≡ old.unread
   pub phase_is : new.phase ≡ (if is_ending item then Over else Open)
+
+-- The bytes begin with an item that is whole: a line that no body follows. Where a reader holds them, no read is made for it.
+pub record BeginsWithItem (bytes : List ℕ) : Type 0 where
+  pub line : List ℕ
+  pub behind : List ℕ
+  pub whole : bytes ≡ line ++ 10 ∷ behind
+  pub one_line : LacksLineFeed line
+  pub bare : body_len_announced line ≡ 0
 
 -- the input ended within a part, which was taken
 pub record CeasesWithin (Part : List ℕ → Type 0) (old new : LineReader) : Type 0 where
@@ -91,12 +100,12 @@ HasFailed old new = (old.phase ≡ Failed) × (new ≡ old) ⊎ Fails old new
 -- items that were handed out one after the other
 abbrev pub HandsAll : LineReader → List Item → LineReader → Type 0
 HandsAll old [] new = new ≡ old
-HandsAll old (item ∷ items) new = (next : LineReader) × HandsOut old next item × HandsAll next items new
+HandsAll old (item ∷ items) new = (next : LineReader) × HandsOutItem old next item × HandsAll next items new
 
 -- what was handed out for items of the stream, one for one
 abbrev pub AreHandedOut : List Item → List Item → Type 0
 AreHandedOut [] [] = Unit {0}
-AreHandedOut (found ∷ founds) (item ∷ items) = IsHandedOut found item × AreHandedOut founds items
+AreHandedOut (found ∷ founds) (item ∷ items) = IsHandedItem found item × AreHandedOut founds items
 AreHandedOut [] (item ∷ items) = ⊥
 AreHandedOut (found ∷ founds) [] = ⊥
 

@@ -9,7 +9,7 @@ use Rattle.lj_fixed.specs.Decimal.{decimal_of, nano_of}
 use Rattle.lj_fixed.specs.Millionths.{millionths}
 use Rattle.lj_fixed.specs.Numbers.{number_of}
 use Rattle.lj_table.specs.Entries.{push_entry, energy_entry}
-use Rattle.lj_tile.specs.Pushes.{push}
+use Rattle.lj_task.specs.Pushes.{push}
 use Rattle.lj_step.specs.Motion.{force}
 use Rattle.lj_base.specs.Words.{words_of}
 use Rattle.lj_xyz.specs.Lines.{is_line_feed, lines_of}
@@ -24,7 +24,7 @@ use Rattle.lj_wire.specs.Items.{is_ending}
 use Rattle.lj_wire.specs.declared.line_limits.TheConstants.{LONG_LINE_BYTES, MAX_ITEMS}
 use Rattle.lj_wire.specs.Displacements.{displacement_of}
 use Rattle.lj_wire.specs.Commands.{body_len_announced, item_of, count_of, item_of_words, body_len}
-use Rattle.lj_wire.specs.Texts.{text}
+use Rattle.lj_wire.specs.ReplyTexts.{text}
 use Rattle.lj_wire.specs.Told.{item_text, texts, last_user}
 use Rattle.lj_wire.specs.Streams.{IsLine, IsLineItem, IsPart, Splits, AreMarks, Dialogue}
 

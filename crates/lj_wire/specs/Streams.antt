@@ -9,7 +9,7 @@ use Rattle.lj_wire.specs.declared.item.Item.TheVariants.{Last}
 use Rattle.lj_wire.specs.declared.line_limits.TheConstants.{LONG_LINE_BYTES, MAX_ITEMS}
 use Rattle.lj_wire.specs.Items.{is_ending}
 use Rattle.lj_wire.specs.Commands.{body_len_announced, item_of}
-use Rattle.lj_wire.specs.Texts.{is_memory}
+use Rattle.lj_wire.specs.ReplyTexts.{is_memory}
 use Rattle.lj_wire.specs.Told.{texts, last_user}
 
 -- no byte is a line feed

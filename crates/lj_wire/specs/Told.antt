@@ -8,7 +8,7 @@ use Rattle.lj_session.specs.Answers.{answer}
 use Rattle.lj_wire.specs.declared.item.Item.{Item}
 use Rattle.lj_wire.specs.declared.item.Item.TheVariants.{Command, Bad, Last}
 use Rattle.lj_wire.specs.Items.{refusal_of}
-use Rattle.lj_wire.specs.Texts.{text}
+use Rattle.lj_wire.specs.ReplyTexts.{text}
 
 -- the reply to an item, and the user after it
 abbrev pub item_reply : User → Item → Bool → Reply × User

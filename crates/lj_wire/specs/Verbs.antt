@@ -1,5 +1,5 @@
 -- The first words of commands.
-use Rattle.std.specs.Prelude.{ℕ, Bool, true, false, List, [], ◌∷◌, Option, Some, None, codes}
+use Rattle.std.specs.Prelude.{◌≡◌, ℕ, ◌<◌, Bool, true, false, List, [], ◌∷◌, Option, Some, None, codes}
 use Rattle.std.specs.Map.{lookup}
 use Rattle.std.specs.Str.{bytes_eq}
 use Rattle.lj_wire.specs.declared.verb.Verb.{Verb}
@@ -43,3 +43,11 @@ is_load_verb (Some verb) = has_body verb
 -- a word is the verb of a load
 abbrev pub is_load : List ℕ → Bool
 is_load word = is_load_verb (verb_of word)
+
+-- the first byte is a capital letter, and not the L of a load
+pub record BeginsWithLetter (bytes : List ℕ) : Type 0 where
+  pub first : ℕ
+  pub others : List ℕ
+  pub bytes_are : bytes ≡ first ∷ others
+  pub letter : 64 < first
+  pub no_load : first ≡ 76 → ⊥

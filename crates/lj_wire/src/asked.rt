@@ -1,7 +1,7 @@
 //! Readers and writers whose calls are counted.
 ghost use Rattle.std.specs.Prelude.{◌≡◌, ℕ, ◌≤◌, List, Option, length, IfOk};
 ghost use Rattle.std.specs.Io.KnownBytes.{Keeps, ReadConsumes, WriteAppends};
-ghost use Rattle.lj_wire.specs.Ends.{one_more};
+ghost use Rattle.lj_wire.specs.Ends.{next_count};
 
 use std::io;
 use std::io::{Read, Write};
@@ -18,7 +18,7 @@ pub trait Reads {
     fn read_once(&mut self, buf: &mut [u8]) -> io::Result<usize>
         ensures bound { IfOk result (λ n. n ≤ length buf.new) }
         ensures bytes { ReadConsumes (remaining self.old) (remaining self.new) result buf.new }
-        ensures once { asked self.new ≡ one_more (asked self.old) };
+        ensures once { asked self.new ≡ next_count (asked self.old) };
 }
 
 /// A writer whose calls are counted.
@@ -33,12 +33,12 @@ pub trait Writes {
     fn write_once(&mut self, bytes: &[u8]) -> io::Result<usize>
         ensures bound { IfOk result (λ n. n ≤ length bytes.now) }
         ensures bytes { WriteAppends (contents self.old) (contents self.new) result bytes.now }
-        ensures once { asked self.new ≡ one_more (asked self.old) };
+        ensures once { asked self.new ≡ next_count (asked self.old) };
 
     /// Asks for one flush, as std's `Write::flush`.
     fn flush_once(&mut self) -> io::Result<()>
         ensures kept { Keeps (contents self.old) (contents self.new) }
-        ensures once { asked self.new ≡ one_more (asked self.old) };
+        ensures once { asked self.new ≡ next_count (asked self.old) };
 }
 
 /// A reader or a writer of std. No clause of std counts its calls, so only the bodies below show that each of them makes one.

@@ -6,7 +6,7 @@ ghost use Rattle.lj_wire.specs.declared.item.Item.TheVariants as items;
 ghost use Rattle.lj_wire.specs.Commands.{count_of, mode_of, name_and_number, one_name, two_names};
 ghost use Rattle.lj_wire.specs.Commands.{bare_command, list_command, load_command, tug_command, verb_command};
 ghost use Rattle.lj_wire.specs.Commands.{number_command};
-ghost use Rattle.lj_wire.specs.Commands.{class_in, load_from, load_mix_of, load_of, mode_and_count, symbols_of};
+ghost use Rattle.lj_wire.specs.Commands.{class_of_words, load_from, load_mix_of, load_of, mode_and_count, pair_of_words};
 
 use crate::displacement::parse_displacement;
 use crate::item::Item;
@@ -158,14 +158,14 @@ fn parse_load_from(
 }
 
 fn parse_symbols(first: &[u8], second: &[u8]) -> Option<SymbolPair>
-    ensures { result ≡ symbols_of first.now second.now }
+    ensures { result ≡ pair_of_words first.now second.now }
 {
     SymbolPair::new(Symbol::new(first)?, Symbol::new(second)?)
 }
 
 // Takes the next three words as a class; they may be any words.
 fn next_class(words: &mut Words) -> Option<ClassNumbers>
-    ensures { option_map (λ class. (class, words.new)) result ≡ class_in words.old }
+    ensures { option_map (λ class. (class, words.new)) result ≡ class_of_words words.old }
 {
     let sigma = words.next()?;
     let step_factor = words.next()?;

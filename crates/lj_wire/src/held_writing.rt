@@ -1,5 +1,5 @@
 //! A writer that holds replies back until it is flushed, or its buffer is full.
-ghost use Rattle.std.specs.Prelude.{◌≡◌, ◌<◌, ◌≤◌, Some, [], length, take, vec_len, vec_capacity, IfOk, OnOk, OnErr};
+ghost use Rattle.std.specs.Prelude.{◌≡◌, ◌<◌, ◌≤◌, false, Some, [], length, take, vec_len, vec_capacity, IfOk, OnOk, OnErr};
 ghost use Rattle.std.specs.Io.KnownBytes.{Appends, Keeps};
 ghost use Rattle.lj_wire.specs.Ends.{Rises};
 ghost use Rattle.lj_wire.specs.declared.held_writing.TheConstants.{MAX_HELD_BYTES};
@@ -34,6 +34,7 @@ impl<W: Writes> HeldWriting<W> {
         ensures contents { IfOk result
             (λ held. Keeps (W.contents writer) (⟦<HeldWriting<W> as Sink>⟧.contents held)) }
         ensures faults { IfOk result (λ held. ⟦<HeldWriting<W> as Sink>⟧.faults held ≡ Some 0) }
+        ensures flushed { IfOk result (λ held. ⟦<HeldWriting<W> as Sink>⟧.unflushed held ≡ false) }
     {
         let bytes = Vec::with_capacity(alloc, MAX_HELD_BYTES)?;
         Ok(HeldWriting {
@@ -100,12 +101,16 @@ impl<W: Writes> HeldWriting<W> {
 impl<W: Writes> Sink for HeldWriting<W> {
     ghost use Rattle.std.specs.Prelude.{drop};
     ghost use Rattle.std.specs.Io.KnownBytes.{append_known};
+    ghost use Rattle.lj_wire.specs.Ends.{unflushed_or};
 
     // The bytes handed over: those written, and those held back.
     ghost contents = { λ held. append_known (⟦<CountedWriting<W> as Sink>⟧.contents held.counted_writer)
         (drop held.sent held.bytes.items) };
 
     ghost faults = { λ held. ⟦<CountedWriting<W> as Sink>⟧.faults held.counted_writer };
+
+    ghost unflushed = { λ held.
+        unflushed_or held.bytes.items (⟦<CountedWriting<W> as Sink>⟧.unflushed held.counted_writer) };
 
     fn write(&mut self, bytes: &[u8]) -> Result<usize, WriteFault> {
         self.make_room()?;
@@ -115,7 +120,7 @@ impl<W: Writes> Sink for HeldWriting<W> {
     fn flush(&mut self) -> Result<(), WriteFault>
         ensures kept { let handed = ⟦<HeldWriting<W> as Sink>⟧.contents in
             Keeps (handed self.old) (handed self.new) }
-        ensures sent { OnOk result (self.new.bytes.items ≡ []) }
+        ensures sent { OnOk result (⟦<HeldWriting<W> as Sink>⟧.unflushed self.new ≡ false) }
         ensures counted { let faults = ⟦<HeldWriting<W> as Sink>⟧.faults in
             OnOk result (faults self.new ≡ faults self.old) }
         ensures risen { let faults = ⟦<HeldWriting<W> as Sink>⟧.faults in

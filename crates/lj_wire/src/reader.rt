@@ -1,7 +1,10 @@
 //! The reader of a stream of lines and bodies.
-ghost use Rattle.std.specs.Prelude.{◌≡◌, ◌↔◌, true, false, [], IfOk, IfSome, IfNone, OnErr};
+ghost use Rattle.std.specs.Prelude.{◌≡◌, ◌↔◌, true, false, [], Ok, IfOk, IfSome, IfNone, OnErr};
 ghost use Rattle.std.specs.Io.KnownBytes.{prepend_known};
 ghost use Rattle.lj_wire.specs.declared.reader.phase.Phase.TheVariants.{Open};
+ghost use Rattle.lj_wire.specs.Commands.{body_len_announced};
+ghost use Rattle.lj_wire.specs.LineReader.{BeginsWithItem};
+ghost use Rattle.lj_wire.specs.Verbs.{BeginsWithLetter};
 
 mod buffer;
 mod greeting;
@@ -57,7 +60,7 @@ impl<S: Source> Model for LineReader<S> {
 }
 
 impl<S: Source> LineReader<S> {
-    ghost use Rattle.lj_wire.specs.LineReader.{HandsOut, HandsNone, HasFailed};
+    ghost use Rattle.lj_wire.specs.LineReader.{HandsOutItem, HandsNone, HasFailed};
     ghost use Rattle.lj_wire.specs.Greetings.{Greets, GreetsNone, HasFailedEarly};
 
     /// Makes a reader of `source` that has read nothing.
@@ -80,7 +83,7 @@ impl<S: Source> LineReader<S> {
     /// Returns the next item; `None` where the input ended before a whole one came, or after an item that ends the connection.
     /// After `None` or a fault nothing more is read.
     pub fn next(&mut self) -> Result<Option<Item>, ReadFault>
-        ensures item { IfOk result (λ item. IfSome item (HandsOut self.old self.new)) }
+        ensures item { IfOk result (λ item. IfSome item (HandsOutItem self.old self.new)) }
         ensures none { IfOk result (λ item. IfNone item (HandsNone self.old self.new)) }
         ensures fault { OnErr result (HasFailed self.old self.new) }
     {
@@ -88,11 +91,13 @@ impl<S: Source> LineReader<S> {
         Ok(self.next_into(&mut item)?.then_some(item))
     }
 
-    /// Puts the item that `next` would return into `item`; returns false where there is none.
+    /// Puts the item that `next` would return into `item`; returns false where there is none. Where a whole line
+    /// is held that no body follows, it is the item, and nothing is read.
     pub fn next_into(&mut self, item: &mut Item) -> Result<bool, ReadFault>
-        ensures item { IfOk result (λ some. some ≡ true → HandsOut self.old self.new item.new) }
+        ensures item { IfOk result (λ some. some ≡ true → HandsOutItem self.old self.new item.new) }
         ensures none { IfOk result (λ some. some ≡ false → HandsNone self.old self.new) }
         ensures fault { OnErr result (HasFailed self.old self.new) }
+        ensures at_once { self.old.phase ≡ Open → BeginsWithItem self.old.held → result ≡ Ok true }
     {
         match self.phase {
             Phase::Open => {}
@@ -155,18 +160,10 @@ impl<S: Source> LineReader<S> {
     }
 
     /// Returns whether the next item is among the bytes held: a whole line that no body follows. False for a load.
-    pub fn holds_item(&self) -> bool {
-        let held = self.input.held();
-        if begins_no_load(held) {
-            return held.last() == Some(&b'\n') || split_line(held).is_some();
-        }
-        let Some((line, _)) = split_line(held) else {
-            return false;
-        };
-        match words_in(line).next() {
-            Some(word) => !is_load(word),
-            None => true,
-        }
+    pub fn holds_item(&self) -> bool
+        ensures { result ≡ true → BeginsWithItem self.now.held }
+    {
+        begins_with_item(self.input.held())
     }
 
     /// Returns the source. Bytes read ahead are dropped.
@@ -185,8 +182,33 @@ impl<S: Source> LineReader<S> {
     }
 }
 
-/// Returns true if the first letter of a stream rules out a load. Some other streams that begin with no load give false too.
+/// Returns whether bytes begin with a whole line that no body follows. False for a load.
+fn begins_with_item(bytes: &[u8]) -> bool
+    ensures { result ≡ true → BeginsWithItem bytes.now }
+{
+    match split_line(bytes) {
+        Some((line, _)) => is_bare(line),
+        None => false,
+    }
+}
+
+/// Returns whether no body follows a line. False for a load.
+fn is_bare(line: &[u8]) -> bool
+    ensures { result ≡ true → body_len_announced line.now ≡ 0 }
+{
+    if begins_no_load(line) {
+        return true;
+    }
+    match words_in(line).next() {
+        Some(word) => !is_load(word),
+        None => true,
+    }
+}
+
+/// Returns true if the first letter of a line rules out a load. Some other lines that begin with no load give false too.
 #[inline]
-fn begins_no_load(stream: &[u8]) -> bool {
-    matches!(stream.first(), Some(b'A'..=b'K' | b'M'..=b'Z'))
+fn begins_no_load(line: &[u8]) -> bool
+    ensures { result ≡ true → BeginsWithLetter line.now }
+{
+    matches!(line.first(), Some(b'A'..=b'K' | b'M'..=b'Z'))
 }

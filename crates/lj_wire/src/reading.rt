@@ -1,7 +1,7 @@
 //! Parsing a line: its item, and how many bytes of body follow it.
 ghost use Rattle.std.specs.Prelude.{◌≡◌, Some, unwrap_or};
 ghost use Rattle.lj_session.specs.declared.body.LoadBody.TheVariants.{Unread};
-ghost use Rattle.lj_wire.specs.Commands.{body_len_announced, item_with, last_count, verb_command};
+ghost use Rattle.lj_wire.specs.Commands.{body_len_announced, item_with, load_count, verb_command};
 ghost use Rattle.lj_wire.specs.declared.item.Item.TheVariants.{Bad};
 ghost use Rattle.lj_wire.specs.Commands.{counted_item, item_or_syntax, over_item, verb_body_len, verb_item};
 
@@ -114,8 +114,8 @@ fn put_command(verb: Verb, words: Words, item: &mut Item)
 // Puts the item of the line of a load, and returns its count, or 0 where it has none.
 fn read_load(verb: Verb, words: Words, item: &mut Item) -> usize
     ensures item { item.new
-        ≡ counted_item (last_count words.entry) (verb_command verb Unread words.entry) }
-    ensures body { result ≡ unwrap_or (last_count words.entry) 0 }
+        ≡ counted_item (load_count words.entry) (verb_command verb Unread words.entry) }
+    ensures body { result ≡ unwrap_or (load_count words.entry) 0 }
 {
     match last_count(words.copy()) {
         Some(body) => {
@@ -142,7 +142,7 @@ fn put_words(verb: Verb, words: Words, item: &mut Item)
 
 // Parses the count in the line of a load: the last word after the verb.
 fn last_count(words: Words) -> Option<usize>
-    ensures { result ≡ last_count words.entry }
+    ensures { result ≡ load_count words.entry }
 {
     parse_count(words.last()?)
 }

@@ -9,11 +9,11 @@ ghost use Rattle.lj_ring.specs.Mix.{edge_of};
 ghost use Rattle.lj_session.specs.Refusals.{refusal_text};
 ghost use Rattle.lj_branch.specs.Named.{value_named};
 ghost use Rattle.lj_session.specs.Users.{User};
-ghost use Rattle.lj_session.specs.UserState.{live_session_at, names, user_of, settled_session};
+ghost use Rattle.lj_session.specs.UserState.{live_session_at, loaded_names, user_of, settled_session};
 ghost use Rattle.lj_session.specs.Owner.{IsSettled};
-ghost use Rattle.lj_wire.specs.Texts.{ok_line, ended_line, text, reply_lines, line_of, session_line, session_lines, branch_line};
-ghost use Rattle.lj_wire.specs.Texts.{branch_lines, dump_lines, atom_lines};
-ghost use Rattle.lj_wire.specs.Lines.{blank_and, is_one_line, listed_session};
+ghost use Rattle.lj_wire.specs.ReplyTexts.{ok_line, ended_line, text, reply_lines, line_of, session_line, session_lines, branch_line};
+ghost use Rattle.lj_wire.specs.ReplyTexts.{branch_lines, dump_lines, atom_lines};
+ghost use Rattle.lj_wire.specs.LineParts.{blank_and, is_one_line, listed_session};
 
 use arrayvec::ArrayVec;
 use itoa::{Buffer, Integer};
@@ -305,10 +305,10 @@ fn branch_line(line: &mut Line, branches: &Branches, i: usize)
 /// Writes the line of an atom in a frame of the i-th session.
 fn atom_line(line: &mut Line, state: &UserState, i: usize, atom: usize)
     requires session { i < length state.now.sessions }
-    requires atom { ForSome (live_session_at state.now i) (λ held. atom < length held.live.sim.cur) }
-    ensures { IfSome (live_session_at state.now i) (λ held.
+    requires atom { ForSome (live_session_at state.now i) (λ session. atom < length session.live.sim.cur) }
+    ensures { IfSome (live_session_at state.now i) (λ session.
         Some line.new.items
-        ≡ slice_get (atom_lines (edge_of held.live.composition.mix) held.symbols held.live.sim.cur) atom) }
+        ≡ slice_get (atom_lines (edge_of session.live.composition.mix) session.symbols session.live.sim.cur) atom) }
 {
     let edge = state.edge_at(i);
     let Place { x, y, z } = state.sim_at(i).place(atom);
@@ -325,7 +325,7 @@ fn atom_line(line: &mut Line, state: &UserState, i: usize, atom: usize)
 }
 
 /// Writes the line of a reply that has only one.
-#[tactic(auto, unfolding(crate::specs::Texts::reply_lines, crate::specs::Texts::text))]
+#[tactic(auto, unfolding(crate::specs::ReplyTexts::reply_lines, crate::specs::ReplyTexts::text))]
 fn only_line(line: &mut Line, reply: &Reply)
     requires { is_one_line reply.now ≡ true }
     ensures { (user : User) → reply_lines user reply.now ≡ line.new.items ∷ [] }
@@ -385,9 +385,9 @@ fn list_line(line: &mut Line, state: &UserState, k: usize) -> Option<()>
 /// Writes line k of the reply to LIST of the i-th session, which has this name. None past the last line.
 fn branches_line(line: &mut Line, state: &UserState, i: usize, name: &Name, k: usize) -> Option<()>
     requires { i < length state.now.sessions }
-    ensures text { IfSome (live_session_at state.now i) (λ held.
+    ensures text { IfSome (live_session_at state.now i) (λ session.
         option_map (λ _. line.new.items) result
-        ≡ slice_get (branch_lines name.now (Some (settled_session held))) k) }
+        ≡ slice_get (branch_lines name.now (Some (settled_session session))) k) }
     ensures unchanged { IfNone result (line.new ≡ line.old) }
 {
     let branches = state.branches_at(i);
@@ -406,10 +406,10 @@ fn branches_line(line: &mut Line, state: &UserState, i: usize, name: &Name, k: u
 /// Writes line k of the reply to DUMP of the i-th session, which has this name and no pending step. None past the last line.
 fn dump_line(line: &mut Line, state: &UserState, i: usize, name: &Name, k: usize) -> Option<()>
     requires session { i < length state.now.sessions }
-    requires settled { ForSome (live_session_at state.now i) (λ held. held.pending ≡ 0) }
-    ensures text { IfSome (live_session_at state.now i) (λ held.
+    requires settled { ForSome (live_session_at state.now i) (λ session. session.pending ≡ 0) }
+    ensures text { IfSome (live_session_at state.now i) (λ session.
         option_map (λ _. line.new.items) result
-        ≡ slice_get (dump_lines name.now (Some (settled_session held))) k) }
+        ≡ slice_get (dump_lines name.now (Some (settled_session session))) k) }
     ensures unchanged { IfNone result (line.new ≡ line.old) }
 {
     let sim = state.sim_at(i);
@@ -461,7 +461,7 @@ pub fn listed_session(state: &UserState, reply: &Reply) -> Option<usize>
 
 /// Does the same as `put_reply_line`, given the result of `listed_session`: a caller that writes all lines of a reply looks its
 /// session up once.
-#[tactic(auto, unfolding(crate::specs::Texts::reply_lines))]
+#[tactic(auto, unfolding(crate::specs::ReplyTexts::reply_lines))]
 pub fn put_line_at(
     line: &mut Line,
     state: &UserState,

@@ -1,7 +1,7 @@
 //! Ends of a stream: the source and the sink of its bytes, which may count their errors.
-ghost use Rattle.std.specs.Prelude.{◌≡◌, ℕ, ◌<◌, ◌≤◌, List, Option, Some, None, length, IfOk, OnOk, OnErr};
+ghost use Rattle.std.specs.Prelude.{◌≡◌, ℕ, ◌<◌, ◌≤◌, Bool, false, List, Option, Some, None, length, IfOk, OnOk, OnErr};
 ghost use Rattle.std.specs.Io.KnownBytes.{Keeps, ReadConsumes, WriteAppends};
-ghost use Rattle.lj_wire.specs.Ends.{Rises, one_more};
+ghost use Rattle.lj_wire.specs.Ends.{Rises, next_count};
 
 use crate::asked::{Reads, Writes};
 use std::fmt;
@@ -61,6 +61,9 @@ pub trait Sink {
     // The number of writes that returned an error or took nothing, and of flushes that returned an error, where they are counted.
     ghost faults: { Self → Option ℕ };
 
+    // Whether bytes may be held back that were written since the last flush that succeeded.
+    ghost unflushed: { Self → Bool };
+
     /// Writes some bytes from the front of `bytes`, and returns how many. Each error is a fault, an interrupted write too, and so
     /// is a write that takes nothing where `bytes` is not empty.
     fn write(&mut self, bytes: &[u8]) -> Result<usize, WriteFault>
@@ -70,9 +73,10 @@ pub trait Sink {
         ensures counted { OnOk result (faults self.new ≡ faults self.old) }
         ensures risen { OnErr result (Rises (faults self.old) (faults self.new)) };
 
-    /// Flushes what was written. An error is a fault, after which written bytes may be lost.
+    /// Flushes what was written, so that nothing is held back. An error is a fault, after which written bytes may be lost.
     fn flush(&mut self) -> Result<(), WriteFault>
         ensures kept { Keeps (contents self.old) (contents self.new) }
+        ensures sent { OnOk result (unflushed self.new ≡ false) }
         ensures counted { OnOk result (faults self.new ≡ faults self.old) }
         ensures risen { OnErr result (Rises (faults self.old) (faults self.new)) };
 }
@@ -148,7 +152,7 @@ impl<R: Reads> CountedReading<R> {
         ensures bytes { ReadConsumes (R.remaining self.old.reader) (R.remaining self.new.reader) result buf.new }
         ensures counted { OnOk result (self.new.errors ≡ self.old.errors) }
         ensures risen { OnErr result (Rises (Some self.old.errors) (Some self.new.errors)) }
-        ensures once { R.asked self.new.reader ≡ one_more (R.asked self.old.reader) }
+        ensures once { R.asked self.new.reader ≡ next_count (R.asked self.old.reader) }
     {
         match self.reader.read_once(buf) {
             Ok(count) => Ok(count),
@@ -180,20 +184,28 @@ impl<R: Reads> Source for CountedReading<R> {
 #[derive(Drop)]
 pub struct Writing<W> {
     writer: W,
+    unflushed: bool,
 }
 
 impl<W: Write> Writing<W> {
     /// Wraps `writer`, and writes nothing.
     pub fn new(writer: W) -> Self
-        ensures { ⟦<Writing<W> as Sink>⟧.contents result ≡ W.contents writer }
+        ensures contents { ⟦<Writing<W> as Sink>⟧.contents result ≡ W.contents writer }
+        ensures flushed { ⟦<Writing<W> as Sink>⟧.unflushed result ≡ false }
     {
-        Writing { writer }
+        Writing {
+            writer,
+            unflushed: false,
+        }
     }
 
     pub fn into_inner(self) -> W
         ensures { W.contents result ≡ ⟦<Writing<W> as Sink>⟧.contents self }
     {
-        let Writing { writer } = self;
+        let Writing {
+            writer,
+            unflushed: _,
+        } = self;
         writer
     }
 }
@@ -203,7 +215,10 @@ impl<W: Write> Sink for Writing<W> {
 
     ghost faults = { λ _. None };
 
+    ghost unflushed = { λ writing. writing.unflushed };
+
     fn write(&mut self, bytes: &[u8]) -> Result<usize, WriteFault> {
+        self.unflushed = true;
         match self.writer.write(bytes) {
             Ok(0) if !bytes.is_empty() => Err(WriteFault),
             Ok(count) => Ok(count),
@@ -213,7 +228,10 @@ impl<W: Write> Sink for Writing<W> {
 
     fn flush(&mut self) -> Result<(), WriteFault> {
         match self.writer.flush() {
-            Ok(()) => Ok(()),
+            Ok(()) => {
+                self.unflushed = false;
+                Ok(())
+            }
             Err(_) => Err(WriteFault),
         }
     }
@@ -224,6 +242,7 @@ impl<W: Write> Sink for Writing<W> {
 pub struct CountedWriting<W> {
     writer: W,
     faults: u64,
+    unflushed: bool,
 }
 
 impl<W: Writes> CountedWriting<W> {
@@ -231,8 +250,13 @@ impl<W: Writes> CountedWriting<W> {
     pub fn new(writer: W) -> Self
         ensures contents { ⟦<CountedWriting<W> as Sink>⟧.contents result ≡ W.contents writer }
         ensures faults { ⟦<CountedWriting<W> as Sink>⟧.faults result ≡ Some 0 }
+        ensures flushed { ⟦<CountedWriting<W> as Sink>⟧.unflushed result ≡ false }
     {
-        CountedWriting { writer, faults: 0 }
+        CountedWriting {
+            writer,
+            faults: 0,
+            unflushed: false,
+        }
     }
 
     /// Returns the number of writes that returned an error or took nothing, and of flushes that returned an error; at most
@@ -246,19 +270,27 @@ impl<W: Writes> CountedWriting<W> {
     pub fn into_inner(self) -> W
         ensures { W.contents result ≡ ⟦<CountedWriting<W> as Sink>⟧.contents self }
     {
-        let CountedWriting { writer, faults: _ } = self;
+        let CountedWriting {
+            writer,
+            faults: _,
+            unflushed: _,
+        } = self;
         writer
     }
 
     // Asks for one flush, and counts a fault.
     fn ask_flush(&mut self) -> Result<(), WriteFault>
         ensures kept { Keeps (W.contents self.old.writer) (W.contents self.new.writer) }
+        ensures sent { OnOk result (self.new.unflushed ≡ false) }
         ensures counted { OnOk result (self.new.faults ≡ self.old.faults) }
         ensures risen { OnErr result (Rises (Some self.old.faults) (Some self.new.faults)) }
-        ensures once { W.asked self.new.writer ≡ one_more (W.asked self.old.writer) }
+        ensures once { W.asked self.new.writer ≡ next_count (W.asked self.old.writer) }
     {
         match self.writer.flush_once() {
-            Ok(()) => Ok(()),
+            Ok(()) => {
+                self.unflushed = false;
+                Ok(())
+            }
             Err(_) => Err(self.fault()),
         }
     }
@@ -270,8 +302,9 @@ impl<W: Writes> CountedWriting<W> {
         ensures bytes { WriteAppends (W.contents self.old.writer) (W.contents self.new.writer) result bytes.now }
         ensures counted { OnOk result (self.new.faults ≡ self.old.faults) }
         ensures risen { OnErr result (Rises (Some self.old.faults) (Some self.new.faults)) }
-        ensures once { W.asked self.new.writer ≡ one_more (W.asked self.old.writer) }
+        ensures once { W.asked self.new.writer ≡ next_count (W.asked self.old.writer) }
     {
+        self.unflushed = true;
         match self.writer.write_once(bytes) {
             Ok(count) if count > 0 || bytes.is_empty() => Ok(count),
             Ok(_) | Err(_) => Err(self.fault()),
@@ -292,6 +325,8 @@ impl<W: Writes> Sink for CountedWriting<W> {
     ghost contents = { λ writing. W.contents writing.writer };
 
     ghost faults = { λ writing. Some writing.faults };
+
+    ghost unflushed = { λ writing. writing.unflushed };
 
     fn write(&mut self, bytes: &[u8]) -> Result<usize, WriteFault> {
         self.ask(bytes)

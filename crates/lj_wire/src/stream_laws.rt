@@ -1,8 +1,8 @@
 //! Laws of streams and of answers: the contracts of functions with empty bodies.
 ghost use Rattle.lj_session.specs.UserState.{user_of};
-ghost use Rattle.lj_wire.specs.Laws.{OneSplitting, SomeSplitting, MarkIsTold, AlikeIsTold, WaitingGoesOn};
-ghost use Rattle.lj_wire.specs.Laws.{BodyMissingIsMarked, BodyIsBounded, LinesAreTheText, CommandsAreItems};
-ghost use Rattle.lj_wire.specs.Laws.{IsReachedAlone};
+ghost use Rattle.lj_wire.specs.StreamLaws.{OneSplitting, SomeSplitting, MarkIsTold, AlikeIsTold, WaitingGoesOn};
+ghost use Rattle.lj_wire.specs.StreamLaws.{BodyMissingIsMarked, BodyIsBounded, LinesAreTheText, CommandsAreItems};
+ghost use Rattle.lj_wire.specs.StreamLaws.{IsReachedAlone};
 
 use lj_session::UserState;
 

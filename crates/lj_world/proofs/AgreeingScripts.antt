@@ -4,7 +4,7 @@ use Rattle.lj_session.specs.Users.{User, fresh_user}
 use Rattle.lj_wire.specs.declared.item.Item.{Item}
 use Rattle.lj_wire.specs.Told.{item_text, texts}
 use Rattle.lj_world.specs.Scripts.{IsPrefix, OneIsPrefix}
-use Rattle.lj_world.specs.Laws.{RepliesAreFirstTexts, AgreeingScriptsAgreeInTexts, Headline, alone_texts, script_in}
+use Rattle.lj_world.specs.RunLaws.{RepliesAreFirstTexts, AgreeingScriptsAgreeInTexts, Headline, alone_texts, script_in}
 
 cons_head : {A : Type 0} (x y : A) (xs ys : List A) → x ∷ xs ≡ y ∷ ys → x ≡ y
 cons_head x y xs ys e = cc

@@ -2,9 +2,9 @@
 use Rattle.std.proofs.Common.{◌≡◌, ℕ, suc, Bool, List, [], ◌∷◌, ◌++◌, map, length, refl, sym, ◌∙◌, ap}
 use Rattle.lj_session.specs.Users.{User}
 use Rattle.lj_wire.specs.declared.item.Item.{Item}
-use Rattle.lj_wire.specs.Texts.{is_memory}
+use Rattle.lj_wire.specs.ReplyTexts.{is_memory}
 use Rattle.lj_wire.specs.Told.{item_text, texts, last_user}
-use Rattle.lj_wire.specs.Laws.{MarkIsTold}
+use Rattle.lj_wire.specs.StreamLaws.{MarkIsTold}
 
 -- a list of texts
 abbrev pub Texts : Type 0

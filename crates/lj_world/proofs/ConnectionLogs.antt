@@ -8,15 +8,15 @@ use Rattle.lj_session.specs.Users.{Session, User}
 use Rattle.lj_session.specs.Answers.{can_advance}
 use Rattle.lj_session.specs.Turns.{turns, advance_turns}
 use Rattle.lj_session.specs.Owner.{Owner, user_in, rest_of}
-use Rattle.lj_session.specs.Laws.{user_taking}
+use Rattle.lj_session.specs.OwnerLaws.{user_taking}
 use Rattle.lj_wire.specs.declared.item.Item.{Item}
 use Rattle.lj_wire.specs.declared.item.Item.TheVariants.{Command}
 use Rattle.lj_wire.specs.Items.{is_ending}
 use Rattle.lj_wire.specs.Told.{item_text}
-use Rattle.lj_world.specs.Machine.{ConnectionState, waiting, inside, gone, Connection, with_state}
+use Rattle.lj_world.specs.Machine.{ConnectionState, waiting, inside, gone, Connection, with_connection_state}
 use Rattle.lj_world.specs.Connections.{IsDone}
 use Rattle.lj_world.specs.Scripts.{ConnectionHistory, is_closed, items_to_end}
-use Rattle.lj_world.specs.Laws.{WaitsOn}
+use Rattle.lj_world.specs.RunLaws.{WaitsOn}
 use Rattle.lj_world.proofs.Answering.{Texts, AnsweredAll, AnsweredAll-push}
 use Rattle.lj_world.proofs.Cuts.{NoneEnds, OneEnds, cut-none, cut-one, cut-last, none-append, none-single, one-append, one-after}
 
@@ -34,7 +34,7 @@ abbrev pub log_with : Connection → ConnectionLog → ConnectionLog
 log_with connection log = record log { connection = connection }
 
 abbrev pub log_inside : Owner → ConnectionLog → ConnectionLog
-log_inside owner log = log_with (with_state (inside owner) log.connection) log
+log_inside owner log = log_with (with_connection_state (inside owner) log.connection) log
 
 -- the pending command is answered as the command before it would have been
 pub record GoesOn (user : User) (command : Order) (next : User) (left : Order) : Type 0 where
@@ -318,7 +318,7 @@ owner_change from texts log reply x o (turns_last owner after command mark text 
 
 -- the log after the connection has left
 abbrev pub log_gone : ConnectionLog → ConnectionLog
-log_gone log = log_with (with_state gone log.connection) log
+log_gone log = log_with (with_connection_state gone log.connection) log
 
 closed_by : (a b : Bool) → b ≡ true → (a || b) ≡ true
 closed_by true b h = refl

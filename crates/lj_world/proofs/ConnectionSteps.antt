@@ -1,14 +1,14 @@
 -- The steps of a connection, from the contracts of the calls that it makes.
 use Rattle.std.proofs.Common.{◌≡◌, ℕ, ◌-◌, ◌↔◌, true, false, List, Option, Some, None, Result, Ok, Err, IsOk, OnOk, OnErr, IsSomeAnd, is_some, is_ok, slice_get, refl, ap, sym, subst, inl, inr}
-use Rattle.lj_tile.specs.Task.{Task}
+use Rattle.lj_task.specs.Task.{Task}
 use Rattle.lj_step.specs.declared.simulations.Stray.{Stray}
 use Rattle.lj_session.specs.UserState.{with_steps_restarted}
 use Rattle.lj_session.specs.Owner.{Owner, is_busy, IsAwaitedIn, with_task_in}
-use Rattle.lj_access.specs.Rows.{UserRow, HasEntered, with_row_changed, with_home}
+use Rattle.lj_access.specs.UserRows.{UserRow, HasEntered, with_row_changed, with_home}
 use Rattle.lj_book.specs.declared.key_states.KeyState.TheVariants.{ToFetch}
 use Rattle.lj_book.specs.Book.{Book, entry_at, key_state_of, Fetches, Withdraws}
 use Rattle.lj_world.specs.declared.event.ConnectionEvent.TheVariants.{Fetch, Turn, Leave}
-use Rattle.lj_world.specs.Machine.{Connection, inside, gone, with_state}
+use Rattle.lj_world.specs.Machine.{Connection, inside, gone, with_connection_state}
 use Rattle.lj_world.specs.Connections.{connection_view, IsGiven, IsDone}
 use Rattle.lj_world.specs.Steps.{ConnectionStep}
 use Rattle.lj_world.specs.KnownConnections.{HasRow}
@@ -48,7 +48,7 @@ fetches connection rows old new owner after work key pick owns busy f done g = i
 pub leaves : (connection : Connection) (rows : List UserRow) (old new : Book) (owner : Owner) → connection.state ≡ inside owner
     → owner.waiting ≡ None → IsDone connection → Withdraws connection.user old new
     → ConnectionStep Leave (connection_view connection rows old) None
-    (connection_view (with_state gone connection) (with_row_changed connection.user (with_home (with_steps_restarted owner.state)) rows) new)
+    (connection_view (with_connection_state gone connection) (with_row_changed connection.user (with_home (with_steps_restarted owner.state)) rows) new)
 leaves connection rows old new owner owns idle done w = inl (record {
   no_reply = refl;
   owner = owner;
@@ -74,6 +74,6 @@ at_ok {T} {E} (Err e) P ok p = absurd (let k : is_ok {T = T} {E = E} (Err e) ≡
 -- a session is turned
 pub turn_step : (connection : Connection) (session : Option (List ℕ)) (owner after : Owner) (name : List ℕ) (text : Option (List ℕ))
     → connection.state ≡ inside owner → CanTurn session owner name → TurnsTo owner name text after → (rows : List UserRow) (book : Book)
-    → ConnectionStep (Turn session) (connection_view connection rows book) text (connection_view (with_state (inside after) connection) rows book)
+    → ConnectionStep (Turn session) (connection_view connection rows book) text (connection_view (with_connection_state (inside after) connection) rows book)
 turn_step connection session owner after name text owns can turns rows book =
     inl (record { owner = owner; owns = owns; name = name; can = can; after = after; turns = turns; next = refl })

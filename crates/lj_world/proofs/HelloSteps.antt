@@ -1,7 +1,7 @@
 -- Steps of the machine in which a connection says HELLO.
 use Rattle.std.proofs.Common.{◌≡◌, ◌≢◌, ℕ, ◌<◌, List, length, set, slice_get, Option, Some, None, IsSomeAnd, refl, ap, ◌∙◌, sym, subst, inl, inr, arith}
 use Rattle.std.specs.Option.{option_map}
-use Rattle.lj_access.specs.Rows.{UserRow, Ticket, HasTicketLeft, user_with, next_number, with_row_changed, with_ticket}
+use Rattle.lj_access.specs.UserRows.{UserRow, Ticket, HasTicketLeft, user_with, next_number, with_row_changed, with_ticket}
 use Rattle.lj_world.specs.declared.event.Event.TheVariants.{Hello}
 use Rattle.lj_world.specs.Machine.{Machine, Connection, Worker, IsConnection, connection_at, new_connection, with_connection, with_rows}
 use Rattle.lj_world.specs.Transitions.{Transition}

@@ -10,8 +10,8 @@ use Rattle.lj_session.specs.Owner.{Owner, user_in, IsAnswered, IsReplied, IsLast
 use Rattle.lj_wire.specs.declared.item.Fault.{Fault}
 use Rattle.lj_wire.specs.declared.item.Item.TheVariants.{Command, Bad, Last}
 use Rattle.lj_wire.specs.Items.{refusal_of}
-use Rattle.lj_wire.specs.Texts as texts
-use Rattle.lj_world.specs.OwnerReplies.{Answers, BeginsAtOnce, TurnsLast, OnRefused}
+use Rattle.lj_wire.specs.ReplyTexts as texts
+use Rattle.lj_world.specs.OwnerReplies.{Answers, BeginsAtOnce, TurnsLast, OnRefusedItem}
 
 -- a command that is answered, as a text
 answer_made : (owner next : Owner) (command : Order) (reply : Reply) (text : List ℕ) → IsAnswered (user_in owner) command reply (user_in next)
@@ -27,7 +27,7 @@ answer_made owner next command reply text answered idle number made = record {
 -- what holds where its reply is a refusal
 refused_answer : (owner next : Owner) (command : Order) (reply : Reply) (P : Type 0)
     → (answered : IsAnswered (user_in owner) command reply (user_in next)) → OnRefusal reply P
-    → OnRefused owner (Command command) answered.mark P
+    → OnRefusedItem owner (Command command) answered.mark P
 refused_answer owner next command reply P answered fact =
     subst (λ (r : Reply). OnRefusal r P) (ap (λ a. a.0) answered.answers) fact
 

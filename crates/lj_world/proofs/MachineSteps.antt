@@ -9,21 +9,21 @@ use Rattle.lj_world.specs.Machine.{Connection, Worker, Machine, IsWorker, connec
 use Rattle.lj_world.specs.Connections.{ConnectionView, connection_view, ConnectionTransition}
 use Rattle.lj_world.specs.Workers.{WorkerView, worker_view}
 use Rattle.lj_world.specs.Steps.{ConnectionStep, WorkerStep}
-use Rattle.lj_world.specs.Transitions.{Transition, entry, with_connection_view, with_worker_view}
+use Rattle.lj_world.specs.Transitions.{Transition, reply_entry, with_connection_view, with_worker_view}
 use Rattle.lj_world.specs.Runs.{Step}
 use Rattle.lj_world.specs.Picked.{ConnectionFollowsPick, WorkerFollowsPick, PickedStep}
 use Rattle.lj_world.proofs.Picking.{still_follows}
 
 -- a transition of a known connection is one of the machine
 pub transition_at : (event : ConnectionEvent) (s : Machine) (c : ℕ) (connection : Connection) (text : Option (List ℕ)) (h : ConnectionView) → connection_at s c ≡ Some connection
-    → ConnectionTransition event (connection_view connection s.rows s.book) text h → Transition s (At c event) (option_map (entry c connection) text) (with_connection_view c h s)
+    → ConnectionTransition event (connection_view connection s.rows s.book) text h → Transition s (At c event) (option_map (reply_entry c connection) text) (with_connection_view c h s)
 unfolding Transition
 transition_at event s c connection text h known transition =
     record { connection = connection; known = known; text = text; after = h; transition = transition; replies = refl; next = refl }
 
 -- so is a step of it
 connection_step : (event : ConnectionEvent) (s : Machine) (c : ℕ) (connection : Connection) (text : Option (List ℕ)) (h : ConnectionView) → connection_at s c ≡ Some connection
-    → ConnectionStep event (connection_view connection s.rows s.book) text h → Step s (At c event) (option_map (entry c connection) text) (with_connection_view c h s)
+    → ConnectionStep event (connection_view connection s.rows s.book) text h → Step s (At c event) (option_map (reply_entry c connection) text) (with_connection_view c h s)
 unfolding Transition
 connection_step event s c connection text h known (inl transition) = inl (transition_at event s c connection text h known transition)
 connection_step event s c connection text h known (inr cannot) =
@@ -31,14 +31,14 @@ connection_step event s c connection text h known (inr cannot) =
     inr (
       λ p. let same : p.2.connection ≡ connection = (let k = p.2.known in cc) in
           cannot.0 (p.2.text, p.2.after, subst (λ (t : Connection). ConnectionTransition event (connection_view t s.rows s.book) p.2.text p.2.after) same p.2.transition),
-      ap (option_map (entry c connection)) cannot.1,
+      ap (option_map (reply_entry c connection)) cannot.1,
       ap (λ (x : ConnectionView). with_connection_view c x s) cannot.2 ∙ ap (λ (ts : List (Option Connection)). record s { connections = ts }) connections,
     )
 
 -- and a step in which the pick decides
 pub connection_step_by_pick : (event : ConnectionEvent) (s : Machine) (c : ℕ) (connection : Connection) (text : Option (List ℕ)) (h : ConnectionView) → connection_at s c ≡ Some connection
     → ConnectionStep event (connection_view connection s.rows s.book) text h → ConnectionFollowsPick event connection.user s.book h.book
-    → PickedStep s (At c event) (option_map (entry c connection) text) (with_connection_view c h s)
+    → PickedStep s (At c event) (option_map (reply_entry c connection) text) (with_connection_view c h s)
 connection_step_by_pick event s c connection text h known step follows = (
   connection_step event s c connection text h known step,
   λ other also.

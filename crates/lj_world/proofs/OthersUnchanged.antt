@@ -2,13 +2,13 @@
 use Rattle.std.proofs.Common.{◌≡◌, ◌≢◌, ℕ, zero, suc, true, false, cond, nat_eq, List, [], ◌∷◌, slice_get, slice_set, slice_index_or, Option, Some, None, option_map, option_and_then, ◌⊎◌, inl, inr, refl, sym, ◌∙◌, ap, ne_eqb, get_or-set_other}
 use Rattle.std.proofs.lemmas.Bool.Decides.{eqb_tells}
 use Rattle.lj_session.specs.UserState.{with_steps_restarted}
-use Rattle.lj_access.specs.Rows.{UserRow, with_ticket, without_home, with_home}
+use Rattle.lj_access.specs.UserRows.{UserRow, with_ticket, without_home, with_home}
 use Rattle.lj_world.specs.declared.event.Event.{Event}
 use Rattle.lj_world.specs.declared.event.Event.TheVariants.{Hello, At, By}
 use Rattle.lj_world.specs.declared.transcript.Entry.{Entry}
 use Rattle.lj_world.specs.Machine.{Machine, Connection, connection_at, new_connection}
-use Rattle.lj_world.specs.Transitions.{Transition, entry}
-use Rattle.lj_world.specs.Laws.{OthersChangeNothing, Untouched, actor, connection_of}
+use Rattle.lj_world.specs.Transitions.{Transition, reply_entry}
+use Rattle.lj_world.specs.RunLaws.{OthersChangeNothing, Untouched, actor, connection_of}
 use Rattle.lj_world.proofs.RowLemmas.{row_other}
 use Rattle.lj_world.proofs.TicketChanges.{TicketChange, stays, enters, leaves, ticket_change}
 
@@ -55,7 +55,7 @@ not_replied user reply r e = none_some user (ap (option_map (λ x. x.user)) (sym
 
 -- the reply is to another user, or there is none
 other_replied : (user : ℕ) (reply : Option Entry) (c : ℕ) (connection : Connection) (text : Option (List ℕ)) → connection.user ≢ user
-    → reply ≡ option_map (entry c connection) text → option_map (λ e. e.user) reply ≢ Some user
+    → reply ≡ option_map (reply_entry c connection) text → option_map (λ e. e.user) reply ≢ Some user
 other_replied user reply c connection None differs r e = not_replied user reply r e
 other_replied user reply c connection (Some text) differs r e = differs (same_some connection.user user (ap (option_map (λ x. x.user)) (sym r) ∙ e))
 

@@ -10,13 +10,13 @@ use Rattle.lj_session.specs.UserState.{LiveSession, with_session_changed, live_s
 use Rattle.lj_session.specs.UserState.{is_whole_session, with_step_finished}
 use Rattle.lj_session.specs.Owner.{Owner, user_in, with_state, owner_begun, owner_begun_again, command_left, is_waited_for, owner_turned}
 use Rattle.lj_session.specs.Owner.{IsLastTurn}
-use Rattle.lj_session.specs.Laws.{BegunWaitsAlike}
+use Rattle.lj_session.specs.OwnerLaws.{BegunWaitsAlike}
 use Rattle.lj_session.proofs.Entries.{by_test}
 use Rattle.lj_session.proofs.Holding.{named-held}
 use Rattle.lj_session.proofs.Turning.{measure-turns-one}
 use Rattle.lj_session.proofs.Passing.{measures}
 use Rattle.lj_session.proofs.Waiting.{same_name, passed_user, passed_turns}
-use Rattle.lj_wire.specs.Laws.{AlikeIsTold}
+use Rattle.lj_wire.specs.StreamLaws.{AlikeIsTold}
 use Rattle.lj_world.specs.OwnerReplies.{CanTurn}
 use Rattle.lj_world.proofs.ConnectionLogs.{GoesOn}
 
@@ -27,12 +27,12 @@ pub data Turned (owner after : Owner) : Type 0 where
       → GoesOn (user_in owner) command (user_in after) left → Turned owner after
 
 there : (owner : Owner) (name : List ℕ) → is_whole_in owner.state name ≡ true
-    → (held : LiveSession) × (live_session owner.state name ≡ Some held)
+    → (session : LiveSession) × (live_session owner.state name ≡ Some session)
 there owner name whole = by (live_session owner.state name) refl
   where
-    by : (o : Option LiveSession) → live_session owner.state name ≡ o → (held : LiveSession) × (o ≡ Some held)
+    by : (o : Option LiveSession) → live_session owner.state name ≡ o → (session : LiveSession) × (o ≡ Some session)
     by None e = absurd (true≢false (sym (ap is_whole_session (sym e) ∙ whole)))
-    by (Some held) e = (held, refl)
+    by (Some session) e = (session, refl)
 
 -- the turn of the energies of a MEASURE is the last before it
 measured_last : (owner : Owner) (name : List ℕ) → is_whole_in owner.state name ≡ true → pending_in owner.state name ≡ 0
@@ -44,8 +44,8 @@ measured_last owner name whole none = by owner.waiting refl
     by None e m = absurd (true≢false (sym m))
     by (Some command) e m =
         let is : owner.waiting ≡ Some (Measure name) = e ∙ ap (λ k. Some k) (measures command name m) in
-        let held = there owner name whole in
-        let one = measure-turns-one (user_in owner) name _ (named-held owner.state name held.0 held.1) in
+        let session = there owner name whole in
+        let one = measure-turns-one (user_in owner) name _ (named-held owner.state name session.0 session.1) in
         let turns_are : turns_before owner.state (Measure name) ≡ 1 =
         (let sum : pending_in owner.state name + turns (user_in owner) (Measure name) ≡ 1 = omega (arith, none, one) in sum) in
         record {

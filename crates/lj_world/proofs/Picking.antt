@@ -1,7 +1,7 @@
 -- The pick decides if the picked entry of the book changes, or none does.
 use Rattle.std.proofs.Common.{ℕ, Option, refl, sym, subst, inl, inr}
 use Rattle.std.proofs.lemmas.Bool.{cases_eq}
-use Rattle.lj_tile.specs.Task.{Task}
+use Rattle.lj_task.specs.Task.{Task}
 use Rattle.lj_book.specs.Picks.{IsPick}
 use Rattle.lj_book.specs.declared.book_entry.BookEntry.{BookEntry}
 use Rattle.lj_book.specs.Book.{Book, Puts}

@@ -10,7 +10,7 @@ use Rattle.lj_wire.specs.declared.item.Item.TheVariants.{Command}
 use Rattle.lj_world.specs.Machine.{waiting, inside}
 use Rattle.lj_world.specs.Connections.{IsDone}
 use Rattle.lj_world.specs.Scripts.{is_closed, items_to_end, items_joined}
-use Rattle.lj_world.specs.Laws.{WaitsOn}
+use Rattle.lj_world.specs.RunLaws.{WaitsOn}
 use Rattle.lj_world.proofs.Answering.{Texts, AnsweredAll, AnsweredAll-append}
 use Rattle.lj_world.proofs.Cuts.{cut-none}
 use Rattle.lj_world.proofs.ConnectionLogs.{ConnectionLog, history_of, log_inside, log_gone, ConnectionChange, grown, Waits, HasLeft, OwnerProgress, ready, finished, waits_on, OwnsState, progress_of, not_waiting, not_gone, gone_waiting, waiting_change, left_change, owner_change, own_leaves, wait_enters}

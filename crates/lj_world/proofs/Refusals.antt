@@ -13,17 +13,17 @@ use Rattle.lj_session.specs.Begins.{OnRefusal}
 use Rattle.lj_session.specs.Owner.{Owner, user_in, state_turned}
 use Rattle.lj_wire.specs.declared.item.Item.{Item}
 use Rattle.lj_wire.specs.declared.item.Item.TheVariants.{Command}
-use Rattle.lj_wire.specs.Texts.{text, dump_lines, branch_lines}
+use Rattle.lj_wire.specs.ReplyTexts.{text, dump_lines, branch_lines}
 use Rattle.lj_wire.specs.Told.{item_reply}
 use Rattle.lj_world.specs.declared.event.Event.TheVariants.{At}
 use Rattle.lj_world.specs.declared.event.ConnectionEvent.TheVariants.{Next, Turn}
 use Rattle.lj_world.specs.declared.transcript.Entry.{Entry}
 use Rattle.lj_world.specs.Machine.{Machine, Connection, ConnectionState, inside, connection_at}
 use Rattle.lj_world.specs.Connections.{ConnectionView}
-use Rattle.lj_world.specs.OwnerReplies.{Answers, BeginsAtOnce, Begins, TurnsLast, TurnsTo, OnRefused}
-use Rattle.lj_world.specs.Transitions.{Transition, TransitionAt, entry, with_connection_view}
+use Rattle.lj_world.specs.OwnerReplies.{Answers, BeginsAtOnce, Begins, TurnsLast, TurnsTo, OnRefusedItem}
+use Rattle.lj_world.specs.Transitions.{Transition, TransitionAt, reply_entry, with_connection_view}
 use Rattle.lj_world.specs.Runs.{Step}
-use Rattle.lj_world.specs.Laws.{RefusalsLeaveSessions, IsRefusal, SessionsKept, SessionTurned, owner_inside, owner_at}
+use Rattle.lj_world.specs.RunLaws.{RefusalsLeaveSessions, IsRefusal, SessionsKept, SessionTurned, owner_inside, owner_at}
 
 none_some : {A : Type 0} (x : A) → None ≡ Some x → ⊥
 none_some x e = cc
@@ -80,7 +80,7 @@ where_refused user reply P refusal fact = by reply
 
 -- and if the text that answers an item is
 where_replied : (owner next : Owner) (item : Item) (reply_text : List ℕ) (P : Type 0) → (answers : Answers owner item reply_text next)
-    → IsRefusal reply_text → OnRefused owner item answers.mark P → P
+    → IsRefusal reply_text → OnRefusedItem owner item answers.mark P → P
 where_replied owner next item reply_text P answers refusal fact =
     let a = item_reply (user_in owner) item answers.mark in
     where_refused a.1 a.0 P (subst IsRefusal (ap (λ t. t.0) answers.is_answer) refusal) fact
@@ -116,13 +116,13 @@ owner_was old c connection owner known owns =
     ap (λ o. option_and_then (λ (t : Connection). owner_inside t.state) o) known ∙ ap owner_inside owns
 
 -- without a text there is no reply
-not_replied : (c : ℕ) (connection : Connection) (reply : Entry) → Some reply ≡ option_map (entry c connection) None → ⊥
+not_replied : (c : ℕ) (connection : Connection) (reply : Entry) → Some reply ≡ option_map (reply_entry c connection) None → ⊥
 not_replied c connection reply e = none_some reply (sym e)
 
 -- the text that is replied
-replied : (c : ℕ) (connection : Connection) (reply : Entry) (reply_text : List ℕ) → Some reply ≡ option_map (entry c connection) (Some reply_text)
+replied : (c : ℕ) (connection : Connection) (reply : Entry) (reply_text : List ℕ) → Some reply ≡ option_map (reply_entry c connection) (Some reply_text)
     → reply.text ≡ reply_text
-replied c connection reply reply_text e = ap (λ (x : Entry). x.text) (same_some reply (entry c connection reply_text) e)
+replied c connection reply reply_text e = ap (λ (x : Entry). x.text) (same_some reply (reply_entry c connection reply_text) e)
 
 -- NEXT: the item is refused as it is begun
 module _ (old : Machine) (c : ℕ) (reply : Entry) (new : Machine) (p : TransitionAt old c Next (Some reply) new)
@@ -133,7 +133,7 @@ module _ (old : Machine) (c : ℕ) (reply : Entry) (new : Machine) (p : Transiti
 
     same : p.transition.after ≡ p.transition.owner
     same = where_replied p.transition.owner p.transition.after p.transition.item reply_text (p.transition.after ≡ p.transition.owner) once.answers
-        (subst IsRefusal (replied c p.connection reply reply_text (p.replies ∙ ap (option_map (entry c p.connection)) e)) refusal) once.unchanged
+        (subst IsRefusal (replied c p.connection reply reply_text (p.replies ∙ ap (option_map (reply_entry c p.connection)) e)) refusal) once.unchanged
 
     own : owner_at new c ≡ owner_at old c
     own = owner_own old new c p.connection p.after p.known p.next (inside p.transition.after) (ap (λ (h : ConnectionView). h.connection.state) p.transition.next)
@@ -154,7 +154,7 @@ module _ (old : Machine) (c : ℕ) (reply : Entry) (new : Machine) (p : Transiti
   next_leaves = by p.text refl
     where
       by : (reply_text : Option (List ℕ)) → p.text ≡ reply_text → SessionsKept old new
-      by None e = absurd (not_replied c p.connection reply (p.replies ∙ ap (option_map (entry c p.connection)) e))
+      by None e = absurd (not_replied c p.connection reply (p.replies ∙ ap (option_map (reply_entry c p.connection)) e))
       by (Some reply_text) e = kept reply_text e
 
 -- TURN: the pending command is refused at its last turn
@@ -176,14 +176,14 @@ module _ (old : Machine) (c : ℕ) (session : Option (List ℕ)) (reply : Entry)
       left = owner_own old new c p.connection p.after p.known p.next (inside p.transition.after) (ap (λ (h : ConnectionView). h.connection.state) p.transition.next);
       turned = where_replied p.transition.owner p.transition.after (Command last.command) reply_text
           (p.transition.after.state ≡ state_turned p.transition.name p.transition.owner.state) last.answers
-          (subst IsRefusal (replied c p.connection reply reply_text (p.replies ∙ ap (option_map (entry c p.connection)) e)) refusal) last.refused;
+          (subst IsRefusal (replied c p.connection reply reply_text (p.replies ∙ ap (option_map (reply_entry c p.connection)) e)) refusal) last.refused;
     }
 
   turn_leaves : SessionTurned c session old new
   turn_leaves = by p.text refl
     where
       by : (reply_text : Option (List ℕ)) → p.text ≡ reply_text → SessionTurned c session old new
-      by None e = absurd (not_replied c p.connection reply (p.replies ∙ ap (option_map (entry c p.connection)) e))
+      by None e = absurd (not_replied c p.connection reply (p.replies ∙ ap (option_map (reply_entry c p.connection)) e))
       by (Some reply_text) e = turned reply_text e
 
 at_next : (old : Machine) (c : ℕ) (reply : Entry) (new : Machine) → Step old (At c Next) (Some reply) new

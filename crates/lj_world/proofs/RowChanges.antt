@@ -6,7 +6,7 @@ use Rattle.std.proofs.lemmas.List.{map-append}
 use Rattle.std.proofs.lemmas.List.Elements.{filter-append}
 use Rattle.lj_session.specs.Users.{User}
 use Rattle.lj_session.specs.UserState.{UserState}
-use Rattle.lj_access.specs.Rows.{UserRow, is_of, user_with, with_row_changed, with_ticket, without_home, with_home}
+use Rattle.lj_access.specs.UserRows.{UserRow, has_credentials, user_with, with_row_changed, with_ticket, without_home, with_home}
 use Rattle.lj_world.specs.Machine.{Machine, Connection, connection_at, new_connection}
 use Rattle.lj_world.specs.Transitions.{HelloTransition}
 use Rattle.lj_world.specs.Scripts.{ConnectionHistory}
@@ -19,7 +19,7 @@ use Rattle.lj_world.proofs.RunInvariant.{RunInvariant, OwnQueue, own_stays, Dist
 
 -- a change of a row that leaves its name, its token and its tickets that were granted
 pub record LeavesTickets (change : UserRow → UserRow) : Type 0 where
-  pub known : (name token : List ℕ) (row : UserRow) → is_of name token (change row) ≡ is_of name token row
+  pub known : (name token : List ℕ) (row : UserRow) → has_credentials name token (change row) ≡ has_credentials name token row
   pub granted : (row : UserRow) → (change row).granted ≡ row.granted
 
 pub lent_leaves : LeavesTickets without_home

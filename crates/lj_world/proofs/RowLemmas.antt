@@ -2,7 +2,7 @@
 use Rattle.std.proofs.Common.{◌≡◌, ◌≢◌, ℕ, zero, suc, ◌+◌, Bool, not, cond, nat_lt, List, [], ◌∷◌, slice_get, slice_set, position, Option, Some, None, nat_eq, true, false, ◌⊎◌, inl, inr, refl, sym, ◌∙◌, ap, ap₂, length-set}
 use Rattle.std.proofs.lemmas.Bool.Decides.{eqb_tells}
 use Rattle.std.specs.List.{prefix_len}
-use Rattle.lj_access.specs.Rows.{UserRow, is_of, user_with, with_row_changed, with_row_changed_to}
+use Rattle.lj_access.specs.UserRows.{UserRow, has_credentials, user_with, with_row_changed, with_row_changed_to}
 
 no_row : {A : Type 0} (x : A) → None ≡ Some x → ⊥
 no_row x e = cc
@@ -50,12 +50,12 @@ row_other rows user change other differs = by (slice_get rows user)
 
 -- a change that leaves names and tokens leaves who is known by them
 pub users_stay : (rows : List UserRow) (user : ℕ) (change : UserRow → UserRow) (name token : List ℕ)
-    → ((row : UserRow) → is_of name token (change row) ≡ is_of name token row) → user_with (with_row_changed user change rows) name token ≡ user_with rows name token
+    → ((row : UserRow) → has_credentials name token (change row) ≡ has_credentials name token row) → user_with (with_row_changed user change rows) name token ≡ user_with rows name token
 users_stay rows user change name token same = by (slice_get rows user) refl
   where
     by : (o : Option UserRow) → slice_get rows user ≡ o → user_with (with_row_changed_to user change o rows) name token ≡ user_with rows name token
     by None e = refl
-    by (Some row) e = position_set (is_of name token) rows user row (change row) e (same row)
+    by (Some row) e = position_set (has_credentials name token) rows user row (change row) e (same row)
 
 -- what was there before a change of a row, and whether it was changed
 abbrev pub WasRead : List UserRow → ℕ → (UserRow → UserRow) → ℕ → UserRow → Type 0

@@ -1,7 +1,7 @@
 -- The rows of users where one changes, and connections with their rows.
 use Rattle.std.proofs.Common.{◌≡◌, ◌≢◌, ℕ, ◌<◌, List, length, set, get_or, slice_get, Option, Some, None, ap, ◌∙◌, sym, subst, inl, inr, length-set, get_or-set_same, get_or-set_other}
 use Rattle.std.proofs.lemmas.Bool.{cases_eq}
-use Rattle.lj_access.specs.Rows.{UserRow, HasEntered, with_row_changed}
+use Rattle.lj_access.specs.UserRows.{UserRow, HasEntered, with_row_changed}
 use Rattle.lj_world.specs.Machine.{Connection, Worker}
 use Rattle.lj_world.specs.KnownConnections.{IsRowOf, HasRow, KeepsTicket}
 use Rattle.lj_world.specs.Machines.{IsMachine}

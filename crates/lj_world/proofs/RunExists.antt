@@ -4,7 +4,7 @@ use Rattle.lj_world.specs.declared.event.Event.{Event}
 use Rattle.lj_world.specs.declared.transcript.Entry.{Entry}
 use Rattle.lj_world.specs.Machine.{Machine}
 use Rattle.lj_world.specs.Runs.{Step, IsPossible}
-use Rattle.lj_world.specs.Laws.{HasRun, EachListHasARun}
+use Rattle.lj_world.specs.RunLaws.{HasRun, EachListHasARun}
 
 -- a step from which the other events have a run begins a run
 begins_run : (old : Machine) (event : Event) (events : List Event) → ¬ HasRun old (event ∷ events)

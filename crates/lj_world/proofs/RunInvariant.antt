@@ -4,7 +4,7 @@ use Rattle.std.proofs.Common.{◌≡◌, ◌≢◌, ℕ, zero, suc, ◌<◌, Boo
 use Rattle.std.proofs.lemmas.Bool.{eqb-false}
 use Rattle.std.proofs.lemmas.Bool.Decides.{eqb_tells}
 use Rattle.lj_session.specs.Users.{User}
-use Rattle.lj_access.specs.Rows.{UserRow, user_with}
+use Rattle.lj_access.specs.UserRows.{UserRow, user_with}
 use Rattle.lj_world.specs.Machine.{Machine, Connection, connection_at}
 use Rattle.lj_world.specs.Scripts.{ConnectionHistory}
 use Rattle.lj_world.proofs.Answering.{Texts}

@@ -5,17 +5,17 @@ use Rattle.std.proofs.lemmas.Option.{slice_get-map}
 use Rattle.lj_quota.specs.declared.Quota.{Quota}
 use Rattle.lj_session.specs.Users.{User as Value, fresh_user}
 use Rattle.lj_session.specs.UserState.{user_of, empty_state}
-use Rattle.lj_wire.specs.Texts.{is_memory}
+use Rattle.lj_wire.specs.ReplyTexts.{is_memory}
 use Rattle.lj_wire.specs.Told.{texts}
-use Rattle.lj_wire.specs.Laws.{MarkIsTold}
+use Rattle.lj_wire.specs.StreamLaws.{MarkIsTold}
 use Rattle.lj_access.specs.declared.user.User.{User}
-use Rattle.lj_access.specs.Rows.{UserRow, first_row}
+use Rattle.lj_access.specs.UserRows.{UserRow, first_row}
 use Rattle.lj_world.specs.declared.event.Event.{Event}
 use Rattle.lj_world.specs.declared.transcript.Entry.{Entry}
-use Rattle.lj_world.specs.Machine.{Machine, Connection, start}
+use Rattle.lj_world.specs.Machine.{Machine, Connection, initial_machine}
 use Rattle.lj_world.specs.Runs.{Run}
 use Rattle.lj_world.specs.Scripts.{ConnectionHistory, histories_after, connection_histories, histories_of, items_joined, replies}
-use Rattle.lj_world.specs.Laws.{PendingCommandLaws, HasQuota, RepliesAreFirstTexts}
+use Rattle.lj_world.specs.RunLaws.{PendingCommandLaws, HasQuota, RepliesAreFirstTexts}
 use Rattle.lj_world.proofs.Answering.{Texts, texts-AnsweredAll}
 use Rattle.lj_world.proofs.ConnectionLogs.{grown}
 use Rattle.lj_world.proofs.Queues.{QueueInvariant, AllWait, Numbered, items_in, progress_of_queue}
@@ -82,7 +82,7 @@ user_there (Some u) quota e = (u, refl, same u.quota quota e)
     same a b h = cc
 
 -- it holds at the start
-pub start_keeps : (users : List User) (user : ℕ) (quota : Quota) → HasQuota users user quota → RunInvariant (map first_row users) user (fresh_user quota) (start users) [] []
+pub start_keeps : (users : List User) (user : ℕ) (quota : Quota) → HasQuota users user quota → RunInvariant (map first_row users) user (fresh_user quota) (initial_machine users) [] []
 unfolding found Distinct QueueInvariant AllWait Numbered empty_slots
 start_keeps users user quota has_quota =
     let there = user_there (slice_get users user) quota has_quota in
@@ -112,10 +112,10 @@ pub script_items : (rows : List UserRow) (user : ℕ) (from : Value) (t : Machin
 script_items rows user from t hs reply_texts k = ap (λ h. items_joined (histories_of user h)) k.histories_are ∙ ap items_joined (queue_histories user k.logs)
 
 -- the invariant holds at the end of a run
-pub run_kept : PendingCommandLaws → (users : List User) (events : List Event) (entries : List Entry) (last : Machine) (user : ℕ) (quota : Quota) → Run (start users) events entries last
+pub run_kept : PendingCommandLaws → (users : List User) (events : List Event) (entries : List Entry) (last : Machine) (user : ℕ) (quota : Quota) → Run (initial_machine users) events entries last
     → HasQuota users user quota → RunInvariant (map first_row users) user (fresh_user quota) last (connection_histories users events) (replies user entries)
 run_kept laws users events entries last user quota run has_quota =
-    run_keeps laws (map first_row users) user (fresh_user quota) events (start users) last [] [] entries (start_keeps users user quota has_quota) run
+    run_keeps laws (map first_row users) user (fresh_user quota) events (initial_machine users) last [] [] entries (start_keeps users user quota has_quota) run
 
 -- the replies of a user are the first texts of its script alone
 pub are_first_texts : MarkIsTold → PendingCommandLaws → RepliesAreFirstTexts

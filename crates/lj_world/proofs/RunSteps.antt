@@ -4,25 +4,25 @@ use Rattle.std.proofs.lemmas.List.{length-map}
 use Rattle.std.proofs.lemmas.List.Quantifiers.{position-Some}
 use Rattle.std.proofs.lemmas.Option.{slice_get-get_or}
 use Rattle.std.specs.List.{list_any}
-use Rattle.lj_tile.specs.Task.{Task}
+use Rattle.lj_task.specs.Task.{Task}
 use Rattle.lj_session.specs.Users.{User}
 use Rattle.lj_session.specs.UserState.{with_steps_restarted}
 use Rattle.lj_session.specs.Owner.{Owner, user_in, owner_of_state, command_left, with_task_posted}
-use Rattle.lj_session.specs.Laws.{AcceptKeepsUser}
+use Rattle.lj_session.specs.OwnerLaws.{AcceptKeepsUser}
 use Rattle.lj_wire.specs.declared.item.Item.{Item}
 use Rattle.lj_wire.specs.declared.item.Item.TheVariants.{Command}
-use Rattle.lj_access.specs.Rows.{UserRow, is_of, user_with, without_home, with_home}
+use Rattle.lj_access.specs.UserRows.{UserRow, has_credentials, user_with, without_home, with_home}
 use Rattle.lj_world.specs.declared.event.Event.{Event}
 use Rattle.lj_world.specs.declared.event.Event.TheVariants.{Hello, At, By}
 use Rattle.lj_world.specs.declared.event.ConnectionEvent.{ConnectionEvent}
 use Rattle.lj_world.specs.declared.event.ConnectionEvent.TheVariants.{Arrive, End, Enter, Next, Post, Fetch, Turn, Leave}
 use Rattle.lj_world.specs.declared.transcript.Entry.{Entry}
-use Rattle.lj_world.specs.Machine.{Machine, Connection, inside, gone, connection_at, with_state}
+use Rattle.lj_world.specs.Machine.{Machine, Connection, inside, gone, connection_at, with_connection_state}
 use Rattle.lj_world.specs.Connections.{ConnectionView, connection_view, view_with_connection, Receives, Closes, Enters, IsGiven, Leaves, ConnectionTransition}
-use Rattle.lj_world.specs.Transitions.{Transition, HelloTransition, entry, with_connection_view}
+use Rattle.lj_world.specs.Transitions.{Transition, HelloTransition, reply_entry, with_connection_view}
 use Rattle.lj_world.specs.Runs.{Step, IsPossible}
-use Rattle.lj_world.specs.Laws.{PendingCommandLaws}
-use Rattle.lj_world.specs.Scripts.{ConnectionHistory, histories_after, with_history, with_item, with_end, with_hello, is_granted, histories_of}
+use Rattle.lj_world.specs.RunLaws.{PendingCommandLaws}
+use Rattle.lj_world.specs.Scripts.{ConnectionHistory, histories_after, with_history, with_item, with_input_ended, with_hello, is_granted, histories_of}
 use Rattle.lj_world.proofs.MachineSteps.{transition_at}
 use Rattle.lj_world.proofs.Answering.{Texts}
 use Rattle.lj_world.proofs.ConnectionLogs.{ConnectionLog, history_of, log_with, log_inside, GoesOn, ConnectionChange, arrives, ends_now, works, begins, answers, turns_on, turns_last, grown}
@@ -65,7 +65,7 @@ front_stays rows user from s t hs texts k rows_stay connections_stay = record {
 }
 
 -- the reply to a connection is one to its user
-reply_own : (user c : ℕ) (connection : Connection) (text : Option (List ℕ)) → reply_to user (option_map (entry c connection) text) ≡ reply_if (nat_eq connection.user user) text
+reply_own : (user c : ℕ) (connection : Connection) (text : Option (List ℕ)) → reply_to user (option_map (reply_entry c connection) text) ≡ reply_if (nat_eq connection.user user) text
 unfolding reply_to
 reply_own user c connection None = sym (reply_none (nat_eq connection.user user))
 reply_own user c connection (Some text) = refl
@@ -115,13 +115,13 @@ module _ (laws : PendingCommandLaws) (rows : List UserRow) (user : ℕ) (from : 
       (ap (λ (z : ConnectionView). z.rows) d.next) (ap (λ (z : ConnectionView). slice_set s.connections c (Some z.connection)) d.next)
       (λ queue ch. ap (with_history c (with_item item)) k.histories_are ∙ history_changes c (with_item item) log x k.logs queue ch histories_are)
 
-  end_keeps : (text : Option (List ℕ)) (h : ConnectionView) → Closes old text h → After h (with_history c with_end hs) None
+  end_keeps : (text : Option (List ℕ)) (h : ConnectionView) → Closes old text h → After h (with_history c with_input_ended hs) None
   end_keeps text h d =
       let log = log_with connection its_log.0 in
       let x : ConnectionLog = log_with (record connection { ended = true }) its_log.0 in
-      change_keeps rows user from s (with_connection_view c h s) hs (with_history c with_end hs) texts k c log x None its_log.1 ends_now
+      change_keeps rows user from s (with_connection_view c h s) hs (with_history c with_input_ended hs) texts k c log x None its_log.1 ends_now
       (ap (λ (z : ConnectionView). z.rows) d.next) (ap (λ (z : ConnectionView). slice_set s.connections c (Some z.connection)) d.next)
-      (λ queue ch. ap (with_history c with_end) k.histories_are ∙ history_changes c with_end log x k.logs queue ch refl)
+      (λ queue ch. ap (with_history c with_input_ended) k.histories_are ∙ history_changes c with_input_ended log x k.logs queue ch refl)
 
   enter_keeps : (text : Option (List ℕ)) (h : ConnectionView) → Enters old text h → RunInvariant rows user from (with_connection_view c h s) hs texts
   enter_keeps text h d =
@@ -140,7 +140,7 @@ module _ (laws : PendingCommandLaws) (rows : List UserRow) (user : ℕ) (from : 
   leave_keeps : (text : Option (List ℕ)) (h : ConnectionView) → Leaves old text h → RunInvariant rows user from (with_connection_view c h s) hs texts
   leave_keeps text h d =
       let log = log_with connection its_log.0 in
-      let x = log_with (with_state gone connection) its_log.0 in
+      let x = log_with (with_connection_state gone connection) its_log.0 in
       row_change_keeps rows user from s (with_connection_view c h s) hs texts k c log x (with_home (with_steps_restarted d.owner.state)) its_log.1
       (record { id = refl; user = refl; number = refl }) refl (home_leaves (with_steps_restarted d.owner.state))
       (ap (λ (z : ConnectionView). z.rows) d.next) (ap (λ (z : ConnectionView). slice_set s.connections c (Some z.connection)) d.next)
@@ -152,7 +152,7 @@ module _ (laws : PendingCommandLaws) (rows : List UserRow) (user : ℕ) (from : 
       (subst (λ o. QueueInvariant from k.own.row.past o (queue_in user k.logs) texts) away k.own.queue_is_valid)))
 
   -- a turn without a reply
-  turn_keeps : (owner after : Owner) (h : ConnectionView) → connection.state ≡ inside owner → h ≡ view_with_connection (with_state (inside after) connection) old
+  turn_keeps : (owner after : Owner) (h : ConnectionView) → connection.state ≡ inside owner → h ≡ view_with_connection (with_connection_state (inside after) connection) old
       → Turned owner after → After h hs None
   turn_keeps owner after h owns next (stays w u) =
       change_one h _ None next refl (λ log. works owner after connection.posted owns w u) (λ log. refl)
@@ -162,7 +162,7 @@ module _ (laws : PendingCommandLaws) (rows : List UserRow) (user : ℕ) (from : 
   -- each transition of the connection keeps the invariant
   connection_transition_keeps : (event : ConnectionEvent) (text : Option (List ℕ)) (h : ConnectionView) → ConnectionTransition event old text h → After h (histories_after rows hs (At c event)) text
   connection_transition_keeps (Arrive item) text h d = subst (After h (with_history c (with_item item) hs)) (sym d.no_reply) (arrive_keeps item text h d)
-  connection_transition_keeps End text h d = subst (After h (with_history c with_end hs)) (sym d.no_reply) (end_keeps text h d)
+  connection_transition_keeps End text h d = subst (After h (with_history c with_input_ended hs)) (sym d.no_reply) (end_keeps text h d)
   connection_transition_keeps Enter text h d = without_reply h hs text d.no_reply (enter_keeps text h d)
   connection_transition_keeps Next None h d =
       let command = d.begins.command in
@@ -246,7 +246,7 @@ hello_possible rows user from s hs texts k c name token v is_named granted =
     let fresh = not_true (list_any (λ h. nat_eq h.id c) hs) (and_left _ _ others) in
     let none = no_log (found c k.logs) (sym (has_history rows user from s hs texts k c) ∙ fresh) in
     let connection_view : user_with s.rows name token ≡ Some v = k.names name token ∙ is_named in
-    let within = (position-Some (is_of name token) s.rows v k.own.row connection_view).0 in
+    let within = (position-Some (has_credentials name token) s.rows v k.own.row connection_view).0 in
     let row = slice_index_or s.rows v k.own.row in
     let there : slice_get s.rows v ≡ Some row = slice_get-get_or s.rows v k.own.row within in
     let left = ltb-true (length (histories_of v hs)) 4294967296 (and_right (not (list_any (λ h. nat_eq h.id c) hs)) _ others) in (
@@ -322,9 +322,9 @@ module _ (rows : List UserRow) (user : ℕ) (from : User) (s : Machine) (hs : Li
       by log e false still =
           absurd (impossible (_, _, transition_at (Arrive item) s c log.connection None _ e (record { no_reply = refl; not_ended = still; next = refl })))
 
-  end_unrecorded : (c : ℕ) → ¬ IsPossible s (At c End) → with_history c with_end hs ≡ hs
+  end_unrecorded : (c : ℕ) → ¬ IsPossible s (At c End) → with_history c with_input_ended hs ≡ hs
   end_unrecorded c impossible =
-      change_unrecorded c with_end (λ log e. absurd (impossible (_, _, transition_at End s c log.connection None _ e (record { no_reply = refl; next = refl }))))
+      change_unrecorded c with_input_ended (λ log e. absurd (impossible (_, _, transition_at End s c log.connection None _ e (record { no_reply = refl; next = refl }))))
 
   unrecorded : (event : Event) → ¬ IsPossible s event → histories_after rows hs event ≡ hs
   unrecorded (Hello c name token) impossible = hello_unrecorded c name token impossible

@@ -2,10 +2,10 @@
 use Rattle.std.proofs.Common.{◌≡◌, ◌≢◌, ℕ, ◌<◌, List, length, set, get_or, slice_get, Option, Some, None, refl, ap, ◌∙◌, sym, subst, inl, inr}
 use Rattle.lj_session.specs.UserState.{UserState, with_steps_restarted}
 use Rattle.lj_session.specs.Owner.{Owner}
-use Rattle.lj_access.specs.Rows.{UserRow, CanEnter, with_row_changed, without_home, with_home}
+use Rattle.lj_access.specs.UserRows.{UserRow, CanEnter, with_row_changed, without_home, with_home}
 use Rattle.lj_book.specs.Book.{Book}
 use Rattle.lj_world.specs.declared.event.ConnectionEvent.{ConnectionEvent}
-use Rattle.lj_world.specs.Machine.{inside, gone, Connection, Worker, with_state}
+use Rattle.lj_world.specs.Machine.{inside, gone, Connection, Worker, with_connection_state}
 use Rattle.lj_world.specs.Connections.{ConnectionView, connection_view}
 use Rattle.lj_world.specs.Steps.{ConnectionStep}
 use Rattle.lj_world.specs.KnownConnections.{HasRow, KeepsTicket}
@@ -30,9 +30,9 @@ module _ (rows : List UserRow) (connections : List (Option Connection)) (workers
 
   -- the connection enters
   pub enters_keeps : (owner : Owner) (row : UserRow) → slice_get rows connection.user ≡ Some row → CanEnter connection.number row
-      → IsMachine (with_row_changed connection.user without_home rows) (set connections c (Some (with_state (inside owner) connection))) workers
+      → IsMachine (with_row_changed connection.user without_home rows) (set connections c (Some (with_connection_state (inside owner) connection))) workers
   enters_keeps owner row there may =
-      put_connection rows (with_row_changed connection.user without_home rows) connections workers c (with_state (inside owner) connection) m within (
+      put_connection rows (with_row_changed connection.user without_home rows) connections workers c (with_connection_state (inside owner) connection) m within (
         without_home row,
         row_changed rows connection.user without_home row there,
         record {
@@ -47,13 +47,13 @@ module _ (rows : List UserRow) (connections : List (Option Connection)) (workers
           lent = refl;
         };
       }))
-      (unlike (with_state (inside owner) connection) refl refl)
+      (unlike (with_connection_state (inside owner) connection) refl refl)
 
   -- the connection leaves
   pub leaves_keeps : (owner : Owner) (state : UserState) → connection.state ≡ inside owner
-      → IsMachine (with_row_changed connection.user (with_home state) rows) (set connections c (Some (with_state gone connection))) workers
+      → IsMachine (with_row_changed connection.user (with_home state) rows) (set connections c (Some (with_connection_state gone connection))) workers
   leaves_keeps owner state owns =
-      put_connection rows (with_row_changed connection.user (with_home state) rows) connections workers c (with_state gone connection) m within (
+      put_connection rows (with_row_changed connection.user (with_home state) rows) connections workers c (with_connection_state gone connection) m within (
         with_home state has.0,
         row_changed rows connection.user (with_home state) has.0 has.1,
         record {
@@ -70,7 +70,7 @@ module _ (rows : List UserRow) (connections : List (Option Connection)) (workers
             sym h.first.past ∙ ap (λ (x : UserRow). x.past) row ∙ (has.2.entered (owner, owns)).first.past in
             absurd (apart (m.apart d c other connection e known same number));
       }))
-      (unlike (with_state gone connection) refl refl)
+      (unlike (with_connection_state gone connection) refl refl)
     where
       has : HasRow rows connection
       has = m.known c connection known

@@ -2,11 +2,11 @@
 use Rattle.std.proofs.Common.{◌≡◌, ℕ, List, slice_get, Option, Some, refl, sym, ◌∙◌, subst}
 use Rattle.lj_session.specs.UserState.{with_steps_restarted}
 use Rattle.lj_session.specs.Owner.{Owner}
-use Rattle.lj_access.specs.Rows.{UserRow, CanEnter, with_row_changed, without_home, with_home}
+use Rattle.lj_access.specs.UserRows.{UserRow, CanEnter, with_row_changed, without_home, with_home}
 use Rattle.lj_book.specs.Book.{Book}
 use Rattle.lj_world.specs.declared.event.ConnectionEvent.{ConnectionEvent}
 use Rattle.lj_world.specs.declared.event.ConnectionEvent.TheVariants.{Arrive, End, Enter, Next, Post, Fetch, Turn, Leave}
-use Rattle.lj_world.specs.Machine.{inside, gone, Connection, with_state}
+use Rattle.lj_world.specs.Machine.{inside, gone, Connection, with_connection_state}
 use Rattle.lj_world.specs.Connections.{ConnectionView, connection_view, ConnectionTransition}
 use Rattle.lj_world.specs.KnownConnections.{KeepsTicket}
 
@@ -14,9 +14,9 @@ use Rattle.lj_world.specs.KnownConnections.{KeepsTicket}
 pub data TicketChange (connection : Connection) (rows : List UserRow) : Connection → List UserRow → Type 0 where
   stays : (new : Connection) → KeepsTicket connection new → TicketChange connection rows new rows
   enters : (owner : Owner) (row : UserRow) → slice_get rows connection.user ≡ Some row → CanEnter connection.number row
-      → TicketChange connection rows (with_state (inside owner) connection) (with_row_changed connection.user without_home rows)
+      → TicketChange connection rows (with_connection_state (inside owner) connection) (with_row_changed connection.user without_home rows)
   leaves : (owner : Owner) → connection.state ≡ inside owner
-      → TicketChange connection rows (with_state gone connection) (with_row_changed connection.user (with_home (with_steps_restarted owner.state)) rows)
+      → TicketChange connection rows (with_connection_state gone connection) (with_row_changed connection.user (with_home (with_steps_restarted owner.state)) rows)
 
 module _ (connection : Connection) (rows : List UserRow) where
   abbrev ChangesTo : ConnectionView → Type 0

@@ -9,13 +9,13 @@ use Rattle.lj_session.specs.UserState.{UserState, user_of}
 use Rattle.lj_session.specs.Owner.{Owner, user_in}
 use Rattle.lj_wire.specs.declared.item.Item.{Item}
 use Rattle.lj_wire.specs.declared.item.Item.TheVariants.{Command}
-use Rattle.lj_wire.specs.Texts.{is_memory}
+use Rattle.lj_wire.specs.ReplyTexts.{is_memory}
 use Rattle.lj_wire.specs.Told.{last_user}
-use Rattle.lj_wire.specs.Laws.{MarkIsTold}
-use Rattle.lj_access.specs.Rows.{UserRow, first_row}
+use Rattle.lj_wire.specs.StreamLaws.{MarkIsTold}
+use Rattle.lj_access.specs.UserRows.{UserRow, first_row}
 use Rattle.lj_world.specs.Machine.{Machine, inside}
 use Rattle.lj_world.specs.Scripts.{ConnectionHistory, connection_histories, histories_of, items_joined, replies}
-use Rattle.lj_world.specs.Laws.{PendingCommandLaws, HasValue, IsAtHome, IsOwned, IsScriptValue, HasTicket, ValueIsThatOfScript, TicketsAreInOrder, WaitsOn}
+use Rattle.lj_world.specs.RunLaws.{PendingCommandLaws, HasUserValue, IsAtHome, IsOwned, IsScriptValue, HasTicket, ValueIsThatOfScript, TicketsAreInOrder, WaitsOn}
 use Rattle.lj_world.proofs.Answering.{Texts, AnsweredAll-length, last_user-AnsweredAll}
 use Rattle.lj_world.proofs.ConnectionLogs.{ConnectionLog, history_of, log_with}
 use Rattle.lj_world.proofs.Queues.{QueueInvariant, Numbered, ScriptProgress, At, items_in, progress_at_home, progress_of_owner}
@@ -78,10 +78,10 @@ holder from (suc past) home (log ∷ queue) texts (between, early, late, left, s
 
 -- each user has a value
 has_value : (rows : List UserRow) (user : ℕ) (from : Value) (t : Machine) (hs : List ConnectionHistory) (texts : Texts) → RunInvariant rows user from t hs texts
-    → (value : Value) × (waits : Option Order) × HasValue t user value waits
+    → (value : Value) × (waits : Option Order) × HasUserValue t user value waits
 has_value rows user from t hs texts k = by (holder from k.own.row.past k.own.row.home (queue_in user k.logs) texts k.own.queue_is_valid)
   where
-    by : Holder k.own.row.home (queue_in user k.logs) → (value : Value) × (waits : Option Order) × HasValue t user value waits
+    by : Holder k.own.row.home (queue_in user k.logs) → (value : Value) × (waits : Option Order) × HasUserValue t user value waits
     by (at_home state e) =
         let home : IsAtHome t user (user_of state) = record { row = k.own.row; there = k.own.there_is; state = state; home = e; is = refl } in
         (user_of state, None, inl (home, refl))
@@ -101,7 +101,7 @@ has_value rows user from t hs texts k = by (holder from k.own.row.past k.own.row
 
 -- the invariant accounts for the value of a user
 progress_of_value : (rows : List UserRow) (user : ℕ) (from : Value) (t : Machine) (hs : List ConnectionHistory) (texts : Texts) (k : RunInvariant rows user from t hs texts)
-    (value : Value) (waits : Option Order) → HasValue t user value waits → ScriptProgress from (items_in (queue_in user k.logs)) texts value waits
+    (value : Value) (waits : Option Order) → HasUserValue t user value waits → ScriptProgress from (items_in (queue_in user k.logs)) texts value waits
 progress_of_value rows user from t hs texts k value waits (inl (h, none)) =
     let row : h.row ≡ k.own.row = same_some (slice_get t.rows user) h.row k.own.row h.there k.own.there_is in
     let home : k.own.row.home ≡ Some h.state = ap (λ r. r.home) (sym row) ∙ h.home in

@@ -1,6 +1,6 @@
 -- The state of a connection in the code, and the ticket that the connection holds in it.
 use Rattle.std.specs.Prelude.{◌≡◌, ℕ, Option, Some}
-use Rattle.lj_access.specs.Rows.{Ticket}
+use Rattle.lj_access.specs.UserRows.{Ticket}
 use Rattle.lj_world.specs.declared.connection_state.ConnectionState.{ConnectionState as StateInCode}
 use Rattle.lj_world.specs.declared.connection_state.ConnectionState.TheVariants.{Waiting, Inside, Gone}
 use Rattle.lj_world.specs.Machine.{ConnectionState, waiting, inside, gone}

@@ -2,18 +2,18 @@
 -- sees itself, the rows of the users and the book. All that is not named stays.
 use Rattle.std.specs.Prelude.{◌≡◌, ℕ, ◌+◌, ◌-◌, ◌^◌, ◌<◌, true, false, ◌&&◌, is_some, List, [], ◌∷◌, ◌++◌, slice_get}
 use Rattle.std.specs.Prelude.{Option, Some, None, ◌⊎◌}
-use Rattle.lj_tile.specs.Task.{Task}
+use Rattle.lj_task.specs.Task.{Task}
 use Rattle.lj_session.specs.UserState.{UserState, with_steps_restarted}
 use Rattle.lj_session.specs.Owner.{Owner, owner_of_state, is_busy, next_task_of, with_task_posted, IsAwaitedIn, with_task_in}
 use Rattle.lj_wire.specs.declared.item.Item.{Item}
 use Rattle.lj_wire.specs.Items.{is_ending}
-use Rattle.lj_access.specs.Rows.{UserRow, CanEnter, with_row_changed, without_home, with_home}
+use Rattle.lj_access.specs.UserRows.{UserRow, CanEnter, with_row_changed, without_home, with_home}
 use Rattle.lj_book.specs.declared.book_entry.TheConstants.{MAX_ENTRIES}
 use Rattle.lj_book.specs.Book.{Book, entry_count, Posts, Fetches, Withdraws}
 use Rattle.lj_world.specs.declared.event.ConnectionEvent.{ConnectionEvent}
 use Rattle.lj_world.specs.declared.event.ConnectionEvent.TheVariants.{Arrive, End, Enter, Next, Post, Fetch, Turn, Leave}
 use Rattle.lj_world.specs.declared.world_limits.TheConstants.{MAX_POSTED}
-use Rattle.lj_world.specs.Machine.{waiting, inside, gone, Connection, with_state}
+use Rattle.lj_world.specs.Machine.{waiting, inside, gone, Connection, with_connection_state}
 use Rattle.lj_world.specs.OwnerReplies.{Begins, CanTurn, TurnsTo}
 
 -- what a connection sees: itself, the rows and the book
@@ -53,7 +53,7 @@ pub record Enters (old : ConnectionView) (text : Option (List ℕ)) (new : Conne
   pub state : UserState
   pub home : row.home ≡ Some state
   pub next : new ≡ record old {
-    connection = with_state (inside (owner_of_state state old.connection.user)) old.connection;
+    connection = with_connection_state (inside (owner_of_state state old.connection.user)) old.connection;
     rows = with_row_changed old.connection.user without_home old.rows;
   }
 
@@ -134,7 +134,7 @@ pub record TurnsNext (session : Option (List ℕ)) (old : ConnectionView) (text 
   pub can : CanTurn session owner name
   pub after : Owner
   pub turns : TurnsTo owner name text after
-  pub next : new ≡ view_with_connection (with_state (inside after) old.connection) old
+  pub next : new ≡ view_with_connection (with_connection_state (inside after) old.connection) old
 
 -- nothing is left to answer: the input has ended and the inbox is empty, or the connection is finished
 abbrev pub IsDone : Connection → Type 0
@@ -150,7 +150,7 @@ pub record Leaves (old : ConnectionView) (text : Option (List ℕ)) (new : Conne
   pub done : IsDone old.connection
   pub withdraws : Withdraws old.connection.user old.book new.book
   pub next : new ≡ record {
-    connection = with_state gone old.connection;
+    connection = with_connection_state gone old.connection;
     rows = with_row_changed old.connection.user (with_home (with_steps_restarted owner.state)) old.rows;
     book = new.book;
   }

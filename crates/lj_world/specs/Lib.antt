@@ -5,7 +5,7 @@ pub mod Transitions
 pub mod Runs
 pub mod Picked
 pub mod Scripts
-pub mod Laws
+pub mod RunLaws
 pub mod Steps
 pub mod OwnerReplies
 pub mod ConnectionStates

@@ -1,10 +1,10 @@
 -- The state of the machine: users, connections, workers, and the book of tasks.
 use Rattle.std.specs.Prelude.{ℕ, ◌+◌, ◌≤◌, Bool, false, List, [], map, replicate, slice_index_or, slice_set, Option, Some, None}
-use Rattle.lj_tile.specs.Task.{Task}
+use Rattle.lj_task.specs.Task.{Task}
 use Rattle.lj_session.specs.Owner.{Owner}
 use Rattle.lj_wire.specs.declared.item.Item.{Item}
 use Rattle.lj_access.specs.declared.user.User.{User}
-use Rattle.lj_access.specs.Rows.{UserRow, first_row}
+use Rattle.lj_access.specs.UserRows.{UserRow, first_row}
 use Rattle.lj_book.specs.Book.{Book}
 use Rattle.lj_world.specs.declared.world_limits.TheConstants.{MAX_CONNECTIONS, MAX_WORKERS}
 
@@ -71,8 +71,8 @@ new_connection user number = record {
 }
 
 -- the connection with another state
-abbrev pub with_state : ConnectionState → Connection → Connection
-with_state state connection = record connection { state = state }
+abbrev pub with_connection_state : ConnectionState → Connection → Connection
+with_connection_state state connection = record connection { state = state }
 
 -- with this connection in the slot of a number
 abbrev pub with_connection : ℕ → Connection → Machine → Machine
@@ -93,8 +93,8 @@ abbrev pub empty_book : Book
 empty_book = record { slots = []; posted = 0; given = 0; fetched = 0; withdrawn = 0 }
 
 -- the state in which a run begins: these users, no connections, and workers that hold nothing
-abbrev pub start : List User → Machine
-start users = record {
+abbrev pub initial_machine : List User → Machine
+initial_machine users = record {
   rows = map first_row users;
   connections = replicate (MAX_CONNECTIONS + 1) None;
   workers = replicate (MAX_WORKERS + 1) None;

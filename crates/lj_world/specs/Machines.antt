@@ -1,6 +1,6 @@
 -- The invariant of the machine.
 use Rattle.std.specs.Prelude.{◌≡◌, ◌+◌, ℕ, List, length, slice_index_or, Option, Some, None}
-use Rattle.lj_access.specs.Rows.{UserRow}
+use Rattle.lj_access.specs.UserRows.{UserRow}
 use Rattle.lj_world.specs.declared.world_limits.TheConstants.{MAX_CONNECTIONS, MAX_WORKERS}
 use Rattle.lj_world.specs.Machine.{Connection, Worker}
 use Rattle.lj_world.specs.KnownConnections.{HasRow}

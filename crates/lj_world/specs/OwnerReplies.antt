@@ -7,7 +7,7 @@ use Rattle.lj_session.specs.Owner.{Owner, user_in, has_pending, owner_begun, rea
 use Rattle.lj_wire.specs.declared.item.Item.{Item}
 use Rattle.lj_wire.specs.declared.item.Item.TheVariants.{Command, Bad, Last}
 use Rattle.lj_wire.specs.Told.{item_reply, item_text}
-use Rattle.lj_wire.specs.Runs.{item_before}
+use Rattle.lj_wire.specs.PendingItems.{item_before}
 
 -- An item is answered: for some mark, its reply has this text and leaves this user. No command is pending then.
 pub record Answers (owner : Owner) (item : Item) (text : List ℕ) (next : Owner) : Type 0 where
@@ -17,8 +17,8 @@ pub record Answers (owner : Owner) (item : Item) (text : List ℕ) (next : Owner
   pub number : next.number ≡ owner.number
 
 -- a fact that holds if the item is refused, under this mark
-abbrev pub OnRefused : Owner → Item → Bool → Type 0 → Type 0
-OnRefused owner item mark P = OnRefusal (item_reply (user_in owner) item mark).0 P
+abbrev pub OnRefusedItem : Owner → Item → Bool → Type 0 → Type 0
+OnRefusedItem owner item mark P = OnRefusal (item_reply (user_in owner) item mark).0 P
 
 -- the open steps after an item: those of its command's session follow from what the command does, all others stay
 abbrev pub LeavesSteps : Item → UserState → UserState → Type 0
@@ -31,7 +31,7 @@ pub record BeginsAtOnce (owner : Owner) (item : Item) (text : List ℕ) (after :
   pub at_once : item_before owner.state item ≡ 0
   pub answers : Answers owner item text after
   pub steps : LeavesSteps item owner.state after.state
-  pub unchanged : OnRefused owner item answers.mark (after ≡ owner)
+  pub unchanged : OnRefusedItem owner item answers.mark (after ≡ owner)
 
 -- the item is a command that needs turns, and becomes the pending command
 pub record BeginsToWait (owner : Owner) (item : Item) (after : Owner) : Type 0 where
@@ -70,7 +70,7 @@ pub record TurnsLast (owner : Owner) (name : List ℕ) (text : List ℕ) (after 
   pub answers : Answers owner (Command command) text after
   pub is_idle : IsIdleIn after.state name
   pub others : OtherSessionsKept name owner.state after.state
-  pub refused : OnRefused owner (Command command) answers.mark (after.state ≡ state_turned name owner.state)
+  pub refused : OnRefusedItem owner (Command command) answers.mark (after.state ≡ state_turned name owner.state)
 
 -- the step of this session is turned, and the pending command is answered with this text, or nothing is replied
 abbrev pub TurnsTo : Owner → List ℕ → Option (List ℕ) → Owner → Type 0

@@ -10,7 +10,7 @@ use Rattle.lj_world.specs.declared.event.ConnectionEvent.TheVariants.{Fetch}
 use Rattle.lj_world.specs.declared.event.WorkerEvent.{WorkerEvent}
 use Rattle.lj_world.specs.declared.event.WorkerEvent.TheVariants.{Take}
 use Rattle.lj_world.specs.declared.transcript.Entry.{Entry}
-use Rattle.lj_world.specs.Machine.{Connection, Machine, start, connection_at}
+use Rattle.lj_world.specs.Machine.{Connection, Machine, initial_machine, connection_at}
 use Rattle.lj_world.specs.Runs.{Step, RunBy}
 
 -- Only the entry of the picked key changes: the least key from the pick on that passes, else the least key that passes.
@@ -42,4 +42,4 @@ PickedStep old event reply new = Step old event reply new × FollowsPick old eve
 
 -- These replies are the whole transcript of a run over just these events in which each pick decides.
 abbrev pub IsPickedTranscript : List User → List Event → List Entry → Type 0
-IsPickedTranscript users events replies = (last : Machine) × RunBy PickedStep (start users) events replies last
+IsPickedTranscript users events replies = (last : Machine) × RunBy PickedStep (initial_machine users) events replies last

@@ -3,7 +3,7 @@ use Rattle.std.specs.Prelude.{◌≡◌, List, [], ◌∷◌, ◌++◌, Option, 
 use Rattle.lj_access.specs.declared.user.User.{User}
 use Rattle.lj_world.specs.declared.event.Event.{Event}
 use Rattle.lj_world.specs.declared.transcript.Entry.{Entry}
-use Rattle.lj_world.specs.Machine.{Machine, start}
+use Rattle.lj_world.specs.Machine.{Machine, initial_machine}
 use Rattle.lj_world.specs.Transitions.{Transition}
 
 -- the event is possible
@@ -29,4 +29,4 @@ Run old events replies new = RunBy Step old events replies new
 
 -- These replies are the whole transcript of a run from these users over just these events, in their order.
 abbrev pub IsTranscript : List User → List Event → List Entry → Type 0
-IsTranscript users events replies = (last : Machine) × Run (start users) events replies last
+IsTranscript users events replies = (last : Machine) × Run (initial_machine users) events replies last

@@ -3,10 +3,10 @@ use Rattle.std.specs.Prelude.{◌≡◌, ℕ, Bool, true, false, ◌&&◌, ◌||
 use Rattle.std.specs.List.{list_any}
 use Rattle.lj_wire.specs.declared.item.Item.{Item}
 use Rattle.lj_wire.specs.Items.{is_ending}
-use Rattle.lj_wire.specs.Texts.{is_memory}
+use Rattle.lj_wire.specs.ReplyTexts.{is_memory}
 use Rattle.lj_access.specs.declared.user.User.{User}
 use Rattle.lj_access.specs.declared.user_row.TheConstants.{MAX_TICKETS}
-use Rattle.lj_access.specs.Rows.{UserRow, first_row, user_with}
+use Rattle.lj_access.specs.UserRows.{UserRow, first_row, user_with}
 use Rattle.lj_world.specs.declared.event.Event.{Event}
 use Rattle.lj_world.specs.declared.event.Event.TheVariants.{Hello, At}
 use Rattle.lj_world.specs.declared.event.ConnectionEvent.TheVariants.{Arrive, End}
@@ -51,14 +51,14 @@ abbrev pub with_item : Item → ConnectionHistory → ConnectionHistory
 with_item item h = if h.ended then h else record h { items = h.items ++ item ∷ [] }
 
 -- the input ends
-abbrev pub with_end : ConnectionHistory → ConnectionHistory
-with_end h = record h { ended = true }
+abbrev pub with_input_ended : ConnectionHistory → ConnectionHistory
+with_input_ended h = record h { ended = true }
 
 -- the histories after one more event; the rows have the names and tokens of the users
 abbrev pub histories_after : List UserRow → List ConnectionHistory → Event → List ConnectionHistory
 histories_after rows histories (Hello id name token) = with_hello id (user_with rows name token) histories
 histories_after rows histories (At id (Arrive item)) = with_history id (with_item item) histories
-histories_after rows histories (At id End) = with_history id with_end histories
+histories_after rows histories (At id End) = with_history id with_input_ended histories
 histories_after rows histories _ = histories
 
 -- the histories of the granted connections, in the order of their HELLO

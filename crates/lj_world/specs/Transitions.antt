@@ -2,7 +2,7 @@
 -- not named stays.
 use Rattle.std.specs.Prelude.{◌≡◌, ℕ, List, slice_get, Option, Some, None}
 use Rattle.std.specs.Option.{option_map}
-use Rattle.lj_access.specs.Rows.{UserRow, user_with, HasTicketLeft, with_row_changed, with_ticket}
+use Rattle.lj_access.specs.UserRows.{UserRow, user_with, HasTicketLeft, with_row_changed, with_ticket}
 use Rattle.lj_world.specs.declared.event.Event.{Event}
 use Rattle.lj_world.specs.declared.event.Event.TheVariants.{Hello, At, By}
 use Rattle.lj_world.specs.declared.event.ConnectionEvent.{ConnectionEvent}
@@ -27,8 +27,8 @@ pub record HelloTransition (old : Machine) (id : ℕ) (name token : List ℕ) (n
       (with_rows (with_row_changed user with_ticket old.rows) old)
 
 -- a reply to a connection
-abbrev pub entry : ℕ → Connection → List ℕ → Entry
-entry id connection text = record { user = connection.user; connection = id; text = text }
+abbrev pub reply_entry : ℕ → Connection → List ℕ → Entry
+reply_entry id connection text = record { user = connection.user; connection = id; text = text }
 
 -- with this view in place of a connection, the rows and the book
 abbrev pub with_connection_view : ℕ → ConnectionView → Machine → Machine
@@ -42,7 +42,7 @@ pub record TransitionAt (old : Machine) (id : ℕ) (event : ConnectionEvent) (re
   pub text : Option (List ℕ)
   pub after : ConnectionView
   pub transition : ConnectionTransition event (connection_view connection old.rows old.book) text after
-  pub replies : reply ≡ option_map (entry id connection) text
+  pub replies : reply ≡ option_map (reply_entry id connection) text
   pub next : new ≡ with_connection_view id after old
 
 -- with this view in place of what a worker holds, and the book

@@ -1,7 +1,7 @@
 -- The transitions of a worker: for each event, when it is possible, and the view after it. A worker sees what it holds
 -- and the book.
 use Rattle.std.specs.Prelude.{◌≡◌, ℕ, true, false, Option, Some}
-use Rattle.lj_tile.specs.Task.{Task}
+use Rattle.lj_task.specs.Task.{Task}
 use Rattle.lj_book.specs.Book.{Book, Takes, Gives, HandsBack}
 use Rattle.lj_world.specs.declared.event.WorkerEvent.{WorkerEvent}
 use Rattle.lj_world.specs.declared.event.WorkerEvent.TheVariants.{Take, Compute, Give, HandBack}

@@ -1,6 +1,6 @@
 //! A connection, and how it handles each event.
 ghost use Rattle.std.specs.Prelude.{◌≡◌, ◌↔◌, None, IfOk, IsTrue, OnErr, List};
-ghost use Rattle.lj_access.specs.Rows.{UserRow};
+ghost use Rattle.lj_access.specs.UserRows.{UserRow};
 ghost use Rattle.lj_book.specs.Book.{Book, IsDoneAt};
 ghost use Rattle.lj_world.specs.declared.event.ConnectionEvent.TheVariants.{Arrive, End, Enter, Next, Post, Fetch, Turn, Leave};
 ghost use Rattle.lj_world.specs.Machine.{new_connection};
@@ -18,7 +18,7 @@ use lj_access::{Directory, Ticket};
 use lj_base::Name;
 use lj_book::Book;
 use lj_session::Owner;
-use lj_tile::Done;
+use lj_task::Done;
 use lj_wire::Item;
 use std::alloc::{AllocError, Global};
 use std::collections::VecDeque;

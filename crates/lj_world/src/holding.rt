@@ -1,6 +1,6 @@
 //! The task or the result that a worker holds.
 
-use lj_tile::{Done, Task};
+use lj_task::{Done, Task};
 
 /// The task or the result that a worker holds.
 #[derive(Drop)]

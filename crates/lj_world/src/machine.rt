@@ -2,9 +2,9 @@
 ghost use Rattle.std.specs.Prelude.{◌≡◌, ◌≤◌, ◌<◌, Some, None, IfOk, length, replicate, slice_set};
 ghost use Rattle.std.specs.List.{IsDistinct};
 ghost use Rattle.std.specs.Str.{bytes_eq};
-ghost use Rattle.lj_access.specs.Users.{names};
+ghost use Rattle.lj_access.specs.UserLists.{user_names};
 ghost use Rattle.lj_world.specs.declared.event.Event.TheVariants.{Hello, At, By};
-ghost use Rattle.lj_world.specs.Machine.{start};
+ghost use Rattle.lj_world.specs.Machine.{initial_machine};
 ghost use Rattle.lj_world.specs.Runs.{Step};
 ghost use Rattle.lj_world.specs.Picked.{PickedStep};
 
@@ -56,8 +56,8 @@ impl Machine {
     pub(crate) fn new(alloc: Global, users: Vec<User>) -> Result<Machine, AllocError>
         requires some { 1 ≤ length users.items }
         requires most { length users.items ≤ MAX_USERS }
-        requires distinct { IsDistinct bytes_eq (names users.items) }
-        ensures { IfOk result (λ machine. machine ≡ start users.items) }
+        requires distinct { IsDistinct bytes_eq (user_names users.items) }
+        ensures { IfOk result (λ machine. machine ≡ initial_machine users.items) }
     {
         Ok(Machine {
             alloc,

@@ -1,7 +1,7 @@
 //! The laws of runs. Each is the contract of a function that computes nothing.
-ghost use Rattle.lj_world.specs.Laws.{PendingCommandLaws, RepliesAreFirstTexts, AgreeingScriptsAgreeInTexts, Headline};
-ghost use Rattle.lj_world.specs.Laws.{ValueIsThatOfScript, TicketsAreInOrder, OthersChangeNothing, EachListHasARun};
-ghost use Rattle.lj_world.specs.Laws.{RefusalsLeaveSessions};
+ghost use Rattle.lj_world.specs.RunLaws.{PendingCommandLaws, RepliesAreFirstTexts, AgreeingScriptsAgreeInTexts, Headline};
+ghost use Rattle.lj_world.specs.RunLaws.{ValueIsThatOfScript, TicketsAreInOrder, OthersChangeNothing, EachListHasARun};
+ghost use Rattle.lj_world.specs.RunLaws.{RefusalsLeaveSessions};
 
 use lj_session::{accept_keeps_user, begun_waits_alike, posted_keeps_user, restart_keeps_user};
 use lj_wire::{alike_is_told, mark_is_told, waiting_goes_on};

@@ -2,7 +2,7 @@
 ghost use Rattle.std.specs.Prelude.{◌≡◌, IfOk};
 ghost use Rattle.lj_session.specs.UserState.{user_of};
 ghost use Rattle.lj_session.specs.Owner.{IsSettled};
-ghost use Rattle.lj_wire.specs.Texts.{text};
+ghost use Rattle.lj_wire.specs.ReplyTexts.{text};
 
 use crate::transcript::ReplyText;
 use lj_session::{Reply, UserState};

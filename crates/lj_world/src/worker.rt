@@ -10,7 +10,8 @@ use crate::event::WorkerEvent;
 use crate::holding::Holding;
 use lj_book::{Book, Key};
 use lj_table::Table;
-use lj_tile::{Task, compute};
+use lj_task::Task;
+use lj_tile::compute;
 use std::marker::Model;
 
 /// What a worker holds: a task or its result, with the key of the task.
@@ -21,12 +22,12 @@ pub(crate) struct Worker {
 }
 
 impl Model for Worker {
-    ghost use Rattle.lj_world.specs.Holdings.{task_of, is_computed};
+    ghost use Rattle.lj_world.specs.Holdings.{task_in_hand, is_computed};
     ghost use Rattle.lj_world.specs.Machine.{Worker};
 
     ghost Value = { Worker };
 
-    ghost view = { λ w. record { key = w.key; work = task_of w.holding; computed = is_computed w.holding } };
+    ghost view = { λ w. record { key = w.key; work = task_in_hand w.holding; computed = is_computed w.holding } };
 }
 
 /// Handles an event, or changes nothing if the event is not possible now.

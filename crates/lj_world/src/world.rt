@@ -2,11 +2,11 @@
 ghost use Rattle.std.specs.Prelude.{◌≡◌, ◌↔◌, ◌≤◌, length, IsTrue, IsFalse, IsErr, IfOk};
 ghost use Rattle.std.specs.List.{IsDistinct};
 ghost use Rattle.std.specs.Str.{bytes_eq};
-ghost use Rattle.lj_access.specs.Users.{names};
-ghost use Rattle.lj_world.specs.Machine.{start};
+ghost use Rattle.lj_access.specs.UserLists.{user_names};
+ghost use Rattle.lj_world.specs.Machine.{initial_machine};
 ghost use Rattle.lj_world.specs.Runs.{Step, IsTranscript};
 ghost use Rattle.lj_world.specs.Picked.{FollowsPick, IsPickedTranscript};
-ghost use Rattle.lj_world.specs.Laws.{AgreesWithEveryRun};
+ghost use Rattle.lj_world.specs.RunLaws.{AgreesWithEveryRun};
 
 use crate::event::Event;
 use crate::machine::Machine;
@@ -41,8 +41,8 @@ impl World {
     pub fn new(alloc: Global, users: Vec<User>) -> Result<World, OutOfMemory>
         requires some { 1 ≤ length users.items }
         requires most { length users.items ≤ MAX_USERS }
-        requires distinct { IsDistinct bytes_eq (names users.items) }
-        ensures state { IfOk result (λ world. world.state ≡ start users.items) }
+        requires distinct { IsDistinct bytes_eq (user_names users.items) }
+        ensures state { IfOk result (λ world. world.state ≡ initial_machine users.items) }
         ensures whole { IfOk result (λ world. IsFalse world.lost) }
     {
         Ok(World {
@@ -94,7 +94,7 @@ impl World {
     ) -> Result<Transcript, OutOfMemory>
         requires some { 1 ≤ length users.items }
         requires most { length users.items ≤ MAX_USERS }
-        requires distinct { IsDistinct bytes_eq (names users.items) }
+        requires distinct { IsDistinct bytes_eq (user_names users.items) }
         ensures run { IfOk result (λ transcript. IsTranscript users.items events.items transcript) }
         ensures picked { IfOk result (λ transcript. IsPickedTranscript users.items events.items transcript) }
         ensures headline { IfOk result (λ transcript. AgreesWithEveryRun users.items events.items transcript) }

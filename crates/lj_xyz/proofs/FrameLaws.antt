@@ -10,8 +10,8 @@ use Rattle.lj_xyz.specs.declared.atom_row.AtomRow.{AtomRow}
 use Rattle.lj_xyz.specs.declared.frame_reader.Position.{Position}
 use Rattle.lj_xyz.specs.Symbols.{SymbolPair}
 use Rattle.lj_xyz.specs.Atoms.{◌>>=◌, row_of}
-use Rattle.lj_xyz.specs.Frames.{IsWordless, Counts, missing, IsHead, AreAtoms, IsFrame, fault_behind, OpeningFault}
-use Rattle.lj_xyz.specs.Frames.{no_count, bad_count, other_count, no_comment, FirstFault, in_opening, no_atom, bad_atom}
+use Rattle.lj_xyz.specs.Bodies.{IsWordless, Counts, missing, IsHead, AreAtoms, IsFrame, fault_behind, OpeningFault}
+use Rattle.lj_xyz.specs.Bodies.{no_count, bad_count, other_count, no_comment, FirstFault, in_opening, no_atom, bad_atom}
 use Rattle.lj_xyz.specs.Reading.{Left, count_or_fault, head_in, behind_comment, opening_in, next_row, rows_in, frame_in}
 use Rattle.lj_xyz.proofs.ReaderLaws.{head_over, head_at, head_none, with_front, no_front}
 

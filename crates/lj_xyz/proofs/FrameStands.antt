@@ -11,9 +11,9 @@ use Rattle.lj_xyz.specs.declared.atom_row.AtomRow.{AtomRow}
 use Rattle.lj_xyz.specs.declared.frame_reader.Position.{Position}
 use Rattle.lj_base.specs.Words.{words_of}
 use Rattle.lj_xyz.specs.Symbols.{SymbolPair}
-use Rattle.lj_xyz.specs.Atoms.{◌>>=◌, count_of, row_of}
-use Rattle.lj_xyz.specs.Frames.{IsWordless, Counts, admits, IsHead, AreAtoms, IsFrame, fault_behind, OpeningFault}
-use Rattle.lj_xyz.specs.Frames.{no_count, bad_count, other_count, no_comment, FirstFault, in_opening, no_atom, bad_atom}
+use Rattle.lj_xyz.specs.Atoms.{◌>>=◌, atom_count_of, row_of}
+use Rattle.lj_xyz.specs.Bodies.{IsWordless, Counts, admits, IsHead, AreAtoms, IsFrame, fault_behind, OpeningFault}
+use Rattle.lj_xyz.specs.Bodies.{no_count, bad_count, other_count, no_comment, FirstFault, in_opening, no_atom, bad_atom}
 use Rattle.lj_xyz.specs.Reading.{Left, count_or_fault, head_in, behind_comment, next_row, rows_in, frame_in}
 use Rattle.lj_xyz.proofs.ReaderLaws.{head_over, head_at, head_none}
 use Rattle.lj_xyz.proofs.FrameLaws.{left}
@@ -112,9 +112,9 @@ head_stands position before (line ∷ lines) =
           (later position before line lines (head_in position (before + 1) lines) blank
           (head_stands position (before + 1) lines))
       | inr w ↦
-          let counts : Counts line (count_of w.0) = record { first = w.0; others = w.1; words = w.2; value = refl } in
+          let counts : Counts line (atom_count_of w.0) = record { first = w.0; others = w.1; words = w.2; value = refl } in
           rw (head_at position before line lines w.0 w.1 w.2)
-          (at_count position before line lines (count_of w.0) counts)
+          (at_count position before line lines (atom_count_of w.0) counts)
     ]
 
 -- ---- the atoms

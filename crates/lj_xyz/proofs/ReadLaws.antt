@@ -12,20 +12,20 @@ use Rattle.lj_xyz.specs.declared.frame_reader.Position.TheVariants.{First, Secon
 use Rattle.lj_fixed.specs.Numbers.{number_of}
 use Rattle.lj_xyz.specs.Symbols.{SymbolPair}
 use Rattle.lj_xyz.specs.Atoms.{is_count, count_if}
-use Rattle.lj_xyz.specs.Frames.{Mode, rest, pair, IsReading, IsFrame}
-use Rattle.lj_xyz.specs.Reading.{Left, frame_in, start, reading, Fails, Gives}
+use Rattle.lj_xyz.specs.Bodies.{Mode, rest, pair, IsReading, IsFrame}
+use Rattle.lj_xyz.specs.Reading.{Left, frame_in, unread_lines, reading, FailsAs, ReadsAs}
 use Rattle.lj_xyz.proofs.ReadingLaws.{reading_stands, reads_one, reads_no_first, reads_no_second}
 
 -- what was read stands in the relation
 pub frames_stand : {X : Type 0} (symbols : Option SymbolPair) (view : X → List (List AtomRow)) (mode : Mode)
-    (lines : List (List ℕ)) (r : Result X XyzError) → Gives view r (reading symbols mode lines)
+    (lines : List (List ℕ)) (r : Result X XyzError) → ReadsAs view r (reading symbols mode lines)
     → IfOk r (λ x. IsReading symbols mode lines (Ok (view x)))
 frames_stand symbols view mode lines (Ok x) e = rw e at (reading_stands symbols mode lines)
 frames_stand symbols view mode lines (Err error) e = tt
 
 -- a fault that was answered stands in the relation
 pub fault_stands : {X : Type 0} (symbols : Option SymbolPair) (view : X → List (List AtomRow)) (mode : Mode)
-    (lines : List (List ℕ)) (r : Result X XyzError) → Gives view r (reading symbols mode lines)
+    (lines : List (List ℕ)) (r : Result X XyzError) → ReadsAs view r (reading symbols mode lines)
     → (fault : XyzFault) → r ≡ Err (errors.Fault fault) → IsReading symbols mode lines (Err fault)
 fault_stands symbols view mode lines r e fault is =
     let read : reading symbols mode lines ≡ Err fault = rw is at e in
@@ -33,22 +33,22 @@ fault_stands symbols view mode lines r e fault is =
 
 -- where the first frame is not read, nothing is
 pub fails_first : (symbols : Option SymbolPair) (mode : Mode) (lines : List (List ℕ)) (error : XyzError)
-    → Fails error (frame_in symbols First (start lines)) → Fails error (reading symbols mode lines)
+    → FailsAs error (frame_in symbols First (unread_lines lines)) → FailsAs error (reading symbols mode lines)
 fails_first symbols mode lines errors.Memory e = tt
 fails_first symbols mode lines (errors.Fault fault) e = reads_no_first symbols mode lines fault e
 
 -- where the second one is not read, no pair is
 pub fails_second : (symbols : Option SymbolPair) (lines : List (List ℕ)) (first : List AtomRow) (after : Left)
-    (error : XyzError) → frame_in symbols First (start lines) ≡ Ok (first, after)
-    → Fails error (frame_in None (Second (length first)) after) → Fails error (reading symbols pair lines)
+    (error : XyzError) → frame_in symbols First (unread_lines lines) ≡ Ok (first, after)
+    → FailsAs error (frame_in None (Second (length first)) after) → FailsAs error (reading symbols pair lines)
 fails_second symbols lines first after errors.Memory e next = tt
 fails_second symbols lines first after (errors.Fault fault) e next =
     reads_no_second symbols lines first after fault e next
 
 -- the first frame is all that is read at rest
 pub gives_one : (symbols : Option SymbolPair) (lines : List (List ℕ)) (after : Left) (r : Result (List AtomRow) XyzError)
-    → Gives (λ (rows : List AtomRow). (rows, after)) r (frame_in symbols First (start lines))
-    → Gives (λ (rows : List AtomRow). rows ∷ []) r (reading symbols rest lines)
+    → ReadsAs (λ (rows : List AtomRow). (rows, after)) r (frame_in symbols First (unread_lines lines))
+    → ReadsAs (λ (rows : List AtomRow). rows ∷ []) r (reading symbols rest lines)
 gives_one symbols lines after (Ok rows) e = reads_one symbols lines rows after e
 gives_one symbols lines after (Err error) e = fails_first symbols rest lines error e
 
@@ -97,7 +97,7 @@ two_counts symbols lines first second is =
     )
 
 pub pair_counts : (symbols : Option SymbolPair) (lines : List (List ℕ)) (r : Result FramePair XyzError)
-    → Gives (λ (frames : FramePair). frames.first ∷ frames.second ∷ []) r (reading symbols pair lines)
+    → ReadsAs (λ (frames : FramePair). frames.first ∷ frames.second ∷ []) r (reading symbols pair lines)
     → IfOk r (λ frames. (is_count (length frames.first) ≡ true) × (length frames.second ≡ length frames.first))
 pair_counts symbols lines (Ok frames) e =
     two_counts symbols lines frames.first frames.second (rw e at (reading_stands symbols pair lines))

@@ -7,9 +7,9 @@ use Rattle.lj_xyz.specs.declared.atom_row.AtomRow.{AtomRow}
 use Rattle.lj_xyz.specs.declared.frame_reader.Position.{Position}
 use Rattle.lj_base.specs.Words.{words_of}
 use Rattle.lj_xyz.specs.Symbols.{SymbolPair}
-use Rattle.lj_xyz.specs.Atoms.{◌>>=◌, count_of}
-use Rattle.lj_xyz.specs.Frames.{missing, fault_behind}
-use Rattle.lj_xyz.specs.Reading.{Left, Tells, count_or_fault, head_in, next_row, rows_in}
+use Rattle.lj_xyz.specs.Atoms.{◌>>=◌, atom_count_of}
+use Rattle.lj_xyz.specs.Bodies.{missing, fault_behind}
+use Rattle.lj_xyz.specs.Reading.{Left, ReadsExactlyAs, count_or_fault, head_in, next_row, rows_in}
 
 -- ---- the count line
 
@@ -23,7 +23,7 @@ head_over position taken line lines e = rw (e, head_in) refl
 
 pub head_at : (position : Position) (taken : ℕ) (line : List ℕ) (lines : List (List ℕ)) (first : List ℕ)
     (others : List (List ℕ)) → words_of line ≡ first ∷ others
-    → head_in position taken (line ∷ lines) ≡ (count_or_fault position (taken + 1) (count_of first)
+    → head_in position taken (line ∷ lines) ≡ (count_or_fault position (taken + 1) (atom_count_of first)
     >>= λ n. Ok (n, after_line taken lines))
 unfolding head_in
 head_at position taken line lines first others e = rw (e, head_in) refl
@@ -49,20 +49,20 @@ head_goes_on position old new line total step e so_far =
 abbrev counted : Left → ℕ → ℕ × Left
 counted left n = (n, left)
 
-tells_as : (r : Result ℕ XyzFault) (left : Left) → Tells (counted left) r (r >>= λ n. Ok (counted left n))
+tells_as : (r : Result ℕ XyzFault) (left : Left) → ReadsExactlyAs (counted left) r (r >>= λ n. Ok (counted left n))
 tells_as (Ok n) left = refl
 tells_as (Err fault) left = refl
 
 pub head_ends : (position : Position) (old new : Left) (line first : List ℕ) (others : List (List ℕ))
     (r : Result ℕ XyzFault) (total : Result (ℕ × Left) XyzFault)
-    → Steps old new line → words_of line ≡ first ∷ others → r ≡ count_or_fault position new.taken (count_of first)
-    → head_in position old.taken old.lines ≡ total → Tells (counted new) r total
+    → Steps old new line → words_of line ≡ first ∷ others → r ≡ count_or_fault position new.taken (atom_count_of first)
+    → head_in position old.taken old.lines ≡ total → ReadsExactlyAs (counted new) r total
 head_ends position old new line first others r total step e is so_far =
-    let at : head_in position old.taken old.lines ≡ (count_or_fault position (old.taken + 1) (count_of first)
+    let at : head_in position old.taken old.lines ≡ (count_or_fault position (old.taken + 1) (atom_count_of first)
     >>= λ n. Ok (counted (after_line old.taken new.lines) n)) =
     rw step.lines (head_at position old.taken line new.lines first others e) in
     let one : head_in position old.taken old.lines ≡ (r >>= λ n. Ok (counted new n)) = rw (is, step.taken) at in
-    subst (λ (t : Result (ℕ × Left) XyzFault). Tells (counted new) r t) (sym one ∙ so_far) (tells_as r new)
+    subst (λ (t : Result (ℕ × Left) XyzFault). ReadsExactlyAs (counted new) r t) (sym one ∙ so_far) (tells_as r new)
 
 pub head_missing : (position : Position) (old new : Left) (wrong : XyzKind) (total : Result (ℕ × Left) XyzFault)
     → old.lines ≡ [] → new.taken ≡ old.taken → wrong ≡ missing position

@@ -6,27 +6,27 @@ use Rattle.lj_xyz.specs.declared.atom_row.AtomRow.{AtomRow}
 use Rattle.lj_xyz.specs.declared.frame_reader.Position.TheVariants.{First, Second}
 use Rattle.lj_xyz.specs.Symbols.{SymbolPair}
 use Rattle.lj_xyz.specs.Atoms.{◌>>=◌}
-use Rattle.lj_xyz.specs.Frames.{Mode, rest, pair, IsFrame, FirstFault, GivesOne, GivesTwo, FaultOfSecond, IsReading}
-use Rattle.lj_xyz.specs.Reading.{Left, frame_in, start, reading}
+use Rattle.lj_xyz.specs.Bodies.{Mode, rest, pair, IsFrame, FirstFault, GivesOne, GivesTwo, FaultOfSecond, IsReading}
+use Rattle.lj_xyz.specs.Reading.{Left, frame_in, unread_lines, reading}
 use Rattle.lj_xyz.proofs.FrameLaws.{left, frame_good, frame_fault}
 use Rattle.lj_xyz.proofs.FrameStands.{FrameEnds, FrameStands, frame_stands}
 
 -- ---- what the mode's frames are read as
 
 pub reads_one : (symbols : Option SymbolPair) (lines : List (List ℕ)) (rows : List AtomRow) (after : Left)
-    → frame_in symbols First (start lines) ≡ Ok (rows, after) → reading symbols rest lines ≡ Ok (rows ∷ [])
+    → frame_in symbols First (unread_lines lines) ≡ Ok (rows, after) → reading symbols rest lines ≡ Ok (rows ∷ [])
 unfolding reading
 reads_one symbols lines rows after e = rw e refl
 
 pub reads_two : (symbols : Option SymbolPair) (lines : List (List ℕ)) (first second : List AtomRow) (after end : Left)
-    → frame_in symbols First (start lines) ≡ Ok (first, after)
+    → frame_in symbols First (unread_lines lines) ≡ Ok (first, after)
     → frame_in None (Second (length first)) after ≡ Ok (second, end)
     → reading symbols pair lines ≡ Ok (first ∷ second ∷ [])
 unfolding reading
 reads_two symbols lines first second after end e next = rw (e, next) refl
 
 pub reads_no_first : (symbols : Option SymbolPair) (mode : Mode) (lines : List (List ℕ)) (fault : XyzFault)
-    → frame_in symbols First (start lines) ≡ Err fault
+    → frame_in symbols First (unread_lines lines) ≡ Err fault
     → reading symbols mode lines ≡ Err fault
 unfolding reading
 reads_no_first symbols rest lines fault e = rw e refl
@@ -34,7 +34,7 @@ reads_no_first symbols pair lines fault e = rw e refl
 
 pub reads_no_second : (symbols : Option SymbolPair) (lines : List (List ℕ)) (first : List AtomRow) (after : Left)
     (fault : XyzFault)
-    → frame_in symbols First (start lines) ≡ Ok (first, after)
+    → frame_in symbols First (unread_lines lines) ≡ Ok (first, after)
     → frame_in None (Second (length first)) after ≡ Err fault → reading symbols pair lines ≡ Err fault
 unfolding reading
 reads_no_second symbols lines first after fault e next = rw (e, next) refl
@@ -43,7 +43,7 @@ reads_no_second symbols lines first after fault e next = rw (e, next) refl
 
 frame_first : (symbols : Option SymbolPair) (lines frame behind : List (List ℕ)) (rows : List AtomRow)
     → lines ≡ frame ++ behind → IsFrame symbols First frame rows
-    → frame_in symbols First (start lines) ≡ Ok (rows, left (length frame) behind)
+    → frame_in symbols First (unread_lines lines) ≡ Ok (rows, left (length frame) behind)
 frame_first symbols lines frame behind rows whole is =
     rw (whole, ← zero-add (length frame)) (frame_good symbols First 0 frame behind rows is)
 
@@ -149,6 +149,6 @@ pub reading_stands : (symbols : Option SymbolPair) (mode : Mode) (lines : List (
     → IsReading symbols mode lines (reading symbols mode lines)
 unfolding reading
 reading_stands symbols rest lines =
-    stands_one symbols lines (frame_in symbols First (start lines)) (frame_stands symbols First 0 lines)
+    stands_one symbols lines (frame_in symbols First (unread_lines lines)) (frame_stands symbols First 0 lines)
 reading_stands symbols pair lines =
-    stands_two symbols lines (frame_in symbols First (start lines)) (frame_stands symbols First 0 lines)
+    stands_two symbols lines (frame_in symbols First (unread_lines lines)) (frame_stands symbols First 0 lines)

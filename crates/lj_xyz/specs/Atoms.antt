@@ -8,7 +8,7 @@ use Rattle.lj_xyz.specs.declared.xyz_fault.XyzKind.TheVariants as kind
 use Rattle.lj_xyz.specs.declared.frame_reader.TheConstants.{MAX_FRAME_ATOMS}
 use Rattle.lj_xyz.specs.declared.atom_row.AtomRow.{AtomRow}
 use Rattle.lj_base.specs.Words.{words_of}
-use Rattle.lj_xyz.specs.Kinds.{kind_of}
+use Rattle.lj_xyz.specs.Kinds.{number_fault_kind}
 use Rattle.lj_xyz.specs.Symbols.{SymbolPair, is_symbol, is_of_species}
 
 -- a number of atoms that a frame may have
@@ -21,8 +21,8 @@ count_if None = None
 count_if (Some n) = if is_count n then Some n else None
 
 -- the number of atoms that a word gives
-abbrev pub count_of : List ℕ → Option ℕ
-count_of word = count_if (number_of word)
+abbrev pub atom_count_of : List ℕ → Option ℕ
+atom_count_of word = count_if (number_of word)
 
 -- the second step on the value of the first, or the fault of the first
 infixl 10 ◌>>=◌
@@ -33,7 +33,7 @@ abbrev pub ◌>>=◌ : {A B F : Type 0} → Result A F → (A → Result B F) �
 -- a coordinate in nano, or its fault as a fault of the line
 abbrev pub coordinate_or_kind : Result ℤ NumberFault → Result ℤ XyzKind
 coordinate_or_kind (Ok nano) = Ok nano
-coordinate_or_kind (Err fault) = Err (kind_of fault)
+coordinate_or_kind (Err fault) = Err (number_fault_kind fault)
 
 -- the coordinate that a word gives, in nano
 abbrev pub coordinate : List ℕ → Result ℤ XyzKind

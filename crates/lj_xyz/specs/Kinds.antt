@@ -5,6 +5,6 @@ use Rattle.lj_xyz.specs.declared.xyz_fault.XyzKind.{XyzKind}
 use Rattle.lj_xyz.specs.declared.xyz_fault.XyzKind.TheVariants as kind
 
 -- the kind of this fault in a body
-abbrev pub kind_of : NumberFault → XyzKind
-kind_of BadNumber = kind.Number
-kind_of OutOfRange = kind.Range
+abbrev pub number_fault_kind : NumberFault → XyzKind
+number_fault_kind BadNumber = kind.Number
+number_fault_kind OutOfRange = kind.Range

@@ -3,9 +3,9 @@ pub mod Symbols
 pub mod Kinds
 pub mod FaultTexts
 pub mod Atoms
-pub mod Frames
+pub mod Bodies
 pub mod Reading
 pub mod Cursor
-pub mod Texts
+pub mod FrameTexts
 pub mod Worked
 pub mod Limits

@@ -1,4 +1,4 @@
--- Reading from the first line to the last, up to the first fault. By a law of this crate it gives the answer of `Frames`.
+-- Reading from the first line to the last, up to the first fault. By a law of this crate it gives the answer of `Bodies`.
 use Rattle.std.specs.Prelude.{◌≡◌, ℕ, zero, suc, ◌+◌, List, [], ◌∷◌, length, Option, Some, None, Result, Ok, Err}
 use Rattle.std.specs.Prelude.{if◌then◌else◌}
 use Rattle.lj_xyz.specs.declared.xyz_fault.XyzKind.{XyzKind}
@@ -11,8 +11,8 @@ use Rattle.lj_xyz.specs.declared.frame_reader.Position.{Position}
 use Rattle.lj_xyz.specs.declared.frame_reader.Position.TheVariants.{First, Second}
 use Rattle.lj_base.specs.Words.{words_of}
 use Rattle.lj_xyz.specs.Symbols.{SymbolPair}
-use Rattle.lj_xyz.specs.Atoms.{◌>>=◌, count_of, row_of}
-use Rattle.lj_xyz.specs.Frames.{Mode, rest, pair, admits, missing, fault_behind}
+use Rattle.lj_xyz.specs.Atoms.{◌>>=◌, atom_count_of, row_of}
+use Rattle.lj_xyz.specs.Bodies.{Mode, rest, pair, admits, missing, fault_behind}
 
 -- how many lines were read, and the lines that are left
 pub record Left : Type 0 where
@@ -35,7 +35,7 @@ head_in position taken (line ∷ lines) =
     elim (words_of line) [
       | [] ↦ head_in position (taken + 1) lines
       | first ∷ others ↦
-          count_or_fault position (taken + 1) (count_of first)
+          count_or_fault position (taken + 1) (atom_count_of first)
           >>= λ n. Ok (n, record { taken = taken + 1; lines = lines })
     ]
 
@@ -77,30 +77,30 @@ frame_in symbols position left = do
   rows_in symbols opening.0 opening.1
 
 -- the lines of a body, with none read
-abbrev pub start : List (List ℕ) → Left
-start lines = record { taken = 0; lines = lines }
+abbrev pub unread_lines : List (List ℕ) → Left
+unread_lines lines = record { taken = 0; lines = lines }
 
 -- the frames of the mode, the first one of the given species, or the first fault
 unfoldable pub reading : Option SymbolPair → Mode → List (List ℕ) → Result (List (List AtomRow)) XyzFault
 reading symbols rest lines = do
-  first ← frame_in symbols First (start lines)
+  first ← frame_in symbols First (unread_lines lines)
   Ok (first.0 ∷ [])
 reading symbols pair lines = do
-  first ← frame_in symbols First (start lines)
+  first ← frame_in symbols First (unread_lines lines)
   second ← frame_in None (Second (length first.0)) first.1
   Ok (first.0 ∷ second.0 ∷ [])
 
 -- an error is the fault that reading gives, unless memory ran out
-abbrev pub Fails : {Y : Type 0} → XyzError → Result Y XyzFault → Type 0
-Fails errors.Memory read = Unit {0}
-Fails (errors.Fault fault) read = read ≡ Err fault
+abbrev pub FailsAs : {Y : Type 0} → XyzError → Result Y XyzFault → Type 0
+FailsAs errors.Memory read = Unit {0}
+FailsAs (errors.Fault fault) read = read ≡ Err fault
 
 -- what a function returned, seen by `view`, is what reading gives, unless memory ran out
-abbrev pub Gives : {X Y : Type 0} → (X → Y) → Result X XyzError → Result Y XyzFault → Type 0
-Gives view (Ok x) read = read ≡ Ok (view x)
-Gives view (Err error) read = Fails error read
+abbrev pub ReadsAs : {X Y : Type 0} → (X → Y) → Result X XyzError → Result Y XyzFault → Type 0
+ReadsAs view (Ok x) read = read ≡ Ok (view x)
+ReadsAs view (Err error) read = FailsAs error read
 
 -- the same for a function that takes no memory
-abbrev pub Tells : {X Y : Type 0} → (X → Y) → Result X XyzFault → Result Y XyzFault → Type 0
-Tells view (Ok x) read = read ≡ Ok (view x)
-Tells view (Err fault) read = read ≡ Err fault
+abbrev pub ReadsExactlyAs : {X Y : Type 0} → (X → Y) → Result X XyzFault → Result Y XyzFault → Type 0
+ReadsExactlyAs view (Ok x) read = read ≡ Ok (view x)
+ReadsExactlyAs view (Err fault) read = read ≡ Err fault

@@ -12,9 +12,9 @@ use Rattle.lj_base.specs.Words.{words_of}
 use Rattle.lj_xyz.specs.Lines.{lines_of}
 use Rattle.lj_xyz.specs.Symbols.{SymbolPair}
 use Rattle.lj_xyz.specs.Atoms.{row_of, row_of_four}
-use Rattle.lj_xyz.specs.Frames.{Mode, rest, pair}
+use Rattle.lj_xyz.specs.Bodies.{Mode, rest, pair}
 use Rattle.lj_xyz.specs.Reading.{head_in, behind_comment, next_row, rows_in, frame_in, reading}
-use Rattle.lj_xyz.specs.Texts.{count_text, comment_text, atom_text}
+use Rattle.lj_xyz.specs.FrameTexts.{count_text, comment_text, atom_text}
 
 -- the answer to a body with atoms of the given species, if there is memory
 answer_of : Option SymbolPair → Mode → List ℕ → Result (List (List AtomRow)) XyzFault

@@ -4,9 +4,9 @@ ghost use Rattle.std.specs.Option.{option_copied};
 ghost use Rattle.lj_xyz.specs.declared.xyz_fault.XyzFault.{XyzFault};
 ghost use Rattle.lj_xyz.specs.Lines.{lines_of};
 ghost use Rattle.lj_xyz.specs.Symbols.{is_of_species};
-ghost use Rattle.lj_xyz.specs.Atoms.{is_count, count_of, symbol_or_kind, row_of, row_of_four};
-ghost use Rattle.lj_xyz.specs.Frames.{IsReading, admits, missing, rest, pair};
-ghost use Rattle.lj_xyz.specs.Reading.{Gives, Tells, count_or_fault, head_in, behind_comment, opening_in, next_row};
+ghost use Rattle.lj_xyz.specs.Atoms.{is_count, atom_count_of, symbol_or_kind, row_of, row_of_four};
+ghost use Rattle.lj_xyz.specs.Bodies.{IsReading, admits, missing, rest, pair};
+ghost use Rattle.lj_xyz.specs.Reading.{ReadsAs, ReadsExactlyAs, count_or_fault, head_in, behind_comment, opening_in, next_row};
 ghost use Rattle.lj_xyz.specs.Reading.{rows_in, frame_in, reading};
 ghost use Rattle.lj_xyz.specs.Cursor.{left_of};
 
@@ -56,7 +56,7 @@ fn is_count(number: u64) -> bool
 }
 
 fn count_of(word: &[u8]) -> Option<usize>
-    ensures { result ≡ count_of word.now }
+    ensures { result ≡ atom_count_of word.now }
 {
     let number = parse_number(word)?;
     is_count(number).then_some(number as usize)
@@ -113,7 +113,7 @@ fn row_of_four(
 
 // Parses the first word of the count line, which is line number `line`, as the number of atoms.
 fn count_or_fault(position: Position, line: u64, word: &[u8]) -> Result<usize, XyzFault>
-    ensures { result ≡ count_or_fault position line (count_of word.now) }
+    ensures { result ≡ count_or_fault position line (atom_count_of word.now) }
 {
     let Some(count) = count_of(word) else {
         return Err(XyzFault {
@@ -132,7 +132,7 @@ fn count_or_fault(position: Position, line: u64, word: &[u8]) -> Result<usize, X
 
 // Skips the lines without a word, and reads the count line.
 fn read_head(lines: &mut Lines, position: Position) -> Result<usize, XyzFault>
-    ensures { Tells (λ count. (count, left_of lines.new)) result
+    ensures { ReadsExactlyAs (λ count. (count, left_of lines.new)) result
         (head_in position lines.old.taken (lines_of lines.old.rest.now)) }
 {
     while let Some(line) = lines.next_line() {
@@ -148,7 +148,7 @@ fn read_head(lines: &mut Lines, position: Position) -> Result<usize, XyzFault>
 
 #[tactic(auto, unfolding(crate::specs::Reading::behind_comment))]
 fn pass_comment(lines: &mut Lines) -> Result<(), XyzFault>
-    ensures { Tells (λ _. left_of lines.new) result
+    ensures { ReadsExactlyAs (λ _. left_of lines.new) result
         (behind_comment lines.old.taken (lines_of lines.old.rest.now)) }
 {
     match lines.next_line() {
@@ -162,7 +162,7 @@ fn pass_comment(lines: &mut Lines) -> Result<(), XyzFault>
 
 #[tactic(auto, unfolding(crate::specs::Reading::next_row))]
 fn read_row(lines: &mut Lines, symbols: Option<&SymbolPair>) -> Result<AtomRow, XyzFault>
-    ensures { Tells (λ row. (row, left_of lines.new)) result
+    ensures { ReadsExactlyAs (λ row. (row, left_of lines.new)) result
         (next_row (option_copied symbols.entry) lines.old.taken (lines_of lines.old.rest.now)) }
 {
     let Some(line) = lines.next_line() else {
@@ -182,7 +182,7 @@ fn read_row(lines: &mut Lines, symbols: Option<&SymbolPair>) -> Result<AtomRow, 
 
 // Reads the count line and the comment line of a frame, and returns the number of its atoms.
 fn read_opening(lines: &mut Lines, position: Position) -> Result<usize, XyzFault>
-    ensures { Tells (λ atoms. (atoms, left_of lines.new)) result
+    ensures { ReadsExactlyAs (λ atoms. (atoms, left_of lines.new)) result
         (opening_in position (left_of lines.old)) }
 {
     let atoms = read_head(lines, position)?;
@@ -197,7 +197,7 @@ fn read_rows(
     atoms: usize,
     symbols: Option<&SymbolPair>,
 ) -> Result<Rows, XyzError>
-    ensures { Gives (λ rows. (rows, left_of lines.new)) result
+    ensures { ReadsAs (λ rows. (rows, left_of lines.new)) result
         (rows_in (option_copied symbols.entry) atoms (left_of lines.old)) }
 {
     let mut rows = Vec::with_capacity(alloc, atoms)?;
@@ -215,7 +215,7 @@ fn read_frame(
     position: Position,
     symbols: Option<&SymbolPair>,
 ) -> Result<Rows, XyzError>
-    ensures { Gives (λ rows. (rows, left_of lines.new)) result
+    ensures { ReadsAs (λ rows. (rows, left_of lines.new)) result
         (frame_in (option_copied symbols.entry) position (left_of lines.old)) }
 {
     let atoms = read_opening(lines, position)?;
@@ -223,7 +223,7 @@ fn read_frame(
 }
 
 fn first_frame(alloc: Global, text: &[u8], symbols: Option<&SymbolPair>) -> Result<Rows, XyzError>
-    ensures { Gives (λ rows. rows ∷ []) result
+    ensures { ReadsAs (λ rows. rows ∷ []) result
         (reading (option_copied symbols.entry) rest (lines_of text.now)) }
 {
     let mut lines = Lines::new(text);
@@ -236,7 +236,7 @@ fn first_two_frames(
     text: &[u8],
     symbols: Option<&SymbolPair>,
 ) -> Result<FramePair, XyzError>
-    ensures { Gives (λ frames. frames.first ∷ frames.second ∷ []) result
+    ensures { ReadsAs (λ frames. frames.first ∷ frames.second ∷ []) result
         (reading (option_copied symbols.entry) pair (lines_of text.now)) }
 {
     let mut lines = Lines::new(text);
@@ -265,7 +265,7 @@ pub fn read_rest(alloc: Global, text: &[u8], symbols: Option<&SymbolPair>) -> Re
     ensures count { IfOk result (λ rows. IsTrue (is_count (length rows))) }
 
     // The same as an equation, if there was memory.
-    ensures exact { Gives (λ rows. rows ∷ []) result
+    ensures exact { ReadsAs (λ rows. rows ∷ []) result
         (reading (option_copied symbols.entry) rest (lines_of text.now)) }
 {
     first_frame(alloc, text, symbols)
@@ -299,7 +299,7 @@ pub fn read_pair(
     ensures same_count { IfOk result (λ frames. length frames.second ≡ length frames.first) }
 
     // The same as an equation, if there was memory.
-    ensures exact { Gives (λ frames. frames.first ∷ frames.second ∷ []) result
+    ensures exact { ReadsAs (λ frames. frames.first ∷ frames.second ∷ []) result
         (reading (option_copied symbols.entry) pair (lines_of text.now)) }
 {
     first_two_frames(alloc, text, symbols)

@@ -14,11 +14,11 @@ pub struct Lines<'a> {
 }
 
 impl<'a> Lines<'a> {
-    ghost use Rattle.lj_xyz.specs.Reading.{start};
+    ghost use Rattle.lj_xyz.specs.Reading.{unread_lines};
     ghost use Rattle.lj_xyz.specs.Cursor.{left_of};
 
     pub fn new(text: &'a [u8]) -> Lines<'a>
-        ensures { left_of result ≡ start (lines_of text.now) }
+        ensures { left_of result ≡ unread_lines (lines_of text.now) }
     {
         Lines {
             rest: text,

@@ -2,7 +2,7 @@
 ghost use Rattle.std.specs.Prelude.{◌≡◌, ℕ, List, Option, Result};
 ghost use Rattle.lj_xyz.specs.declared.xyz_fault.XyzFault.{XyzFault};
 ghost use Rattle.lj_xyz.specs.declared.atom_row.AtomRow.{AtomRow};
-ghost use Rattle.lj_xyz.specs.Frames.{Mode, IsReading};
+ghost use Rattle.lj_xyz.specs.Bodies.{Mode, IsReading};
 ghost use Rattle.lj_xyz.specs.Reading.{reading};
 ghost use Rattle.lj_xyz.specs.Symbols.{SymbolPair};
 

@@ -1,7 +1,7 @@
 //! The text of a frame, line by line.
 ghost use Rattle.std.specs.Prelude.{◌≡◌, ◌+◌, ◌≤◌, ◌++◌};
 ghost use Rattle.arrayvec.specs.ArrayVec.{array_vec_len};
-ghost use Rattle.lj_xyz.specs.Texts.{count_text, comment_text, atom_text};
+ghost use Rattle.lj_xyz.specs.FrameTexts.{count_text, comment_text, atom_text};
 
 use crate::coordinate::{MAX_COORDINATE_BYTES, push_coordinate, push_text};
 use crate::symbol::{MAX_SYMBOL_BYTES, Symbol};

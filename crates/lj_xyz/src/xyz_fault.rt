@@ -2,7 +2,7 @@
 ghost use Rattle.std.specs.Prelude.{◌≡◌};
 ghost use Rattle.lj_fixed.specs.declared.numbers.NumberFault.{NumberFault};
 ghost use Rattle.lj_xyz.specs.declared.xyz_fault.XyzError.TheVariants.{Fault, Memory};
-ghost use Rattle.lj_xyz.specs.Kinds.{kind_of};
+ghost use Rattle.lj_xyz.specs.Kinds.{number_fault_kind};
 
 use lj_fixed::NumberFault;
 use std::alloc::{AllocError, AllocFailed};
@@ -48,7 +48,7 @@ impl fmt::Display for XyzKind {
 }
 
 impl From<NumberFault> for XyzKind {
-    ghost from_gives = { λ fault kind. kind ≡ kind_of fault };
+    ghost from_gives = { λ fault kind. kind ≡ number_fault_kind fault };
 
     fn from(fault: NumberFault) -> XyzKind {
         match fault {

@@ -1,6 +1,6 @@
 //! Users, read from the lines of a file.
 ghost use Rattle.std.specs.Prelude.{◌≡◌, ◌↔◌, ◌≤◌, [], length, IsTrue, IfOk, IfSome, OnErr};
-ghost use Rattle.lj_program.specs.Named.{AreUsers};
+ghost use Rattle.lj_program.specs.NamedUsers.{AreUsers};
 
 use crate::input::text::{FromLines, LineFault, TextFault, first_line, read_lines, without_user};
 use crate::quota_limits::{MAX_QUOTA_ATOMS, MAX_QUOTA_BRANCHES, MAX_QUOTA_SESSIONS};
@@ -43,7 +43,7 @@ pub struct Users {
 impl Model for Users {
     ghost use Rattle.std.specs.Prelude.{List};
     ghost use Rattle.lj_access.specs.declared.user.User as declared;
-    ghost use Rattle.lj_program.specs.Named as named;
+    ghost use Rattle.lj_program.specs.NamedUsers as named;
 
     ghost Value = { List declared.User };
 

@@ -1,6 +1,6 @@
 //! Schedules: users, and events of connections and of workers, each in a line.
 ghost use Rattle.std.specs.Prelude.{◌≤◌, ◌<◌, length, IfOk};
-ghost use Rattle.lj_program.specs.Named.{AreUsers};
+ghost use Rattle.lj_program.specs.NamedUsers.{AreUsers};
 
 use crate::input::{FromLines, LineFault, TextFault, Users, first_line, read_lines, without_user};
 use crate::replaying::event_lines::{parse_arrival, parse_event, parse_loss};

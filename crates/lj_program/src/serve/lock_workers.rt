@@ -69,16 +69,11 @@ impl<L: Ledger> LockWorkers<L> {
 }
 
 impl<'s, L: Ledger + 's, R: Wait + 's> PoolEnds<'s, R> for LockWorkers<L> {
-    type PoolEnd = LockEnd<'s, L, R>;
+    type OpenedEnd = LockEnd<'s, L, R>;
 
     fn open_end(&'s self, rt: &'s R, user: u8) -> UserEnd<LockEnd<'s, L, R>> {
-        let pool = self.pool.end(rt);
+        let pool = self.pool.end_of(rt, user);
         UserEnd { pool, user }
-    }
-
-    fn finish_end(&'s self, rt: &'s R, end: UserEnd<LockEnd<'s, L, R>>) {
-        self.pool.withdraw(rt, end.user);
-        end.pool.finish();
     }
 
     fn close_pool(&self, rt: &R) {

@@ -8,8 +8,8 @@ use crate::serve::worker_pool::WorkerPool;
 use lj_base::OutOfMemory;
 use lj_end::Share;
 use lj_queue::{
-    CONNECTIONS, PoolIdentity, PoolPass, QueueBlank, QueueEnd, QueuePool, Settled, gather,
-    work_queue,
+    CONNECTIONS, FreePasses, PoolIdentity, PoolPass, QueueBlank, QueueEnd, QueuePool, Settled,
+    gather, work_queue,
 };
 use lj_table::Table;
 use lj_visit::{UserEnd, Visited, visit};
@@ -17,22 +17,16 @@ use lj_wire::{LineReader, Sink, Source};
 use log::{Log, info};
 use std::alloc::{AllocError, Global};
 use std::rt::Clock;
-use std::sync::{Condvar, Mutex, Wait};
+use std::sync::{Mutex, Wait};
 
-/// A pool with a queue, whose passes are with the open connections and the workers, or free.
+/// A pool with a queue, whose passes are with the open connections and the workers, or free. There are as many for connections as
+/// may be open.
 #[derive(Drop)]
 pub struct QueueWorkers<L: PoolIdentity> {
     pool: QueuePool<L>,
-    free: Mutex<Free<L>>,
-    /// Signalled when a pass is given back. Connections wait on it.
-    pass_returned: Condvar,
-}
-
-/// The free passes, and memory for the workers' shares.
-#[derive(Drop)]
-struct Free<L: PoolIdentity> {
-    passes: Vec<PoolPass<L>>,
-    shares: Vec<Share<L>>,
+    free: FreePasses<L>,
+    /// Memory for the workers' shares, each of which is with its worker.
+    shares: Mutex<Vec<Share<L>>>,
 }
 
 impl<L: PoolIdentity> QueueWorkers<L> {
@@ -61,28 +55,10 @@ impl<L: PoolIdentity> QueueWorkers<L> {
         }
         let made = QueueWorkers {
             pool,
-            free: Mutex::new(Free { passes, shares }),
-            pass_returned: Condvar::new(),
+            free: FreePasses::new(passes),
+            shares: Mutex::new(shares),
         };
         Ok((made, states))
-    }
-
-    /// Takes a pass for a connection, and waits until one is free. There are as many as connections may be open.
-    fn take_pass<R: Wait>(&self, rt: &R) -> PoolPass<L> {
-        let mut free = self.free.lock(rt);
-        for _ in rt.forever() {
-            if let Some(pass) = free.passes.pop() {
-                return pass;
-            }
-            free = self.pass_returned.wait(rt, free);
-        }
-        unreachable!()
-    }
-
-    /// Takes back a pass. There is room for it: it was here before.
-    fn return_pass<R: Wait>(&self, rt: &R, pass: PoolPass<L>) {
-        let _ = self.free.lock(rt).passes.push(pass);
-        self.pass_returned.notify_one();
     }
 
     /// Returns the number of results given to the pool: the sum of the shares of all its workers. Logs the counts of the tasks.
@@ -99,12 +75,8 @@ impl<L: PoolIdentity> QueueWorkers<L> {
         requires passes { workers + CONNECTIONS ≡ L.passes }
         ensures { IfOk result (λ total. total ≡ sum_by (λ state. state.0) states.items) }
     {
-        let QueueWorkers { pool, free, .. } = self;
-        let Free {
-            mut passes,
-            mut shares,
-        } = free.into_inner();
-        // No share is here: each is with a worker.
+        let QueueWorkers { pool, free, shares } = self;
+        let (mut passes, mut shares) = (free.into_passes(), shares.into_inner());
         shares.clear();
         let mut states = states;
         while let Some((share, pass)) = states.pop() {
@@ -126,16 +98,11 @@ impl<L: PoolIdentity> QueueWorkers<L> {
 }
 
 impl<'s, L: PoolIdentity + 's, R: Wait + 's> PoolEnds<'s, R> for QueueWorkers<L> {
-    type PoolEnd = QueueEnd<'s, L, R>;
+    type OpenedEnd = QueueEnd<'s, L, R>;
 
     fn open_end(&'s self, rt: &'s R, user: u8) -> UserEnd<QueueEnd<'s, L, R>> {
-        let pool = self.pool.end(rt, self.take_pass(rt), user);
+        let pool = self.pool.end_of(rt, &self.free, user);
         UserEnd { pool, user }
-    }
-
-    fn finish_end(&'s self, rt: &'s R, end: UserEnd<QueueEnd<'s, L, R>>) {
-        self.pool.withdraw(rt, end.user);
-        self.return_pass(rt, end.pool.finish());
     }
 
     fn close_pool(&self, rt: &R) {

@@ -1,6 +1,6 @@
 //! A server: threads of workers, and one thread for each connection.
 ghost use Rattle.std.specs.Prelude.{◌≡◌, ◌+◌, ◌≤◌, length};
-ghost use Rattle.lj_program.specs.Named.{AreUsers};
+ghost use Rattle.lj_program.specs.NamedUsers.{AreUsers};
 
 use crate::serve::connection_limit::MAX_OPEN_CONNECTIONS;
 use crate::serve::lock_workers::LockWorkers;

@@ -5,27 +5,24 @@ ghost use Rattle.lj_visit.specs.Events.{Happens};
 ghost use Rattle.lj_visit.specs.Events.Event.{withdrawn};
 
 use crate::serve::visitor::Visitor;
-use lj_access::{Denied, Ticket};
+use lj_access::Denied;
 use lj_base::{Name, Token};
-use lj_end::Pool;
-use lj_visit::{Backend, LentState, Shut, UserEnd};
+use lj_end::PoolEnd;
+use lj_visit::{Backend, LentState, LentTicket, Shut, UserEnd};
 use log::Log;
 use std::rt::Clock;
 use std::sync::Wait;
 
 /// The ends of a pool for the connections of a server, whose threads have this runtime.
 pub trait PoolEnds<'s, R> {
-    /// An end of the pool.
-    type PoolEnd: Pool;
+    /// An end of the pool. Where it is dropped, what the pool has of its user leaves the pool.
+    type OpenedEnd: PoolEnd + Drop;
 
     /// Makes an end for the user of this number. Nothing is owed to it.
-    fn open_end(&'s self, rt: &'s R, user: u8) -> UserEnd<Self::PoolEnd>
+    fn open_end(&'s self, rt: &'s R, user: u8) -> UserEnd<Self::OpenedEnd>
         ensures user { result.user ≡ user }
-        ensures seen { Self.PoolEnd.seen result.pool ≡ nothing_seen }
-        ensures own { Self.PoolEnd.for_others result.pool user ≡ 0 };
-
-    /// Takes an end back, and drops what the pool has of its user.
-    fn finish_end(&'s self, rt: &'s R, end: UserEnd<Self::PoolEnd>);
+        ensures seen { Self.OpenedEnd.seen result.pool ≡ nothing_seen }
+        ensures own { Self.OpenedEnd.for_others result.pool user ≡ 0 };
 
     /// Closes the pool: from now on no task is computed.
     fn close_pool(&self, rt: &R);
@@ -39,28 +36,28 @@ pub struct ServerBackend<'v, 's, P, R> {
 }
 
 impl<'s, P: PoolEnds<'s, R>, R: Wait + Clock + Log> Backend for ServerBackend<'_, 's, P, R> {
-    type End = P::PoolEnd;
+    type End = P::OpenedEnd;
 
     ghost events = { λ _. None };
 
-    fn hello(&mut self, name: &Name, token: &Token) -> Result<Ticket, Denied> {
+    fn hello(&mut self, name: &Name, token: &Token) -> Result<LentTicket, Denied> {
         self.visitor.hello(name, token)
     }
 
-    fn enter(&mut self, ticket: Ticket, held: bool) -> Result<LentState, Shut> {
+    fn enter(&mut self, ticket: LentTicket, held: bool) -> Result<LentState, Shut> {
         self.visitor.enter(ticket, held)
     }
 
-    fn open(&mut self, user: u8) -> UserEnd<P::PoolEnd> {
+    fn open(&mut self, user: u8) -> UserEnd<P::OpenedEnd> {
         self.visitor.note_entry();
         self.pool.open_end(self.visitor.rt, user)
     }
 
-    fn finish(&mut self, end: UserEnd<P::PoolEnd>)
-        ensures { Happens None None (withdrawn end.user (P.PoolEnd.seen end.pool)
-            (P.PoolEnd.for_others end.pool end.user) ∷ []) }
+    fn finish(&mut self, end: UserEnd<P::OpenedEnd>)
+        ensures { Happens None None (withdrawn end.user (P.OpenedEnd.seen end.pool)
+            (P.OpenedEnd.for_others end.pool end.user) ∷ []) }
     {
-        self.pool.finish_end(self.visitor.rt, end);
+        drop(end);
     }
 
     fn leave(&mut self, lent: LentState) {

@@ -1,14 +1,14 @@
 //! The directory of a server, where tickets wait for the states of their users.
-ghost use Rattle.std.specs.Prelude.{◌≡◌, [], ◌∷◌, ◌++◌, List, IfErr, OnErr, OnOk};
+ghost use Rattle.std.specs.Prelude.{◌≡◌, ◌↔◌, [], ◌∷◌, ◌++◌, List, true, IfErr, OnErr, OnOk};
 ghost use Rattle.std.specs.List.{All};
 ghost use Rattle.std.specs.List.Sorted.{IsPermutation};
-ghost use Rattle.lj_access.specs.Passing.{IsNext, PassesOver, tickets_passed};
-ghost use Rattle.lj_access.specs.Rows.{UserRow};
-ghost use Rattle.lj_program.specs.Entries.{ComesHome, IsReached};
+ghost use Rattle.lj_access.specs.Passing.{IsNextTicket, PassesOver, tickets_passed};
+ghost use Rattle.lj_access.specs.UserRows.{UserRow};
+ghost use Rattle.lj_program.specs.Admissions.{ComesHome, HasMoved, IsClosing, IsOutcome};
 
 use crate::serve::clock::{end_of, left_until};
-use lj_access::{Denied, Directory, GivenUp, Ticket};
-use lj_session::UserState;
+use lj_access::{Denied, Directory, GivenUp};
+use lj_visit::{Lender, LentState, LentTicket, SeenClosed};
 use std::alloc::Global;
 use std::rt::Clock;
 use std::sync::{Condvar, CondvarTimeouts, Mutex, Wait};
@@ -31,45 +31,83 @@ pub struct SharedDirectory {
 }
 
 /// What has become of a ticket that waited for a while.
-#[derive(Drop)]
 pub enum EntryOutcome {
     /// It has entered, and has the state of its user.
-    Entered(UserState),
-    /// No ticket enters any more.
-    Closed,
+    Entered(LentState),
+    /// No ticket enters any more. The ticket is lost.
+    Closed(SeenClosed),
     /// It still waits.
-    Waits,
+    Waits(LentTicket),
+}
+
+impl Lender for DirectoryState {
+    ghost closed = { λ state. state.closed };
+
+    fn is_closed(&self) -> bool {
+        self.closed
+    }
 }
 
 impl DirectoryState {
+    // Lets a ticket enter, if its turn has come and the directory is not closed.
+    fn enter(&mut self, ticket: LentTicket) -> EntryOutcome
+        ensures outcome { IsOutcome ticket.ticket result }
+        ensures closed { IsClosing result ↔ (self.old.closed ≡ true) }
+        ensures stays { self.new.closed ≡ self.old.closed }
+        ensures unlost { self.new.given_up ≡ self.old.given_up }
+        ensures entered { HasMoved ticket.ticket result self.old.directory self.new.directory }
+    {
+        if let Some(seen) = SeenClosed::look(self) {
+            seen.lose(ticket);
+            return EntryOutcome::Closed(seen);
+        }
+        match self.directory.try_enter(ticket.ticket()) {
+            Some(state) => EntryOutcome::Entered(LentState::new(ticket.take_back(self), state)),
+            None => EntryOutcome::Waits(ticket),
+        }
+    }
+
     // Keeps a ticket that was given up. It is passed over at once, if its turn has come.
-    fn give_up(&mut self, ticket: Ticket) -> Result<(), Ticket>
-        ensures back { IfErr result (λ back. back ≡ ticket) }
+    fn give_up(&mut self, ticket: LentTicket) -> Result<(), LentTicket>
+        ensures back { IfErr result (λ back. back.ticket ≡ ticket.ticket) }
+        ensures closed { self.new.closed ≡ self.old.closed }
         ensures unchanged { OnErr result (self.new.directory ≡ self.old.directory) }
         ensures unlost { OnErr result (self.new.given_up ≡ self.old.given_up) }
-        ensures kept { OnOk result (IsPermutation (self.old.given_up ++ ticket ∷ [])
-            (self.new.given_up ++ tickets_passed ticket.user self.old.directory self.new.directory)) }
-        ensures passed { OnOk result (PassesOver ticket.user self.old.directory self.new.directory) }
+        ensures kept { OnOk result (IsPermutation (self.old.given_up ++ ticket.ticket ∷ [])
+            (self.new.given_up ++ tickets_passed ticket.ticket.user self.old.directory self.new.directory)) }
+        ensures passed { OnOk result (PassesOver ticket.ticket.user self.old.directory self.new.directory) }
         ensures waiting { OnOk result
-            (All (λ other. ¬ IsNext self.new.directory ticket.user other) self.new.given_up) }
+            (All (λ other. ¬ IsNextTicket self.new.directory ticket.ticket.user other) self.new.given_up) }
     {
-        let user = ticket.user();
-        self.given_up.keep(ticket)?;
+        let user = ticket.ticket().user();
+        let ticket = ticket.take_back(self);
+        self.given_up.keep(ticket).map_err(LentTicket::new)?;
         self.given_up.pass(&mut self.directory, user);
         Ok(())
     }
 
     // Takes a state home, and passes over the next tickets of its user that were given up.
-    fn leave(&mut self, ticket: Ticket, state: UserState)
-        ensures passed { (home : List UserRow) × ComesHome ticket state self.old.directory home
-            × PassesOver ticket.user home self.new.directory
+    fn leave(&mut self, lent: LentState)
+        ensures closed { self.new.closed ≡ self.old.closed }
+        ensures passed { (home : List UserRow) × ComesHome lent.ticket lent.state self.old.directory home
+            × PassesOver lent.ticket.user home self.new.directory
             × IsPermutation self.old.given_up
-            (self.new.given_up ++ tickets_passed ticket.user home self.new.directory) }
-        ensures waiting { All (λ other. ¬ IsNext self.new.directory ticket.user other) self.new.given_up }
+            (self.new.given_up ++ tickets_passed lent.ticket.user home self.new.directory) }
+        ensures waiting { All (λ other. ¬ IsNextTicket self.new.directory lent.ticket.user other) self.new.given_up }
     {
+        let (ticket, state) = lent.take_back(self);
         let user = ticket.user();
         let _entered = self.directory.leave(ticket, state);
         self.given_up.pass(&mut self.directory, user);
+    }
+
+    // From now on no ticket enters.
+    fn close(&mut self)
+        ensures closed { self.new.closed ≡ true }
+        ensures unchanged { self.new.directory ≡ self.old.directory }
+        ensures unlost { self.new.given_up ≡ self.old.given_up }
+    {
+        self.closed = true;
     }
 }
 
@@ -90,26 +128,31 @@ impl SharedDirectory {
     ///
     /// # Errors
     /// No user has both, or all tickets of this user are granted.
-    pub fn hello<R: Wait>(&self, rt: &R, name: &[u8], token: &[u8]) -> Result<Ticket, Denied> {
-        self.state.lock(rt).directory.hello(name, token)
+    pub fn hello<R: Wait>(&self, rt: &R, name: &[u8], token: &[u8]) -> Result<LentTicket, Denied> {
+        let granted = self.state.lock(rt).directory.hello(name, token)?;
+        Ok(LentTicket::new(granted))
     }
 
     /// Waits until the ticket may enter, for `patience` at most.
-    pub fn wait<R: Wait + Clock>(&self, rt: &R, ticket: &Ticket, patience: Duration) -> EntryOutcome
-        ensures { IsReached result }
+    pub fn wait<R: Wait + Clock>(
+        &self,
+        rt: &R,
+        ticket: LentTicket,
+        patience: Duration,
+    ) -> EntryOutcome
+        ensures { IsOutcome ticket.ticket result }
     {
         let end = end_of(rt, patience);
+        let mut ticket = ticket;
         let mut locked = self.state.lock(rt);
         for _ in rt.forever() {
-            if locked.closed {
-                return EntryOutcome::Closed;
-            }
-            if let Some(state) = locked.directory.try_enter(ticket) {
-                return EntryOutcome::Entered(state);
+            match locked.enter(ticket) {
+                EntryOutcome::Waits(waiting) => ticket = waiting,
+                outcome => return outcome,
             }
             let left = left_until(rt, end);
             if left.is_zero() {
-                return EntryOutcome::Waits;
+                return EntryOutcome::Waits(ticket);
             }
             locked = self.state_returned.wait_timeout(rt, locked, left).0;
         }
@@ -120,8 +163,8 @@ impl SharedDirectory {
     ///
     /// # Errors
     /// Out of memory to keep the ticket, which is handed back.
-    pub fn give_up<R: Wait>(&self, rt: &R, ticket: Ticket) -> Result<(), Ticket>
-        ensures { IfErr result (λ back. back ≡ ticket) }
+    pub fn give_up<R: Wait>(&self, rt: &R, ticket: LentTicket) -> Result<(), LentTicket>
+        ensures { IfErr result (λ back. back.ticket ≡ ticket.ticket) }
     {
         self.state.lock(rt).give_up(ticket)?;
         self.state_returned.notify_all();
@@ -129,14 +172,14 @@ impl SharedDirectory {
     }
 
     /// Takes a state home from the ticket that it was lent to, so that the user's next ticket may enter.
-    pub fn leave<R: Wait>(&self, rt: &R, ticket: Ticket, state: UserState) {
-        self.state.lock(rt).leave(ticket, state);
+    pub fn leave<R: Wait>(&self, rt: &R, lent: LentState) {
+        self.state.lock(rt).leave(lent);
         self.state_returned.notify_all();
     }
 
     /// Closes the directory: from now on no ticket enters.
     pub fn close<R: Wait>(&self, rt: &R) {
-        self.state.lock(rt).closed = true;
+        self.state.lock(rt).close();
         self.state_returned.notify_all();
     }
 }

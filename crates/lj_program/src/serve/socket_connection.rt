@@ -1,4 +1,7 @@
 //! A connection to a server, over its socket.
+ghost use Rattle.std.specs.Prelude.{◌≡◌, ◌⊎◌, false};
+ghost use Rattle.lj_wire.specs.Ends.{Rises};
+ghost use Rattle.lj_program.specs.Outcomes.{is_write_fault};
 
 use crate::serve::clock::{end_of, left_until};
 use crate::serve::connection_limit::ConnectionLimit;
@@ -75,9 +78,7 @@ impl<P: WorkerPool> Server<P> {
         let mut lines = LineReader::new(self.alloc, reader);
         let mut visitor = Visitor::new(rt, &self.directory, stream, &deadline, number);
         let visited = self.pool.visit(&mut visitor, &mut lines, writer);
-        if !is_write_fault(visited) {
-            let _ = writer.flush();
-        }
+        send_last(visited, writer);
         visitor.note_end(visited);
     }
 
@@ -88,8 +89,20 @@ impl<P: WorkerPool> Server<P> {
     }
 }
 
+/// Flushes the last replies of a visit, unless a write has failed.
+fn send_last<W: Sink>(visited: Visited, writer: &mut W)
+    ensures { is_write_fault visited ≡ false
+        → (W.unflushed writer.new ≡ false) ⊎ Rises (W.faults writer.old) (W.faults writer.new) }
+{
+    if !is_write_fault(visited) {
+        let _ = writer.flush();
+    }
+}
+
 /// Returns whether a write has failed.
-fn is_write_fault(visited: Visited) -> bool {
+fn is_write_fault(visited: Visited) -> bool
+    ensures { result ≡ is_write_fault visited }
+{
     matches!(
         visited,
         Visited::NotWelcomed | Visited::Attended(Served::WriteFault)

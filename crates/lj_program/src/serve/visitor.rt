@@ -4,9 +4,9 @@ ghost use Rattle.lj_session.specs.UserState.{Reached};
 
 use crate::serve::first_line::Deadline;
 use crate::serve::shared_directory::{EntryOutcome, SharedDirectory};
-use lj_access::{Denied, Ticket};
+use lj_access::Denied;
 use lj_base::{Name, Token};
-use lj_visit::{LentState, Shut, Visited};
+use lj_visit::{LentState, LentTicket, Shut, Visited};
 use log::{Log, info};
 use std::io::ErrorKind;
 use std::net::TcpStream;
@@ -51,7 +51,7 @@ impl<'s, R: Wait + Clock + Log> Visitor<'s, R> {
     }
 
     /// Lifts the deadline of the first line, and asks for a ticket of the user with this name and this token.
-    pub fn hello(&mut self, name: &Name, token: &Token) -> Result<Ticket, Denied> {
+    pub fn hello(&mut self, name: &Name, token: &Token) -> Result<LentTicket, Denied> {
         self.deadline.lift(self.stream);
         let asked = self
             .directory
@@ -61,19 +61,19 @@ impl<'s, R: Wait + Clock + Log> Visitor<'s, R> {
     }
 
     /// Waits until the ticket enters. Each second it checks that the client is still there, unless bytes of it are held.
-    pub fn enter(&mut self, ticket: Ticket, held: bool) -> Result<LentState, Shut>
-        ensures ticket { IfOk result (λ lent. lent.ticket ≡ ticket) }
+    pub fn enter(&mut self, ticket: LentTicket, held: bool) -> Result<LentState, Shut>
+        ensures ticket { IfOk result (λ lent. lent.ticket ≡ ticket.ticket) }
         ensures reached { IfOk result (λ lent. Reached lent.state) }
     {
         let mut ticket = ticket;
         for _ in self.rt.forever() {
             match self
                 .directory
-                .wait(self.rt, &ticket, Duration::from_secs(LOOK_SECONDS))
+                .wait(self.rt, ticket, Duration::from_secs(LOOK_SECONDS))
             {
-                EntryOutcome::Entered(state) => return Ok(LentState { ticket, state }),
-                EntryOutcome::Closed => return Err(Shut::Closed),
-                EntryOutcome::Waits => {}
+                EntryOutcome::Entered(lent) => return Ok(lent),
+                EntryOutcome::Closed(seen) => return Err(Shut::Closed(seen)),
+                EntryOutcome::Waits(waiting) => ticket = waiting,
             }
             if held || is_there(self.stream) {
                 continue;
@@ -88,7 +88,7 @@ impl<'s, R: Wait + Clock + Log> Visitor<'s, R> {
 
     /// Takes a state home.
     pub fn leave(&self, lent: LentState) {
-        self.directory.leave(self.rt, lent.ticket, lent.state);
+        self.directory.leave(self.rt, lent);
     }
 
     /// Logs that the user was let in.
@@ -102,7 +102,7 @@ impl<'s, R: Wait + Clock + Log> Visitor<'s, R> {
         match visited {
             Visited::NoLine => info!(self.rt; "connection {number}: ended before a line"),
             Visited::Denied => info!(self.rt; "connection {number}: denied"),
-            Visited::ShutOut(Shut::Closed) => self.note("waited, and the server was closed"),
+            Visited::ShutOut(Shut::Closed(_)) => self.note("waited, and the server was closed"),
             Visited::ShutOut(Shut::Gone) => self.note("was gone while it waited"),
             Visited::NotWelcomed => self.note("was gone before it was let in"),
             Visited::Attended(served) => {

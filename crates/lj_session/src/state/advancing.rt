@@ -2,12 +2,12 @@
 ghost use Rattle.std.specs.Prelude.{◌≡◌, ◌<◌, Bool, false, true, Ok, IsSome, OnErr, position};
 ghost use Rattle.std.specs.Option.{ForSome, option_copied};
 ghost use Rattle.std.specs.Str.{bytes_eq};
-ghost use Rattle.lj_tile.specs.declared.task_name.Kind.TheVariants.{Energy};
+ghost use Rattle.lj_task.specs.declared.task_name.Kind.TheVariants.{Energy};
 ghost use Rattle.lj_session.specs.declared.command.Command.TheVariants as commands;
 ghost use Rattle.lj_session.specs.Answers.{answer};
 ghost use Rattle.lj_session.specs.Turns as definition;
 ghost use Rattle.lj_session.specs.UserState as states;
-ghost use Rattle.lj_session.specs.UserState.{IsWhole, MayAdvance, Performs, Reads, with_session_changed, live_session, names};
+ghost use Rattle.lj_session.specs.UserState.{HasWholeStep, MayAdvance, Performs, Reads, with_session_changed, live_session, loaded_names};
 ghost use Rattle.lj_session.specs.UserState.{pending_in};
 ghost use Rattle.lj_session.specs.UserState.{with_more_pending, turns_before, user_of};
 
@@ -131,7 +131,7 @@ impl UserState {
         index: Option<usize>,
         steps: u64,
     ) -> Result<Reply, Refusal>
-        requires index { index ≡ position (bytes_eq name) (names self.now) }
+        requires index { index ≡ position (bytes_eq name) (loaded_names self.now) }
         requires turns { definition.turns (user_of self.now) (commands.Advance name steps) ≡ 0 }
         ensures { Reads self.now (commands.Advance name steps) result }
     {
@@ -157,7 +157,7 @@ impl UserState {
     pub(crate) fn measured(&self, name: Name) -> Reply
         requires session { IsSome (live_session self.now name) }
         requires settled { pending_in self.now name ≡ 0 }
-        requires whole { ForSome (live_session self.now name) (IsWhole Energy) }
+        requires whole { ForSome (live_session self.now name) (HasWholeStep Energy) }
         ensures { Reads self.now (commands.Measure name) (Ok result) }
     {
         let sim = self.session(&name).sim();

@@ -2,7 +2,7 @@
 ghost use Rattle.std.specs.Prelude.{◌≡◌, Bool, position};
 ghost use Rattle.std.specs.Str.{bytes_eq};
 ghost use Rattle.lj_session.specs.declared.command.Command.TheVariants as commands;
-ghost use Rattle.lj_session.specs.UserState.{Reads, names, pending_in};
+ghost use Rattle.lj_session.specs.UserState.{Reads, loaded_names, pending_in};
 
 use crate::refusal::Refusal;
 use crate::reply::Reply;
@@ -12,7 +12,7 @@ use lj_base::Name;
 impl UserState {
     /// Shows the place of an atom of a session. The index is that of the session.
     pub(crate) fn show(&self, name: Name, index: Option<usize>, atom: u64) -> Result<Reply, Refusal>
-        requires index { index ≡ position (bytes_eq name) (names self.now) }
+        requires index { index ≡ position (bytes_eq name) (loaded_names self.now) }
         requires pending { pending_in self.now name ≡ 0 }
         ensures { Reads self.now (commands.Show name atom) result }
     {
@@ -33,7 +33,7 @@ impl UserState {
 
     /// Writes out the frame of a session. The index is that of the session.
     pub(crate) fn dump(&self, name: Name, index: Option<usize>) -> Result<Reply, Refusal>
-        requires { index ≡ position (bytes_eq name) (names self.now) }
+        requires { index ≡ position (bytes_eq name) (loaded_names self.now) }
         ensures { Reads self.now (commands.Dump name) result }
     {
         let Some(_session) = self.found(&name, index) else {

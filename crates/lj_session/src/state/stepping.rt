@@ -4,17 +4,17 @@ ghost use Rattle.std.specs.Prelude.{OnErr, IfSome, IfNone, length, slice_get};
 ghost use Rattle.std.specs.List.{IsDistinct, find};
 ghost use Rattle.std.specs.Option.{ForSome, option_copied, option_map};
 ghost use Rattle.std.specs.Str.{bytes_eq};
-ghost use Rattle.lj_tile.specs.declared.task_name.Kind.TheVariants.{Force};
+ghost use Rattle.lj_task.specs.declared.task_name.Kind.TheVariants.{Force};
 ghost use Rattle.lj_step.specs.OpenSteps.{tile_number_of};
-ghost use Rattle.lj_session.specs.UserState.{IsWhole, IsAwaited, user_of, live_session, names, pending_in, with_session_changed};
-ghost use Rattle.lj_session.specs.UserState.{LiveSession, IsNextTile, first_with_task, live_session_at, with_step, with_posted};
+ghost use Rattle.lj_session.specs.UserState.{HasWholeStep, IsAwaited, user_of, live_session, loaded_names, pending_in, with_session_changed};
+ghost use Rattle.lj_session.specs.UserState.{LiveSession, IsNextTile, first_with_task, live_session_at, with_passed, with_step, with_posted};
 ghost use Rattle.lj_session.specs.UserState.{with_tile_in, with_no_step, with_step_finished, with_steps_restarted, is_whole_in};
 ghost use Rattle.lj_session.specs.UserState as states;
 
 use crate::state::UserState;
 use lj_base::{Label, Name};
 use lj_step::NotAwaited;
-use lj_tile::{DoneRef, Kind, TaskRef};
+use lj_task::{DoneRef, Kind, TaskRef};
 
 impl UserState {
     /// Opens a step of a kind in a session. No tile of it is posted or in.
@@ -44,7 +44,7 @@ impl UserState {
     pub(crate) fn restart_steps(&mut self)
         ensures rested { self.new ≡ with_steps_restarted self.old }
         ensures user { user_of self.new ≡ user_of self.old }
-        ensures distinct { IsDistinct bytes_eq (names self.new) }
+        ensures distinct { IsDistinct bytes_eq (loaded_names self.new) }
     {
         for i in 0..self.sessions.len() {
             self.sessions.get_index_mut(i).unwrap().restart_step();
@@ -65,58 +65,43 @@ impl UserState {
         None
     }
 
-    /// Returns the task of the next tile, the k-th of the i-th session, by reference.
-    pub(crate) fn task_ref<'a>(
-        &'a self,
-        i: usize,
-        k: usize,
-        label: &'a Label,
-    ) -> Option<TaskRef<'a>>
-        requires next { IsNextTile self.now i k }
-        requires label { slice_get (names self.now) i ≡ Some label.now.session }
-        ensures { result ≡ states.next_task self.now label.now }
-    {
-        self.at(i).task_ref(k, label)
-    }
-
     /// Returns how many tiles of the i-th session were posted, or skipped because they were in.
     pub(crate) fn passed_at(&self, i: usize) -> usize
         requires { i < length self.now.sessions }
-        ensures { option_map (λ held. held.passed) (live_session_at self.now i) ≡ Some result }
+        ensures { option_map (λ session. session.passed) (live_session_at self.now i) ≡ Some result }
     {
         self.at(i).passed()
     }
 
-    /// Returns the task of the first awaited tile of the i-th session, from a position of its cover on, by reference, and
-    /// the position after it.
-    pub(crate) fn task_from<'a>(
+    /// Returns the task of the next tile of the i-th session past the first `from`, by reference, and the position after
+    /// it. There is none if there is no such session.
+    pub(crate) fn task_past<'a>(
         &'a self,
         i: usize,
         from: usize,
         label: &'a Label,
     ) -> Option<(TaskRef<'a>, usize)>
-        requires { i < length self.now.sessions }
-        ensures task { IfSome result (λ found. (held : LiveSession) → live_session_at self.now i ≡ Some held
-            → states.next_of label.now (Some (record held { passed = from })) ≡ Some found.0) }
-        ensures passes { IfSome result (λ found. (held : LiveSession) → live_session_at self.now i ≡ Some held
-            → with_posted (record held { passed = from }) ≡ record held { passed = found.1 }) }
-        ensures none { IfNone result ((held : LiveSession) → live_session_at self.now i ≡ Some held
-            → states.next_of label.now (Some (record held { passed = from })) ≡ None) }
+        ensures task { IfSome result (λ found. (session : LiveSession) → live_session_at self.now i ≡ Some session
+            → states.next_of label.now (Some (record session { passed = from })) ≡ Some found.0) }
+        ensures passes { IfSome result (λ found. (session : LiveSession) → live_session_at self.now i ≡ Some session
+            → with_posted (record session { passed = from }) ≡ record session { passed = found.1 }) }
+        ensures none { IfNone result ((session : LiveSession) → live_session_at self.now i ≡ Some session
+            → states.next_of label.now (Some (record session { passed = from })) ≡ None) }
     {
-        self.at(i).task_from(from, label)
+        let (_, session) = self.sessions.get_index(i)?;
+        session.task_past(from, label)
     }
 
-    /// Notes the next tile, the k-th of the i-th session, as posted.
-    pub(crate) fn post(&mut self, i: usize, k: usize)
-        requires { IsNextTile self.old i k }
-        ensures posted { (name : List ℕ) → slice_get (names self.old) i ≡ Some name
-            → self.new ≡ with_session_changed name with_posted self.old }
+    /// Notes the tiles of the i-th session before a position of its cover as posted.
+    pub(crate) fn post_to(&mut self, i: usize, to: usize)
+        ensures posted { (name : List ℕ) → slice_get (loaded_names self.old) i ≡ Some name
+            → self.new ≡ with_session_changed name (with_passed to) self.old }
         ensures user { user_of self.new ≡ user_of self.old }
     {
         let Some(session) = self.sessions.get_index_mut(i) else {
             return;
         };
-        session.post(k);
+        session.post_to(to);
     }
 
     /// Accepts the result of a tile that a session's open step awaits. Any other changes nothing.
@@ -154,8 +139,8 @@ impl UserState {
     /// Returns whether a step is open in the i-th session and all its tiles are in.
     fn is_whole_at(&self, i: usize) -> bool
         requires within { i < length self.now.sessions }
-        requires distinct { IsDistinct bytes_eq (names self.now) }
-        ensures { (name : List ℕ) → slice_get (names self.now) i ≡ Some name
+        requires distinct { IsDistinct bytes_eq (loaded_names self.now) }
+        ensures { (name : List ℕ) → slice_get (loaded_names self.now) i ≡ Some name
             → result ≡ is_whole_in self.now name }
     {
         self.at(i).sim().is_whole()
@@ -163,7 +148,7 @@ impl UserState {
 
     /// Returns the first session, in order of loading, that has an open step whose tiles are all in.
     pub(crate) fn first_whole(&self) -> Option<&Name>
-        ensures { option_copied result ≡ find (is_whole_in self.now) (names self.now) }
+        ensures { option_copied result ≡ find (is_whole_in self.now) (loaded_names self.now) }
     {
         for i in 0..self.len() {
             let name = self.name_at(i);
@@ -179,7 +164,7 @@ impl UserState {
     pub(crate) fn finish_step(&mut self, name: &Name)
         requires session { IsSome (live_session self.old name.now) }
         requires pending { 0 < pending_in self.old name.now }
-        requires whole { ForSome (live_session self.old name.now) (IsWhole Force) }
+        requires whole { ForSome (live_session self.old name.now) (HasWholeStep Force) }
         ensures passed { self.new ≡ with_session_changed name.now with_step_finished self.old }
         ensures user { user_of self.new ≡ user_of self.old }
     {

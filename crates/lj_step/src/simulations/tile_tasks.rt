@@ -8,7 +8,7 @@ use crate::simulations::{NotAwaited, Sim, Stray};
 use crate::tile_id::TileId;
 use lj_base::Label;
 use lj_ring::Place;
-use lj_tile::{BLOCK, BlockRef, Done, DoneRef, Kind, Task, TaskNameRef, TaskRef};
+use lj_task::{BLOCK, BlockRef, Done, DoneRef, Kind, Task, TaskNameRef, TaskRef};
 
 impl Sim {
     /// Returns how many tiles the open step has; 0 if no step is open.
@@ -159,7 +159,7 @@ impl Sim {
     fn is_task_of(&self, task: &Task, label: &Label, kind: Kind, tile: TileId) -> bool
         requires tile { steps.is_tile self.now.composition self.now.sim.cur tile ≡ true }
         requires within { tile < BLOCK * steps.blocks (length self.now.sim.cur) }
-        ensures { IsTrue result ↔ (task.now ≡ steps.task_of self.now label.now kind tile) }
+        ensures { IsTrue result ↔ (task.now ≡ steps.tile_task self.now label.now kind tile) }
     {
         task.is_of(&self.tile_task(label, kind, tile))
     }
@@ -170,7 +170,7 @@ impl Sim {
     fn tile_task<'a>(&'a self, label: &'a Label, kind: Kind, tile: TileId) -> TaskRef<'a>
         requires tile { steps.is_tile self.now.composition self.now.sim.cur tile ≡ true }
         requires within { tile < BLOCK * steps.blocks (length self.now.sim.cur) }
-        ensures { result ≡ steps.task_of self.now label.now kind tile }
+        ensures { result ≡ steps.tile_task self.now label.now kind tile }
     {
         if !self.shared.is_written {
             return self.task_over(self.cur.as_slice(), label, kind, tile);
@@ -192,7 +192,7 @@ impl Sim {
         requires frame { places.now ≡ self.now.sim.cur }
         requires tile { steps.is_tile self.now.composition self.now.sim.cur tile ≡ true }
         requires within { tile < BLOCK * steps.blocks (length self.now.sim.cur) }
-        ensures { result ≡ steps.task_of self.now label.now kind tile }
+        ensures { result ≡ steps.tile_task self.now label.now kind tile }
     {
         let (first, second) = (tile.first(), tile.second());
         TaskRef::new(
@@ -209,7 +209,7 @@ impl Sim {
     /// Returns the name of the task of a tile of the present step.
     fn name_of<'a>(&self, label: &'a Label, kind: Kind, tile: TileId) -> TaskNameRef<'a>
         requires { tile < BLOCK * steps.blocks (length self.now.sim.cur) }
-        ensures { result ≡ (steps.task_of self.now label.now kind tile).name }
+        ensures { result ≡ (steps.tile_task self.now label.now kind tile).name }
     {
         let (first, second) = (tile.first() as u8, tile.second() as u8);
         TaskNameRef::new(label, self.step, kind, first, second)

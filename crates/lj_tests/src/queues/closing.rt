@@ -19,7 +19,7 @@ const OTHER: u8 = 9;
 
 /// Posts a task that nobody computes, and waits for its result. Returns whether none came, and the end is closed.
 fn wait_in_vain<P: Pool, R: Abort>(rt: &R, end: &mut P) -> bool {
-    if end.is_full() || end.post(task(rt, USER, 0), false).is_err() || end.owed() == 0 {
+    if end.room() == 0 || end.post(task(rt, USER, 0), false).is_err() || end.owed() == 0 {
         return false;
     }
     end.fetch(USER).is_none() && end.closed()

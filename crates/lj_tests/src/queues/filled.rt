@@ -22,7 +22,7 @@ fn give<P: Pool, R: Abort>(rt: &R, end: &mut P, tasks: i64) -> Given {
     post_some(rt, end, USER, tasks);
     Given {
         owed: end.owed(),
-        full: end.is_full(),
+        full: end.room() == 0,
     }
 }
 

@@ -67,7 +67,7 @@ fn fetch_all<P: Pool>(ends: &mut Vec<P>) -> u64 {
 fn post_some<P: Pool, R: Abort>(rt: &R, end: &mut P, user: u8) -> u64 {
     let mut posted = 0_u64;
     for _ in 0..MAX_OWED {
-        if !end.is_full() && end.post(task(rt, user, 0), false).is_ok() {
+        if end.room() > 0 && end.post(task(rt, user, 0), false).is_ok() {
             posted = posted.saturating_add(1);
         }
     }

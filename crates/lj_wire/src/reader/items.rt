@@ -1,7 +1,8 @@
 //! Items read whole.
-ghost use Rattle.std.specs.Prelude.{◌≡◌, Some, None, if◌then◌else◌, IfOk, OnErr};
+ghost use Rattle.std.specs.Prelude.{◌≡◌, Some, None, Ok, true, if◌then◌else◌, IfOk, OnErr};
+ghost use Rattle.lj_wire.specs.LineReader.{BeginsWithItem};
 ghost use Rattle.lj_wire.specs.Input.{CountsFault, ReadsFor};
-ghost use Rattle.lj_wire.specs.Steps.{may_take_body, Finishes, ReadsItem, TakesFewer, TakesNoItem};
+ghost use Rattle.lj_wire.specs.ItemSteps.{may_take_body, FinishesItem, ReadsItem, TakesFewer, TakesNoItem};
 
 use super::load_body::{pass, read_body};
 use super::source_input::{Front, Input, SkippedLine};
@@ -20,6 +21,7 @@ pub(crate) fn read_item<S: Source>(
     ensures item { IfOk result (λ whole. ReadsItem input.old (if whole then Some item.new else None) input.new) }
     ensures part { OnErr result (TakesNoItem input.old input.new) }
     ensures errors { CountsFault result input.old input.new }
+    ensures at_once { BeginsWithItem input.old.held → result ≡ Ok true }
 {
     match input.find_line()? {
         Front::Line(count) => {
@@ -52,7 +54,7 @@ fn finish<S: Source>(
     count: usize,
 ) -> Result<bool, ReadFault>
     ensures item { IfOk result (λ whole.
-        Finishes input.old item.old count (if whole then Some item.new else None) input.new) }
+        FinishesItem input.old item.old count (if whole then Some item.new else None) input.new) }
     ensures part { OnErr result (TakesFewer input.old input.new count) }
     ensures errors { CountsFault result input.old input.new }
     ensures reads_for { ReadsFor input.old input.new count }

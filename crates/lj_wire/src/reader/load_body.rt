@@ -1,7 +1,7 @@
 //! Reading bodies, and taking or skipping a number of bytes.
 ghost use Rattle.std.specs.Prelude.{◌≡◌, ◌<◌, length, take, drop, min, IfOk, OnErr};
 ghost use Rattle.lj_wire.specs.Input.{CountsFault, ReadsFor};
-ghost use Rattle.lj_wire.specs.Steps.{Fills, TakesFewer, PassesCount, ReadsBody};
+ghost use Rattle.lj_wire.specs.ItemSteps.{Fills, TakesFewer, PassesCount, ReadsBody};
 
 use super::source_input::Input;
 use crate::source_and_sink::{ReadFault, Source};

@@ -1,9 +1,10 @@
 //! The input of a reader, read line by line.
-ghost use Rattle.std.specs.Prelude.{◌≡◌, ◌≤◌, ◌<◌, [], length, take, drop, IfOk, OnOk, OnErr};
-ghost use Rattle.lj_wire.specs.Input.{CountsFault, bytes_untaken, Grows, Takes, HoldsNoFeed, TakesPart};
+ghost use Rattle.std.specs.Prelude.{◌≡◌, ℕ, ◌≤◌, ◌<◌, [], length, take, drop, Ok, IfOk, OnOk, OnErr};
+ghost use Rattle.lj_wire.specs.Input.{CountsFault, bytes_untaken, Grows, TakesBytes, HoldsLine, HoldsNoFeed, TakesPart};
+ghost use Rattle.lj_wire.specs.declared.reader.source_input.Front.TheVariants.{Line};
 ghost use Rattle.std.specs.Io.KnownBytes.{Keeps, IsAtEnd};
 ghost use Rattle.lj_wire.specs.Ends.{Rises};
-ghost use Rattle.lj_wire.specs.Steps.{Finds, Skips, SearchesFor};
+ghost use Rattle.lj_wire.specs.ItemSteps.{Finds, Skips, SearchesFor};
 
 use super::buffer::{Buffer, MAX_HELD_BYTES};
 use crate::line::split_line;
@@ -112,7 +113,7 @@ impl<S: Source> Input<S> {
         requires { self.old.held ≡ [] }
         ensures held { self.new.held ≡ [] }
         ensures bound { IfOk result (λ n. n ≤ length buf.new) }
-        ensures taken { IfOk result (λ n. Takes self.old self.new (take n buf.new)) }
+        ensures taken { IfOk result (λ n. TakesBytes self.old self.new (take n buf.new)) }
         ensures ended { IfOk result (λ n. n ≡ 0 → 0 < length buf.new → IsAtEnd (bytes_untaken self.new)) }
         ensures counted { OnOk result (self.new.errors ≡ self.old.errors) }
         ensures kept { OnErr result (Keeps (bytes_untaken self.old) (bytes_untaken self.new)) }
@@ -127,6 +128,7 @@ impl<S: Source> Input<S> {
     pub(crate) fn find_line(&mut self) -> Result<Front, ReadFault>
         ensures found { IfOk result (λ front. Finds self.old front self.new) }
         ensures searched { IfOk result (λ front. SearchesFor self.old front self.new) }
+        ensures at_once { (count : ℕ) → HoldsLine self.old count → (result ≡ Ok (Line count)) × (self.new ≡ self.old) }
         ensures part { OnErr result (TakesPart self.old self.new) }
         ensures errors { CountsFault result self.old self.new }
     {

@@ -1,6 +1,6 @@
 use Rattle.std.proofs.Common.{ap, ◌∙◌, sym}
 use Rattle.std.specs.Result.{IsOk}
-use Rattle.lj_access.specs.Rows.{with_home, with_row_changed}
+use Rattle.lj_access.specs.UserRows.{with_home, with_row_changed}
 use Rattle.lj_access.proofs.Passing.{entered_next, ok_holds, ok_is_no_error, passed_once}
 use Rattle.lj_access.proofs.given_up.pass_over.Goals.{After-leave}
 use Rattle.lj_access.proofs.given_up.pass_over.Goals as goal

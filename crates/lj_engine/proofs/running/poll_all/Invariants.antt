@@ -4,8 +4,8 @@ use Rattle.lj_engine.proofs.running.poll_all.Given as goal
 
 abbrev pub invariant-loop : goal.invariant-loop
 invariant-loop g l = record {
-  goes : GoesOn l.initial.owner (g.P.Pool.seen l.initial.pool) l.owner (g.P.Pool.seen l.pool);
+  goes : GoesOn l.initial.owner (g.P.PoolEnd.seen l.initial.pool) l.owner (g.P.PoolEnd.seen l.pool);
   fewer : l.some ≡ true → tiles_coming l.owner < tiles_coming l.initial.owner;
-  counted : g.P.Pool.uncounted l.initial.pool ≡ false → g.P.Pool.uncounted l.pool ≡ false;
-  own : g.P.Pool.for_others l.pool l.initial.owner.number ≡ g.P.Pool.for_others l.initial.pool l.initial.owner.number;
+  counted : g.P.PoolEnd.uncounted l.initial.pool ≡ false → g.P.PoolEnd.uncounted l.pool ≡ false;
+  own : g.P.PoolEnd.for_others l.pool l.initial.owner.number ≡ g.P.PoolEnd.for_others l.initial.pool l.initial.owner.number;
 }

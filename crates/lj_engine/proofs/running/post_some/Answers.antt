@@ -7,14 +7,14 @@ use Rattle.lj_engine.proofs.running.post_some.Goals as goal
 
 -- the tasks posted of the next ones
 posts : (g : Over) (c : After-note_posted g)
-    → PostsFront c.args.owner.now (g.P.Pool.seen c.args.pool.now) (length c.add_next.new.tasks)
-    c.post_some.result c.note_posted.new.owner (g.P.Pool.seen c.post_some.new.self)
+    → PostsFront c.args.owner.now (g.P.PoolEnd.seen c.args.pool.now) (length c.add_next.new.tasks)
+    c.post_some.result c.note_posted.new.owner (g.P.PoolEnd.seen c.post_some.new.self)
 posts g c =
-    subst (λ (o : Owner). PostsFront c.args.owner.now (g.P.Pool.seen c.args.pool.now) (length c.add_next.new.tasks)
-    c.post_some.result o (g.P.Pool.seen c.post_some.new.self)) (sym c.note_posted.ensures)
-    (posts_front c.args.owner.now (g.P.Pool.seen c.args.pool.now) c.requires.gathers c.add_next.new.tasks
+    subst (λ (o : Owner). PostsFront c.args.owner.now (g.P.PoolEnd.seen c.args.pool.now) (length c.add_next.new.tasks)
+    c.post_some.result o (g.P.PoolEnd.seen c.post_some.new.self)) (sym c.note_posted.ensures)
+    (posts_front c.args.owner.now (g.P.PoolEnd.seen c.args.pool.now) c.requires.gathers c.add_next.new.tasks
     c.add_next.ensures.next c.post_some.result c.post_some.ensures.most
-    (g.P.Pool.seen c.post_some.new.self) c.post_some.ensures.posted)
+    (g.P.PoolEnd.seen c.post_some.new.self) c.post_some.ensures.posted)
 
 pub returns-clause-goes_on : goal.returns-clause-goes_on
 returns-clause-goes_on g c = (posts g (goal.at.returns-clause-goes_on g c).After-note_posted).goes
@@ -29,5 +29,5 @@ returns-clause-fewer g c = λ all.
 pub returns-clause-own : goal.returns-clause-own
 returns-clause-own g c =
     c.post_some.ensures.own c.args.owner.now.number
-    (users_front c.args.owner.now (g.P.Pool.seen c.args.pool.now) c.requires.gathers c.add_next.new.tasks
+    (users_front c.args.owner.now (g.P.PoolEnd.seen c.args.pool.now) c.requires.gathers c.add_next.new.tasks
     c.add_next.ensures.next)

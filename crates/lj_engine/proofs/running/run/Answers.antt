@@ -7,7 +7,7 @@ use Rattle.lj_engine.proofs.running.run.Goals as goal
 
 pub returns-in-Some-turn_session-clause-answered : goal.returns-in-Some-turn_session-clause-answered
 returns-in-Some-turn_session-clause-answered g c =
-    ends c.args.owner.now (g.P.Pool.seen c.args.pool.now) c.loop-name.owner (g.P.Pool.seen c.loop-name.pool)
+    ends c.args.owner.now (g.P.PoolEnd.seen c.args.pool.now) c.loop-name.owner (g.P.PoolEnd.seen c.loop-name.pool)
     c.loop-name.invariant.among.goes c.in-Some.name c.in-Some.ensures.whole (c.in-Some-turn_session.ensures.last.0 refl)
     c.turn_session.new.self c.in-Some-turn_session.reply c.turn_session.ensures.kept.number c.in-Some-turn_session.ensures.answered.idle
     c.turn_session.ensures.kept.others c.in-Some-turn_session.ensures.answered.rests
@@ -16,9 +16,9 @@ returns-in-Some-turn_session-clause-answered g c =
 
 -- a turn that answers nothing
 turned : (g : Over) (c : In_default-turn_session g)
-    → TurnsOn c.loop-name.owner c.turn_session.new.self (g.P.Pool.seen c.loop-name.pool)
+    → TurnsOn c.loop-name.owner c.turn_session.new.self (g.P.PoolEnd.seen c.loop-name.pool)
 turned g c =
-    turns_on c.loop-name.owner c.turn_session.new.self (g.P.Pool.seen c.loop-name.pool)
+    turns_on c.loop-name.owner c.turn_session.new.self (g.P.PoolEnd.seen c.loop-name.pool)
     c.loop-name.invariant.among.goes.gathers c.in-Some.name c.in-Some.ensures.whole
     (λ e. let last : false ≡ true = c.in_default-turn_session.ensures.last.1 e in cc)
     c.in_default-turn_session.ensures.turned c.in_default-turn_session.ensures.alike
@@ -43,7 +43,7 @@ loop-name-preserved-in-Some g c =
     record {
       among = record {
         goes = goes;
-        in_a_row = strays_none (g.P.Pool.seen c.args.pool.now) (g.P.Pool.seen c.post_next.new.pool) goes.counted;
+        in_a_row = strays_none (g.P.PoolEnd.seen c.args.pool.now) (g.P.PoolEnd.seen c.post_next.new.pool) goes.counted;
         few = omega arith;
       };
       counted = λ none. c.post_next.ensures.counted (c.poll_next.ensures.counted (c.loop-name.invariant.counted none));

@@ -8,12 +8,12 @@ use Rattle.lj_engine.proofs.running.turn_whole.Goals as goal
 
 -- the session turned
 turned : (g : Over) (c : After-turn_session-none g)
-    → TurnsOn c.loop-name.owner c.turn_session-none.new.self (g.P.Pool.seen c.loop-name.pool)
+    → TurnsOn c.loop-name.owner c.turn_session-none.new.self (g.P.PoolEnd.seen c.loop-name.pool)
 turned g c =
     let idle = (alike_none c.args.owner.now c.loop-name.owner c.loop-name.invariant.goes.alike c.requires.idle).0 in
     let not_last = none_last c.in-Some.name c.loop-name.owner idle in
     let not_some : IsSome c.turn_session-none.result → ⊥ = λ some. not_last (c.turn_session-none.ensures.last.0 some) in
-    turns_on c.loop-name.owner c.turn_session-none.new.self (g.P.Pool.seen c.loop-name.pool)
+    turns_on c.loop-name.owner c.turn_session-none.new.self (g.P.PoolEnd.seen c.loop-name.pool)
     c.loop-name.invariant.goes.gathers c.in-Some.name c.in-Some.ensures.whole not_last
     (when_none c.turn_session-none.result not_some c.turn_session-none.ensures.turned)
     (when_none c.turn_session-none.result not_some c.turn_session-none.ensures.alike)

@@ -10,7 +10,7 @@ returns-clause-dialogue g c =
     let dialogue = rw c.new-lines.ensures.left at c.serve_lines-state.ensures.dialogue in
     serves-all c.serve_lines-state.result.1 c.args.state (g.R.Source.remaining c.args.reader)
     (g.W.Sink.contents c.args.writer.now) (g.W.Sink.contents c.serve_lines-state.new.writer)
-    (g.P.Pool.seen c.args.pool.now) (g.P.Pool.seen c.serve_lines-state.new.pool)
+    (g.P.PoolEnd.seen c.args.pool.now) (g.P.PoolEnd.seen c.serve_lines-state.new.pool)
     c.serve_lines-state.result.0
     lines.left (g.R.Source.remaining c.into_source.result) lines.held
     (c.into_source.ensures.ahead ∙ ap (prepend_known lines.held) (sym c.into_source.ensures.remaining))

@@ -3,7 +3,7 @@ use Rattle.std.proofs.Common.{arith, subst, ℕ}
 use Rattle.std.proofs.lemmas.List.{length-drop, length-take}
 use Rattle.std.proofs.lemmas.List.Sums.{prefix_len-le-length}
 use Rattle.std.specs.Char.{is_ascii_digit}
-use Rattle.lj_fixed.specs.Reading.{Leads}
+use Rattle.lj_fixed.specs.WordParts.{Leads}
 use Rattle.lj_fixed.proofs.Answered.{read_digits-value}
 use Rattle.lj_fixed.proofs.decimal_words.read_mantissa.Goals as goal
 

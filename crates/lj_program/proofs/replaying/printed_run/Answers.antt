@@ -1,5 +1,5 @@
 use Rattle.std.proofs.Common.{ap, ◌∙◌}
-use Rattle.lj_access.specs.Users as listed
+use Rattle.lj_access.specs.UserLists as listed
 use Rattle.lj_program.specs.Printed.{printed}
 use Rattle.lj_program.proofs.replaying.printed_run.Goals as goal
 
@@ -15,6 +15,6 @@ returns-clause-run c =
       headline = c.in_ok-transcript.ensures.headline;
       printed_so = c.in_ok-rendered.ensures
           ∙ ap (λ names. printed names entries)
-          (c.as_slice-2.ensures.value ∙ c.in_ok-names.ensures ∙ ap listed.names c.as_slice.ensures.value)
-          ∙ ap (printed (listed.names users)) c.entries.ensures;
+          (c.as_slice-2.ensures.value ∙ c.in_ok-names.ensures ∙ ap listed.user_names c.as_slice.ensures.value)
+          ∙ ap (printed (listed.user_names users)) c.entries.ensures;
     }

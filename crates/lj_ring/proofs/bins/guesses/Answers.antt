@@ -5,10 +5,10 @@ use Rattle.lj_ring.proofs.bins.guesses.Goals as goal
 pub returns : goal.returns
 returns c k l =
     rw (
-      c.shifted_right-2.ensures k l,
-      c.products-product.ensures k l,
-      c.low.ensures k l,
-      c.shifted_right.ensures k l,
-      c.low-2.ensures k l,
+      c.shr-2.ensures k l,
+      c.mul.ensures k l,
+      c.low_half-scaled.ensures k l,
+      c.shr.ensures k l,
+      c.low_half-reciprocal.ensures k l,
       c.splat.ensures k l,
     ) (guess_lane (slice_index c.args.squared k) c.args.shift c.args.reciprocal c.requires.fits (c.requires.small k l))

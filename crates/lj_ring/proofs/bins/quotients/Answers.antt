@@ -7,12 +7,12 @@ returns-clause-value c k l =
     let s : ℕ = slice_index c.args.squared k in
     let g : ℕ = guess_of s c.args.shift c.args.reciprocal in
     rw (
-      c.sums.ensures k l,
-      c.shifted_right.ensures k l,
-      c.differences-beyond.ensures k l,
+      c.add.ensures k l,
+      c.shr.ensures k l,
+      c.sub-beyond.ensures k l,
       c.splat.ensures k l,
-      c.differences-rest.ensures k l,
-      c.shifted_left.ensures k l,
+      c.sub-rest.ensures k l,
+      c.shl.ensures k l,
       c.multiples.ensures k l,
       c.guesses-guess.ensures k l,
       mul_comm s 128,
@@ -26,9 +26,9 @@ pub returns-clause-within : goal.returns-clause-within
 returns-clause-within c k l =
     let s : ℕ = slice_index c.args.squared k in
     rw (
-      c.sums.ensures k l,
-      c.shifted_right.ensures k l,
-      c.differences-beyond.ensures k l,
+      c.add.ensures k l,
+      c.shr.ensures k l,
+      c.sub-beyond.ensures k l,
       c.guesses-guess.ensures k l,
     ) (corrected_small (guess_of s c.args.shift c.args.reciprocal) _
     (guess_small s c.args.shift c.args.reciprocal c.requires.fits (c.requires.small k l)))

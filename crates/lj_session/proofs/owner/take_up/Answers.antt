@@ -1,7 +1,7 @@
 use Rattle.std.proofs.Common.{◌≡◌, ℕ, ◌<◌, ◌≤◌, List, Some, None, refl, sym, ap, ◌∙◌, subst, arith}
 use Rattle.lj_session.specs.declared.command.Command.{Command}
 use Rattle.lj_session.specs.declared.command.Command.TheVariants.{Advance, Measure}
-use Rattle.lj_tile.specs.declared.task_name.Kind.TheVariants.{Energy}
+use Rattle.lj_task.specs.declared.task_name.Kind.TheVariants.{Energy}
 use Rattle.lj_session.specs.Turns.{turns, waits_for}
 use Rattle.std.specs.Prelude.{IsSome, true}
 use Rattle.lj_session.specs.Answers.{answer, can_advance, session_named}
@@ -44,9 +44,9 @@ none-pending state command name n is none = rw is at none
 is_there : (state : UserState) (name : List ℕ) {n : ℕ} → Goes state name n → IsSome (live_session state name)
 is_there state name g = rw g.there refl
 
-near_of : (state : UserState) (name : List ℕ) (n : ℕ) → Goes state name n → (held : LiveSession) → live_session state name ≡ Some held
-    → can_advance (settled_session held) n ≡ true
-near_of state name n g held e = subst (λ (h : LiveSession). can_advance (settled_session h) n ≡ true) (same g.held held (sym g.there ∙ e)) g.near
+near_of : (state : UserState) (name : List ℕ) (n : ℕ) → Goes state name n → (session : LiveSession) → live_session state name ≡ Some session
+    → can_advance (settled_session session) n ≡ true
+near_of state name n g session e = subst (λ (h : LiveSession). can_advance (settled_session h) n ≡ true) (same g.session session (sym g.there ∙ e)) g.near
   where
     same : (a b : LiveSession) → Some a ≡ Some b → a ≡ b
     same a b k = cc
@@ -56,8 +56,8 @@ add_pending-requires-clause-session c = is_there c.args.state.now c.in-Advance.n
     (none_of c.steps_before.result _ c.if-steps_before-gt0.false c.steps_before.ensures) c.in-Advance.is)
 
 pub add_pending-requires-clause-near : goal.add_pending-requires-clause-near
-add_pending-requires-clause-near c = λ held e. near_of c.args.state.now c.in-Advance.name c.in-Advance.steps (goes_of c.args.state.now c.args.command c.in-Advance.name c.in-Advance.steps c.requires.waits
-    (none_of c.steps_before.result _ c.if-steps_before-gt0.false c.steps_before.ensures) c.in-Advance.is) held e
+add_pending-requires-clause-near c = λ session e. near_of c.args.state.now c.in-Advance.name c.in-Advance.steps (goes_of c.args.state.now c.args.command c.in-Advance.name c.in-Advance.steps c.requires.waits
+    (none_of c.steps_before.result _ c.if-steps_before-gt0.false c.steps_before.ensures) c.in-Advance.is) session e
 
 pub returns-in-Advance-clause-left : goal.returns-in-Advance-clause-left
 unfolding rest_of
@@ -86,7 +86,7 @@ returns-in-Advance-clause-at_work c =
     let name = c.in-Advance.name in
     subst (λ (o : UserState). IsAtWork None o) (sym c.add_pending.ensures.pending)
     (at_work-changed None old name (with_more_pending c.in-Advance.steps)
-    (λ held e. kind-added None name c.in-Advance.steps held refl (c.requires.at_work name held e)) c.requires.at_work)
+    (λ session e. kind-added None name c.in-Advance.steps session refl (c.requires.at_work name session e)) c.requires.at_work)
 
 pub returns-in-Advance-clause-turns : goal.returns-in-Advance-clause-turns
 returns-in-Advance-clause-turns c =
@@ -106,7 +106,7 @@ returns-in-Advance-clause-others c = λ other apart.
     (λ same. apart (ap session_named c.in-Advance.is ∙ same))
 
 measured_of : (state : UserState) (command : Command) (name : List ℕ) → 0 < turns_before state command
-    → steps_before state command ≡ 0 → command ≡ Measure name → (held : LiveSession) × (live_session state name ≡ Some held)
+    → steps_before state command ≡ 0 → command ≡ Measure name → (session : LiveSession) × (live_session state name ≡ Some session)
 measured_of state command name some none which =
     measured_there state name (subst (λ (k : Command). 0 < turns (user_of state) k) which (own_some state command some none))
 
@@ -130,23 +130,23 @@ returns-in-Measure-clause-begun c =
 pub returns-in-Measure-clause-at_work : goal.returns-in-Measure-clause-at_work
 returns-in-Measure-clause-at_work c =
     let old = c.args.state.now in
-    let held = measured_of old c.args.command c.in-Measure.name c.requires.waits
+    let session = measured_of old c.args.command c.in-Measure.name c.requires.waits
     (none_of c.steps_before.result _ c.if-steps_before-gt0.false c.steps_before.ensures) c.in-Measure.is in
     let none = none_of c.steps_before.result _ c.if-steps_before-gt0.false c.steps_before.ensures in
     subst (λ n. IsAtWork (Some (Measure n)) c.open_step.new.self) (sym c.copy-in-Measure.ensures)
     (subst (λ (o : UserState). IsAtWork (Some (Measure c.in-Measure.name)) o) (sym c.open_step.ensures.opened)
-    (at_work-measured old c.in-Measure.name held.0 held.1
-    (pending-of old c.in-Measure.name held.0 held.1 (none-measured old c.args.command c.in-Measure.name c.in-Measure.is none))
+    (at_work-measured old c.in-Measure.name session.0 session.1
+    (pending-of old c.in-Measure.name session.0 session.1 (none-measured old c.args.command c.in-Measure.name c.in-Measure.is none))
     c.requires.at_work))
 
 pub returns-in-Measure-clause-turns : goal.returns-in-Measure-clause-turns
 returns-in-Measure-clause-turns c =
     let old = c.args.state.now in
-    let held = measured_of old c.args.command c.in-Measure.name c.requires.waits
+    let session = measured_of old c.args.command c.in-Measure.name c.requires.waits
     (none_of c.steps_before.result _ c.if-steps_before-gt0.false c.steps_before.ensures) c.in-Measure.is in
     ap (λ n. turns_before c.open_step.new.self (Measure n)) c.copy-in-Measure.ensures
     ∙ ap (λ (o : UserState). turns_before o (Measure c.in-Measure.name)) c.open_step.ensures.opened
-    ∙ measured_turns old c.in-Measure.name held.0 held.1 ∙ ap (turns_before old) (sym c.in-Measure.is)
+    ∙ measured_turns old c.in-Measure.name session.0 session.1 ∙ ap (turns_before old) (sym c.in-Measure.is)
 
 pub returns-in-Measure-clause-others : goal.returns-in-Measure-clause-others
 returns-in-Measure-clause-others c = λ other apart.

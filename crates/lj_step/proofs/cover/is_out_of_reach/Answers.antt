@@ -3,7 +3,7 @@ use Rattle.std.proofs.lemmas.Bool.Decides.{nat_tests}
 use Rattle.std.proofs.lemmas.List.FromFn.{length-map-range_with_len}
 use Rattle.lj_ring.specs.Arcs.{squared_gap}
 use Rattle.lj_step.specs.OpenSteps.{blocks, tile_number, is_out_of_reach}
-use Rattle.lj_step.specs.Kept.{block_arcs}
+use Rattle.lj_step.specs.KeptSims.{block_arcs}
 use Rattle.lj_step.proofs.Reach.{reach_of_one, reach_of_two, gap_at}
 use Rattle.lj_step.proofs.cover.is_out_of_reach.Goals as goal
 

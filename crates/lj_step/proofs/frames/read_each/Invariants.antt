@@ -1,6 +1,6 @@
 use Rattle.std.proofs.Common.{ℕ, ◌<◌}
 use Rattle.lj_step.specs.Motion.{place_at}
-use Rattle.lj_step.specs.Laws.{IsOnRing}
+use Rattle.lj_step.specs.MotionLaws.{IsOnRing}
 use Rattle.lj_step.proofs.frames.read_each.Given as goal
 
 abbrev pub invariant-loop-place : goal.invariant-loop-place

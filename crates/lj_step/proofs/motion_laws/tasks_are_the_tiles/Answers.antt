@@ -1,4 +1,4 @@
-use Rattle.lj_tile.specs.declared.task_name.Kind.TheVariants.{Force, Energy}
+use Rattle.lj_task.specs.declared.task_name.Kind.TheVariants.{Force, Energy}
 use Rattle.lj_step.proofs.TileValues.{tile_value}
 use Rattle.lj_step.proofs.motion_laws.tasks_are_the_tiles.Goals as goal
 

@@ -1,6 +1,6 @@
 use Rattle.std.proofs.Common.{◌≡◌, length, ap, ◌∙◌, arith, rules}
 use Rattle.std.proofs.lemmas.List.FromFn.{length-map-range_with_len}
-use Rattle.lj_tile.specs.Task.{task_force, task_second}
+use Rattle.lj_task.specs.Task.{task_force, task_second}
 use Rattle.lj_step.specs.Sums.{HasBlockAdded}
 use Rattle.lj_step.proofs.BlockAdded.{added_by}
 use Rattle.lj_step.proofs.partial.add_pushes.Goals as goal

@@ -3,7 +3,7 @@ use Rattle.std.specs.List.{range_with_len}
 use Rattle.std.proofs.lemmas.List.FromFn.{length-map-range_with_len}
 use Rattle.lj_ring.specs.Arcs.{arcs_of}
 use Rattle.lj_step.specs.OpenSteps.{blocks}
-use Rattle.lj_step.specs.Kept.{block_arcs}
+use Rattle.lj_step.specs.KeptSims.{block_arcs}
 use Rattle.lj_step.proofs.CoverLists.{map_range_more}
 use Rattle.lj_step.proofs.partial.list_arcs.Goals as goal
 

@@ -1,6 +1,6 @@
 use Rattle.std.proofs.Common.{◌≡◌, map, vec_capacity}
 use Rattle.std.specs.List.{range_with_len}
-use Rattle.lj_step.specs.Kept.{block_arcs}
+use Rattle.lj_step.specs.KeptSims.{block_arcs}
 use Rattle.lj_step.proofs.partial.list_arcs.Given as goal
 
 abbrev pub invariant-loop-index : goal.invariant-loop-index

@@ -1,6 +1,6 @@
 use Rattle.std.proofs.Common.{◌≡◌, ◌≤◌, ◌+◌, unsigned_abs, ap, sym, ◌∙◌, subst, add-one, arith}
 use Rattle.lj_step.specs.Motion.{steps, next_simulation}
-use Rattle.lj_step.specs.Laws.{drift}
+use Rattle.lj_step.specs.MotionLaws.{drift}
 use Rattle.lj_step.specs.Sim.{Sim}
 use Rattle.lj_step.proofs.Drift.{drift_kept}
 use Rattle.lj_step.proofs.Undone.{steps_more}
@@ -8,13 +8,13 @@ use Rattle.lj_step.proofs.RoundTrip.{next_size}
 use Rattle.lj_step.proofs.round_trip.go.Goals as goal
 
 pub step-requires : goal.step-requires
-step-requires c =
+step-requires g c =
     let sim = c.loop.sim.sim in
     (next_size sim.step sim.dir (unsigned_abs c.args.sim.now.sim.step)
     c.loop.counter c.args.steps c.loop.invariant.step c.loop.invariant.dir c.requires c.loop-test.true).1
 
 pub loop-preserved : goal.loop-preserved
-loop-preserved c =
+loop-preserved g c =
     let old = c.args.sim.now in
     let sim = c.loop.sim.sim in
     let size =
@@ -35,7 +35,7 @@ loop-preserved c =
     }
 
 pub returns-clause-drift : goal.returns-clause-drift
-returns-clause-drift c =
+returns-clause-drift g c =
     let old = c.args.sim.now in
     let motion : c.loop.sim.sim ≡ steps old.composition c.args.steps old.sim =
     c.loop.invariant.motion ∙ ap (λ n. steps old.composition n old.sim)

@@ -1,6 +1,6 @@
 use Rattle.std.proofs.Common.{◌≡◌, ◌≤◌, ◌<◌, ◌^◌, ◌+◌, ◌+ℤ◌, unsigned_abs, length, Some, refl, ap, sym, ◌∙◌, subst}
 use Rattle.std.proofs.Common.{arith}
-use Rattle.lj_tile.specs.declared.task_name.Kind.TheVariants.{Force}
+use Rattle.lj_task.specs.declared.task_name.Kind.TheVariants.{Force}
 use Rattle.lj_step.specs.Motion.{Simulation}
 use Rattle.lj_step.specs.Sim.{Sim}
 use Rattle.lj_step.specs.OpenSteps.{cover, tiles_of}
@@ -10,13 +10,13 @@ use Rattle.lj_step.proofs.RoundTrip.{task_some, when_ok}
 use Rattle.lj_step.proofs.round_trip.step.Goals as goal
 
 pub unwrap-task-requires : goal.unwrap-task-requires
-unwrap-task-requires c =
+unwrap-task-requires g c =
     let live = c.loop-i.sim in
     let within : c.loop-i.i < length (cover live.composition live.sim.cur) = omega arith in
     task_some live c.args.label.now Force c.loop-i.i c.task.result c.loop-i.invariant.tiles c.task.ensures.value within
 
 pub loop-i-init : goal.loop-i-init
-loop-i-init c =
+loop-i-init g c =
     let opened = c.open_step.ensures in
     record {
       composition = ap (λ (v : Sim). v.composition) opened;
@@ -28,7 +28,7 @@ loop-i-init c =
     }
 
 pub loop-i-preserved : goal.loop-i-preserved
-loop-i-preserved c =
+loop-i-preserved g c =
     let live = c.loop-i.sim in
     let is_work : c.task.result ≡ Some c.compute.result = c.unwrap-task.ensures ∙ ap Some (sym c.compute.ensures) in
     let awaited =
@@ -46,7 +46,7 @@ loop-i-preserved c =
     }
 
 pub turn-requires : goal.turn-requires
-turn-requires c =
+turn-requires g c =
     let live = c.loop-i.sim in
     let past : length (cover live.composition live.sim.cur) ≤ c.loop-i.i = omega arith in
     record {
@@ -57,7 +57,7 @@ turn-requires c =
     }
 
 pub returns : goal.returns
-returns c =
+returns g c =
     let composition = c.loop-i.invariant.composition in
     let motion = c.loop-i.invariant.motion in
     let turned = c.turn.ensures in

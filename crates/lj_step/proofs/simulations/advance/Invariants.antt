@@ -1,5 +1,5 @@
 use Rattle.std.proofs.Common.{◌≡◌, ◌<◌, ◌≤◌, ℕ, length, slice_index_or}
-use Rattle.lj_tile.specs.Pushes.{no_push}
+use Rattle.lj_task.specs.Pushes.{no_push}
 use Rattle.lj_step.specs.Motion.{place_at, next_place}
 use Rattle.lj_step.proofs.simulations.advance.Given as goal
 

@@ -1,6 +1,6 @@
 use Rattle.std.proofs.Common.{◌≡◌, ◌≤◌, ◌<◌, ◌+◌, ◌^◌, ℕ, ℤ, pos, drop, slice_index_or, unsigned_abs, sym, ap, ◌∙◌, arith}
 use Rattle.std.proofs.lemmas.List.{get_or-drop, length-drop}
-use Rattle.lj_tile.specs.Tiles.{place_at}
+use Rattle.lj_task.specs.Tiles.{place_at}
 use Rattle.lj_tile.specs.Pairs.{first_of, second_of}
 use Rattle.lj_tile.specs.Energies.{pair_energy}
 use Rattle.lj_tile.proofs.EnergySums.{energy_of_none, energy_next}

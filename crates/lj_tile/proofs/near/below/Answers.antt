@@ -5,7 +5,7 @@ use Rattle.lj_tile.proofs.near.below.Goals as goal
 pub returns : goal.returns
 returns c k l none =
     let left = c.left.ensures k l in
-    let more = not_less_signed c.with_sign-2.result c.with_sign.result (slice_index c.args.z k) (slice_index c.left.result k) k
-    (omega (arith, c.with_sign-2.type_inv)) (omega (arith, c.with_sign.type_inv)) l
-    (c.with_sign-2.ensures k l) (c.with_sign.ensures k l) (omega (arith, c.requires.small k l)) (omega (arith, left, c.requires.reach)) none in
+    let more = not_less_signed c.cast_i16-2.result c.cast_i16.result (slice_index c.args.z k) (slice_index c.left.result k) k
+    (omega (arith, c.cast_i16-2.type_inv)) (omega (arith, c.cast_i16.type_inv)) l
+    (c.cast_i16-2.ensures k l) (c.cast_i16.ensures k l) (omega (arith, c.requires.small k l)) (omega (arith, left, c.requires.reach)) none in
     omega (arith, left, more)

@@ -6,7 +6,7 @@ use Rattle.lj_tile.proofs.near.coarse_squares.Goals as goal
 lane : (c : goal.After-square_units) (k : ℕ) → k < 16
     → let o = grains_apart (slice_index c.args.there k) (grains c.args.grain c.args.here) in
     slice_index c.square_units.result k ≡ o * o / 2 ^ 16
-lane c k l = rw (c.square_units.ensures k l, c.differences.ensures k l, c.splat.ensures k l, c.in_grains.ensures.value) refl
+lane c k l = rw (c.square_units.ensures k l, c.sub.ensures k l, c.splat.ensures k l, c.in_grains.ensures.value) refl
 
 pub returns : goal.returns
 returns c = record {

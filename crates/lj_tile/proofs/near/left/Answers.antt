@@ -2,4 +2,4 @@ use Rattle.std.proofs.Common.{refl}
 use Rattle.lj_tile.proofs.near.left.Goals as goal
 
 pub returns : goal.returns
-returns c k l = rw (c.less-2.ensures k l, c.less.ensures k l, c.splat.ensures k l) refl
+returns c k l = rw (c.saturating_sub-2.ensures k l, c.saturating_sub.ensures k l, c.splat.ensures k l) refl

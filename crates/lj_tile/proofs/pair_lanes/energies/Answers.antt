@@ -8,7 +8,7 @@ use Rattle.lj_tile.specs.Lanes.{AreApartBy}
 use Rattle.lj_tile.proofs.LanePushes.{length_is, entry_signed, near_cell, weighted_signed}
 use Rattle.lj_tile.proofs.pair_lanes.energies.Goals as goal
 
-squares : (c : goal.After-with_signs) (k : ℕ) (p q : Place) → k < 8 → AreApartBy c.args.images.now k p q
+squares : (c : goal.After-signed_energies) (k : ℕ) (p q : Place) → k < 8 → AreApartBy c.args.images.now k p q
     → slice_index c.bins-bins.result k ≡ near_bin c.args.class.now.scale (squared_distance p q)
 squares c k p q l apart =
     let x = length_is _ _ p.x q.x (c.lengths.ensures k l) apart.x in
@@ -16,7 +16,7 @@ squares c k p q l apart =
     let z = length_is _ _ p.z q.z (c.lengths-3.ensures k l) apart.z in
     rw (← x, ← y, ← z) (c.bins-bins.ensures.value k l)
 
-sign : (c : goal.After-with_signs) (k : ℕ) (p q : Place) → k < 8 → AreApartBy c.args.images.now k p q
+sign : (c : goal.After-signed_energies) (k : ℕ) (p q : Place) → k < 8 → AreApartBy c.args.images.now k p q
     → energy_at c.args.class.now.scale (squared_distance p q)
     ≡ signed_number (ltb 127 (slice_index c.bins-bins.result k)) (slice_index c.energy_sizes.result k)
 sign c k p q l apart =
@@ -29,7 +29,7 @@ sign c k p q l apart =
 
 pub returns-clause-value : goal.returns-clause-value
 returns-clause-value c k p q l apart =
-    c.with_signs.ensures k l
+    c.signed_energies.ensures k l
     ∙ ap (signed_number (ltb 127 (slice_index c.bins-bins.result k))) (c.weighted.ensures.value k l)
     ∙ weighted_signed (ltb 127 (slice_index c.bins-bins.result k)) (slice_index c.energy_sizes.result k) c.args.class.now.weight
     ∙ ap (weighted_energy c.args.class.now.weight) (sym (sign c k p q l apart))

@@ -5,13 +5,13 @@ use Rattle.lj_tile.proofs.pair_lanes.multiplied.Goals as goal
 pub returns-clause-value : goal.returns-clause-value
 returns-clause-value c k l =
     rw (
-      c.sums.ensures k l,
-      c.products.ensures k l,
-      c.raised.ensures k l,
-      c.products-2.ensures k l,
-      c.low.ensures k l,
-      c.high.ensures k l,
-      c.low-step_factor.ensures k l,
+      c.add.ensures k l,
+      c.mul-lower.ensures k l,
+      c.shl.ensures k l,
+      c.mul-upper.ensures k l,
+      c.low_half.ensures k l,
+      c.high_half.ensures k l,
+      c.low_half-step_factor.ensures k l,
       c.splat.ensures k l,
       c.from.ensures,
     )

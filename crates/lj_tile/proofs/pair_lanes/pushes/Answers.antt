@@ -8,7 +8,7 @@ use Rattle.lj_tile.specs.Energies.{signed_number}
 use Rattle.lj_tile.proofs.LanePushes.{length_is, axis_is, entry_signed, near_cell, lane_push}
 use Rattle.lj_tile.proofs.pair_lanes.pushes.Goals as goal
 
-squares : (c : goal.After-signed-3) (k : ℕ) (p q : Place) → k < 8 → AreApartBy c.args.images.now k p q
+squares : (c : goal.After-signed_pushes-3) (k : ℕ) (p q : Place) → k < 8 → AreApartBy c.args.images.now k p q
     → slice_index c.bins-bins.result k ≡ near_bin c.args.scale.now (squared_distance p q)
 squares c k p q l apart =
     let x = length_is _ _ p.x q.x (c.lengths-x.ensures k l) apart.x in
@@ -16,7 +16,7 @@ squares c k p q l apart =
     let z = length_is _ _ p.z q.z (c.lengths-z.ensures k l) apart.z in
     rw (← x, ← y, ← z) (c.bins-bins.ensures.value k l)
 
-sign : (c : goal.After-signed-3) (k : ℕ) (p q : Place) → k < 8 → AreApartBy c.args.images.now k p q
+sign : (c : goal.After-signed_pushes-3) (k : ℕ) (p q : Place) → k < 8 → AreApartBy c.args.images.now k p q
     → push_at c.args.scale.now (squared_distance p q)
     ≡ signed_number (ltb 160 (slice_index c.bins-bins.result k)) (slice_index c.push_sizes.result k)
 sign c k p q l apart =
@@ -34,8 +34,8 @@ returns c k p q l apart =
     let h = c.step_factor.ensures.value in
     lane_push c.args.scale.now p q _ k
     (axis_is c.args.scale.now _ _ p.x q.x _ _ _ _ _ _ _ e apart.x (c.lengths-x.ensures k l) h f (c.along.ensures k l)
-    (c.signed.ensures k l))
+    (c.signed_pushes.ensures k l))
     (axis_is c.args.scale.now _ _ p.y q.y _ _ _ _ _ _ _ e apart.y (c.lengths-y.ensures k l) h f (c.along-2.ensures k l)
-    (c.signed-2.ensures k l))
+    (c.signed_pushes-2.ensures k l))
     (axis_is c.args.scale.now _ _ p.z q.z _ _ _ _ _ _ _ e apart.z (c.lengths-z.ensures k l) h f (c.along-3.ensures k l)
-    (c.signed-3.ensures k l))
+    (c.signed_pushes-3.ensures k l))

@@ -1,5 +1,5 @@
 use Rattle.std.proofs.Common.{◌≡◌, ◌<◌, List, length, slice_index_or, sym, ap, ◌∙◌, rules, arith}
-use Rattle.lj_tile.specs.declared.pairs.Push.{Push}
+use Rattle.lj_task.specs.declared.pushes.Push.{Push}
 use Rattle.lj_tile.specs.Pairs.{first_of}
 use Rattle.lj_tile.proofs.PairSums.{pushes_next, pushes_of_one}
 use Rattle.lj_tile.proofs.RowLemmas.{length_set}

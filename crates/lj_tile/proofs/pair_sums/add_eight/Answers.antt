@@ -2,12 +2,12 @@ use Rattle.std.proofs.Common.{◌≡◌, ◌<◌, ◌+◌, ℕ, List, length, dr
 use Rattle.std.proofs.lemmas.List.{get_or-drop, length-drop}
 use Rattle.lj_ring.specs.declared.coordinates.Place.{Place}
 use Rattle.lj_ring.specs.Scale.{Scale}
-use Rattle.lj_tile.specs.declared.pairs.Push.{Push}
+use Rattle.lj_task.specs.declared.pushes.Push.{Push}
 use Rattle.lj_tile.proofs.RowLemmas.{length_set}
-use Rattle.lj_tile.specs.Pushes.{push, opposite_push}
-use Rattle.lj_tile.specs.Tiles.{place_at}
+use Rattle.lj_task.specs.Pushes.{push, opposite_push}
+use Rattle.lj_task.specs.Tiles.{place_at}
 use Rattle.lj_tile.specs.Pairs.{first_of, second_of}
-use Rattle.lj_tile.proofs.Opposites.{push_back_is}
+use Rattle.lj_task.proofs.Opposites.{push_back_is}
 use Rattle.lj_tile.proofs.PairSums.{pushes_none, pushes_next, pushes_of_one, lane_push}
 use Rattle.lj_tile.proofs.pair_sums.add_eight.Goals as goal
 

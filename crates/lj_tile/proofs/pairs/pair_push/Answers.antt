@@ -1,9 +1,10 @@
 use Rattle.std.proofs.Common.{FitsSigned, w64, w32, rules, sym, ◌∙◌, ap}
 use Rattle.std.proofs.lemmas.Int.{to_z-of_z}
 use Rattle.lj_table.specs.Entries.{push_at}
-use Rattle.lj_tile.specs.Pushes.{opposite_push}
-use Rattle.lj_tile.proofs.Opposites.{push_back_is, nothing_back}
-use Rattle.lj_tile.proofs.PushLemmas.{push_is, push_self, nothing_is, zero_bits}
+use Rattle.lj_task.specs.Pushes.{opposite_push}
+use Rattle.lj_task.proofs.Opposites.{push_back_is, nothing_back}
+use Rattle.lj_tile.proofs.PushLemmas.{push_is, push_self, zero_bits}
+use Rattle.lj_task.proofs.Opposites.{nothing_is}
 use Rattle.lj_tile.proofs.pairs.pair_push.Goals as goal
 
 pub returns-then-entry-eq0-clause-value : goal.returns-then-entry-eq0-clause-value

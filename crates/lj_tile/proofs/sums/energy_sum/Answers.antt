@@ -2,7 +2,7 @@ use Rattle.std.proofs.Common.{◌≡◌, ◌<◌, ◌-◌, ℕ, length, bit_and,
 use Rattle.lj_ring.specs.declared.mixes.Species.TheVariants.{First, Second}
 use Rattle.lj_ring.specs.Mix.{class_of}
 use Rattle.lj_ring.proofs.MixLemmas.{class_symmetric}
-use Rattle.lj_tile.specs.Block.{Block}
+use Rattle.lj_task.specs.Block.{Block}
 use Rattle.lj_tile.proofs.RowSums.{IsOfOne, IsSilentRow}
 use Rattle.lj_tile.proofs.RowSets.{first_rows, second_rows, of_either}
 use Rattle.lj_tile.proofs.EnergySums.{task_sum, both_rows, two_added, three_added, four_added, five_added}

@@ -1,5 +1,5 @@
 use Rattle.std.proofs.Common.{◌≡◌, ◌≤◌, ◌<◌, ℕ, length, slice_index_or}
-use Rattle.lj_tile.specs.Pushes.{no_push, sum_of_pushes}
+use Rattle.lj_task.specs.Pushes.{no_push, sum_of_pushes}
 use Rattle.lj_tile.proofs.sums.join.Given as goal
 
 abbrev pub invariant-loop-t : goal.invariant-loop-t

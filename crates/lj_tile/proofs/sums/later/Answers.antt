@@ -1,5 +1,5 @@
 use Rattle.std.proofs.Common.{◌≡◌, ◌+◌, length, arith, sym}
-use Rattle.lj_tile.specs.Task.{are_in_order}
+use Rattle.lj_task.specs.Task.{are_in_order}
 use Rattle.lj_tile.proofs.Splits.{later_are, within_one}
 use Rattle.lj_tile.proofs.sums.later.Goals as goal
 

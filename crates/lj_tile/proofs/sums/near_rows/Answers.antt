@@ -4,8 +4,8 @@ use Rattle.std.proofs.lemmas.Bool.Decides.{nat_tests}
 use Rattle.std.proofs.lemmas.Nat.Bits.{bit_at_and, bit_at-lt}
 use Rattle.lj_ring.specs.Mix.{can_interact}
 use Rattle.lj_ring.proofs.MixLemmas.{cannot_interact}
-use Rattle.lj_tile.specs.Block.{Block}
-use Rattle.lj_tile.specs.Species.{is_in, species_at}
+use Rattle.lj_task.specs.Block.{Block}
+use Rattle.lj_task.specs.Species.{is_in, species_at}
 use Rattle.lj_tile.proofs.RowLemmas.{far_silent}
 use Rattle.lj_tile.proofs.Splits.{is_set}
 use Rattle.lj_tile.proofs.sums.near_rows.Goals as goal

@@ -1,6 +1,6 @@
 use Rattle.std.proofs.Common.{ℕ, ◌<◌}
 use Rattle.lj_ring.specs.Ring.{IsOnRing}
-use Rattle.lj_tile.specs.Tiles.{place_at}
+use Rattle.lj_task.specs.Tiles.{place_at}
 use Rattle.lj_tile.proofs.sums.read_each.Given as goal
 
 abbrev pub invariant-loop-place : goal.invariant-loop-place

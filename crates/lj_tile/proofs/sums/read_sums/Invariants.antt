@@ -1,5 +1,5 @@
 use Rattle.std.proofs.Common.{ℕ, ◌<◌, slice_index_or}
-use Rattle.lj_tile.specs.Pushes.{no_push}
+use Rattle.lj_task.specs.Pushes.{no_push}
 use Rattle.lj_tile.specs.Pairs.{IsPushOnRing}
 use Rattle.lj_tile.proofs.sums.read_sums.Given as goal
 

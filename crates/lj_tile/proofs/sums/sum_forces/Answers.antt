@@ -1,7 +1,7 @@
 use Rattle.std.proofs.Common.{◌≡◌, ◌<◌, length, slice_index_or, ap, sym, ◌∙◌, arith}
 use Rattle.std.proofs.lemmas.Bool.{true≢false}
-use Rattle.lj_tile.specs.Block.{Block}
-use Rattle.lj_tile.specs.Pushes.{no_push, sum_of_pushes}
+use Rattle.lj_task.specs.Block.{Block}
+use Rattle.lj_task.specs.Pushes.{no_push, sum_of_pushes}
 use Rattle.lj_tile.specs.Rows.{sum_on_first}
 use Rattle.lj_tile.proofs.RowLemmas.{first_is, second_is, joined_is}
 use Rattle.lj_tile.proofs.sums.sum_forces.Goals as goal

@@ -3,8 +3,8 @@ use Rattle.std.proofs.lemmas.List.{get_or-replicate}
 use Rattle.lj_ring.specs.declared.mixes.Class.{Class}
 use Rattle.lj_ring.specs.declared.mixes.Species.TheVariants.{First, Second}
 use Rattle.lj_ring.proofs.MixLemmas.{class_symmetric}
-use Rattle.lj_tile.specs.Block.{Block}
-use Rattle.lj_tile.specs.Pushes.{no_push}
+use Rattle.lj_task.specs.Block.{Block}
+use Rattle.lj_task.specs.Pushes.{no_push}
 use Rattle.lj_tile.specs.Pairs.{scale_between}
 use Rattle.lj_tile.proofs.RowSums.{IsOfOne, IsSilentRow, AreAllSums, all_firsts, all_seconds}
 use Rattle.lj_tile.proofs.RowSets.{first_rows, second_rows, of_either}

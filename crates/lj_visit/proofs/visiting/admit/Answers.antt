@@ -1,5 +1,5 @@
 use Rattle.std.proofs.Common.{[], ◌∷◌, refl, sym, ◌∙◌, subst}
-use Rattle.lj_access.specs.Rows.{Ticket}
+use Rattle.lj_access.specs.UserRows.{Ticket}
 use Rattle.lj_visit.specs.Events.{Happens}
 use Rattle.lj_visit.specs.Events.Event.{entered, left}
 use Rattle.lj_visit.proofs.Happening.{Happens-more, err_holds}
@@ -20,5 +20,6 @@ returns-then-is_err g c =
       begun.2,
       err_holds c.welcome.result _ failed c.welcome.ensures.risen,
       state,
-      Happens-more was inside is (entered c.args.ticket state ∷ []) (left c.args.ticket state ∷ []) c.in-Ok.ensures.entered leaves,
+      Happens-more was inside is (entered c.args.ticket.ticket state ∷ []) (left c.args.ticket.ticket state ∷ [])
+          c.in-Ok.ensures.entered leaves,
     )

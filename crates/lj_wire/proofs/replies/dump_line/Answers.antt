@@ -1,7 +1,7 @@
 use Rattle.std.proofs.Common.{◌≡◌, Option, Some, None, slice_get, arith}
 use Rattle.lj_session.specs.UserState.{live_session_at}
 use Rattle.lj_session.specs.Users.{Session}
-use Rattle.lj_wire.specs.Texts.{dump_lines}
+use Rattle.lj_wire.specs.ReplyTexts.{dump_lines}
 use Rattle.lj_wire.proofs.ReplyLines.{dumped_atom, past_last_atom, settled}
 use Rattle.lj_wire.proofs.replies.dump_line.Goals as goal
 

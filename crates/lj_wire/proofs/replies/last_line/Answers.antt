@@ -2,7 +2,7 @@ use Rattle.std.proofs.Common.{◌+◌, ◌≤◌, Option, length, arith}
 use Rattle.std.proofs.lemmas.List.{length-map}
 use Rattle.lj_session.specs.UserState.{live_session_at, user_of, as_entry}
 use Rattle.lj_session.specs.Users.{Session}
-use Rattle.lj_wire.specs.Texts.{reply_lines, dump_lines, branch_lines, session_line}
+use Rattle.lj_wire.specs.ReplyTexts.{reply_lines, dump_lines, branch_lines, session_line}
 use Rattle.lj_wire.proofs.ReplyLines.{under_name, no_name}
 use Rattle.lj_wire.proofs.LineCounts.{dump-few, branches-few, one_line}
 use Rattle.lj_wire.proofs.replies.last_line.Goals as goal

@@ -1,7 +1,7 @@
 use Rattle.std.proofs.Common.{◌≡◌, Option, slice_get, refl, sym, ◌∙◌}
 use Rattle.std.specs.Option.{option_map}
 use Rattle.lj_session.specs.Users.{Session}
-use Rattle.lj_wire.specs.Texts.{reply_lines, branch_lines, dump_lines}
+use Rattle.lj_wire.specs.ReplyTexts.{reply_lines, branch_lines, dump_lines}
 use Rattle.lj_wire.proofs.ReplyLines.{index_within, settled_at, under_name, no_name}
 use Rattle.lj_wire.proofs.replies.put_line_at.Goals as goal
 

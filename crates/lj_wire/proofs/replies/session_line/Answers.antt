@@ -1,7 +1,7 @@
 use Rattle.std.proofs.Common.{◌≡◌, Some, [], ◌∷◌, length, ap, ◌∙◌, w64, refl}
 use Rattle.std.specs.Fmt.{decimal, signed_decimal}
 use Rattle.std.proofs.lemmas.Int.{to_z-of_z}
-use Rattle.lj_wire.specs.Texts.{line_of}
+use Rattle.lj_wire.specs.ReplyTexts.{line_of}
 use Rattle.lj_wire.proofs.ReplyLines.{session_line_at}
 use Rattle.lj_wire.proofs.replies.session_line.Goals as goal
 

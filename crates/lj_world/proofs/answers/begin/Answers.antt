@@ -3,7 +3,7 @@ use Rattle.lj_session.specs.UserState.{UserState, user_of}
 use Rattle.lj_session.specs.declared.reply.Reply.{Reply}
 use Rattle.lj_session.specs.declared.reply.Reply.TheVariants.{Refused}
 use Rattle.lj_session.specs.Owner.{Owner, user_in}
-use Rattle.lj_wire.specs.Texts.{text}
+use Rattle.lj_wire.specs.ReplyTexts.{text}
 use Rattle.lj_world.proofs.ItemAnswers.{command_answered, fault_answered}
 use Rattle.lj_world.proofs.answers.begin.Goals.{in-Command+in-Answered, in-Bad, in-Last}
 use Rattle.lj_world.proofs.answers.begin.Goals as goal

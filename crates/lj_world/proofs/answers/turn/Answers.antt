@@ -1,6 +1,6 @@
 use Rattle.std.proofs.Common.{ap, refl, ◌∙◌}
 use Rattle.lj_session.specs.UserState.{UserState, user_of}
-use Rattle.lj_wire.specs.Texts.{text}
+use Rattle.lj_wire.specs.ReplyTexts.{text}
 use Rattle.lj_world.proofs.ItemAnswers.{wait_answered}
 use Rattle.lj_world.proofs.answers.turn.Goals as goal
 

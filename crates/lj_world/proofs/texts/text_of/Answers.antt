@@ -1,7 +1,7 @@
 use Rattle.std.proofs.Common.{◌+◌, ◌≤◌, ◌++◌, length, take, sym, ◌∙◌, ap, arith}
 use Rattle.std.specs.List.{concat}
 use Rattle.lj_session.specs.UserState.{user_of}
-use Rattle.lj_wire.specs.Texts.{reply_lines}
+use Rattle.lj_wire.specs.ReplyTexts.{reply_lines}
 use Rattle.lj_wire.proofs.ReplyTexts.{text-lines}
 use Rattle.lj_wire.proofs.LineCounts.{line_more, lines_all, lines_past}
 use Rattle.lj_world.proofs.texts.text_of.Goals.{in-Some+in_ok-extend_from_slice+then-k-last, in_default}

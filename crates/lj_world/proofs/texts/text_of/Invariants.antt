@@ -1,7 +1,7 @@
 use Rattle.std.proofs.Common.{◌≡◌, ◌-◌, ◌+◌, ◌≤◌, take}
 use Rattle.std.specs.List.{concat}
 use Rattle.lj_session.specs.UserState.{user_of}
-use Rattle.lj_wire.specs.Texts.{reply_lines}
+use Rattle.lj_wire.specs.ReplyTexts.{reply_lines}
 use Rattle.lj_world.proofs.texts.text_of.Given as goal
 
 abbrev pub invariant-loop-line : goal.invariant-loop-line

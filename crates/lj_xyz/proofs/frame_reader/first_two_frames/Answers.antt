@@ -1,7 +1,7 @@
 use Rattle.std.specs.Option.{option_copied}
 use Rattle.std.proofs.lemmas.Result.{err_from_is_err_and}
 use Rattle.lj_xyz.specs.Cursor.{left_of}
-use Rattle.lj_xyz.specs.Frames.{pair}
+use Rattle.lj_xyz.specs.Bodies.{pair}
 use Rattle.lj_xyz.specs.Lines.{lines_of}
 use Rattle.lj_xyz.proofs.ReadingLaws.{reads_two}
 use Rattle.lj_xyz.proofs.ReadLaws.{fails_first, fails_second}

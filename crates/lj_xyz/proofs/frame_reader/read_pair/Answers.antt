@@ -4,7 +4,7 @@ use Rattle.std.proofs.lemmas.Result.{IfOk-weaker}
 use Rattle.lj_xyz.specs.declared.atom_row.AtomRow.{AtomRow}
 use Rattle.lj_xyz.specs.declared.atom_row.FramePair.{FramePair}
 use Rattle.lj_xyz.specs.Lines.{lines_of}
-use Rattle.lj_xyz.specs.Frames.{pair}
+use Rattle.lj_xyz.specs.Bodies.{pair}
 use Rattle.lj_xyz.proofs.ReadLaws.{frames_stand, fault_stands, pair_counts}
 use Rattle.lj_xyz.proofs.frame_reader.read_pair.Goals as goal
 

@@ -3,7 +3,7 @@ use Rattle.std.specs.Option.{option_copied}
 use Rattle.std.proofs.lemmas.Result.{IfOk-weaker}
 use Rattle.lj_xyz.specs.declared.atom_row.AtomRow.{AtomRow}
 use Rattle.lj_xyz.specs.Lines.{lines_of}
-use Rattle.lj_xyz.specs.Frames.{rest}
+use Rattle.lj_xyz.specs.Bodies.{rest}
 use Rattle.lj_xyz.proofs.ReadLaws.{frames_stand, fault_stands, one_count}
 use Rattle.lj_xyz.proofs.frame_reader.read_rest.Goals as goal
 

@@ -2,7 +2,7 @@ use Rattle.std.proofs.Common.{◌≡◌, ◌<◌, ℕ, Option, length, slice_get
 use Rattle.std.specs.Option.{option_map}
 use Rattle.std.proofs.lemmas.List.Quantifiers.{position-Some}
 use Rattle.std.proofs.lemmas.Option.{slice_get_read}
-use Rattle.lj_access.specs.Rows.{UserRow, is_of, HasTicketLeft, with_ticket}
+use Rattle.lj_access.specs.UserRows.{UserRow, has_credentials, HasTicketLeft, with_ticket}
 use Rattle.lj_access.proofs.RowLemmas.{Writes, changed-written, IsDirectory-written}
 use Rattle.lj_access.proofs.directory.Directory.hello.Goals.{After-grant-number}
 use Rattle.lj_access.proofs.directory.Directory.hello.Goals as goal
@@ -12,7 +12,7 @@ written : (c : After-grant-number)
     → Writes c.self.inside.rows.items c.in_ok-user.user c.index_mut.result.now c.grant-number.new.self with_ticket
 written c =
     let user_is = sym c.user_with.ensures ∙ c.in_ok-user.ensures.ok_part in
-    let is_this = is_of c.args.name.now c.args.token.now in
+    let is_this = has_credentials c.args.name.now c.args.token.now in
     let here = position-Some is_this c.args.self.now c.in_ok-user.user c.index_mut.result.now user_is in
     record {
       within = omega (arith, here.0, ap length c.self.view_is);
@@ -30,7 +30,7 @@ returns-clause-granted c =
     let rows = c.self.inside.rows.items in
     let row = c.index.result.now in
     let user_is = sym c.user_with.ensures ∙ c.in_ok-user.ensures.ok_part in
-    let here = position-Some (is_of c.args.name.now c.args.token.now) c.args.self.now c.in_ok-user.user row user_is in
+    let here = position-Some (has_credentials c.args.name.now c.args.token.now) c.args.self.now c.in_ok-user.user row user_is in
     let within : c.in_ok-user.user < length rows = omega (arith, here.0, ap length c.self.view_is) in
     let read = slice_get_read rows (length rows) c.in_ok-user.user row refl within c.index.ensures in
     let found : slice_get c.args.self.now c.in_ok-user.user ≡ Some row = cc in

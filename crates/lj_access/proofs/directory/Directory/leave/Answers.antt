@@ -1,6 +1,6 @@
 use Rattle.std.proofs.Common.{◌≡◌, ◌<◌, length, slice_get, Some, refl, arith, ap, subst}
 use Rattle.std.proofs.lemmas.Option.{slice_get_read}
-use Rattle.lj_access.specs.Rows.{HasEntered, with_home}
+use Rattle.lj_access.specs.UserRows.{HasEntered, with_home}
 use Rattle.lj_access.proofs.RowLemmas.{Writes, fact_of_row, user_within, changed-written, IsDirectory-written}
 use Rattle.lj_access.proofs.directory.Directory.leave.Goals.{After-take_home}
 use Rattle.lj_access.proofs.directory.Directory.leave.Goals as goal

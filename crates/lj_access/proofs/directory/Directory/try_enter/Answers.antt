@@ -1,6 +1,6 @@
 use Rattle.std.proofs.Common.{◌≡◌, length, slice_get, Some, refl, arith, ap, ◌∙◌}
 use Rattle.std.specs.Option.{option_and_then}
-use Rattle.lj_access.specs.Rows.{UserRow, CanEnter, without_home}
+use Rattle.lj_access.specs.UserRows.{UserRow, CanEnter, without_home}
 use Rattle.lj_access.proofs.RowLemmas.{Writes, user_within, slice_get-read, changed-written, IsDirectory-written}
 use Rattle.lj_access.proofs.directory.Directory.try_enter.Goals.{After-lend}
 use Rattle.lj_access.proofs.directory.Directory.try_enter.Goals as goal

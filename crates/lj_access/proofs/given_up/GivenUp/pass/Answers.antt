@@ -1,14 +1,14 @@
 use Rattle.std.proofs.Common.{◌≡◌, ap, arith, slice_get, Some, subst, sym, ◌∙◌}
 use Rattle.std.specs.List.{remove}
-use Rattle.lj_access.specs.Passing.{IsNext, passed_over}
-use Rattle.lj_access.specs.Rows.{with_row_changed}
+use Rattle.lj_access.specs.Passing.{IsNextTicket, passed_over}
+use Rattle.lj_access.specs.UserRows.{with_row_changed}
 use Rattle.lj_access.proofs.Passing.{Passes, keeps_all, keeps_less, next_within, read_next}
 use Rattle.lj_access.proofs.given_up.GivenUp.pass.Goals.{After-remove-ticket}
 use Rattle.lj_access.proofs.given_up.GivenUp.pass.Goals as goal
 
 -- the ticket that is taken out is the one that is next
 taken : (c : After-remove-ticket) → (slice_get c.loop-at.self c.in-Some.at ≡ Some c.remove-ticket.result)
-    × IsNext c.loop-at.directory c.args.user c.remove-ticket.result
+    × IsNextTicket c.loop-at.directory c.args.user c.remove-ticket.result
 taken c =
     read_next c.loop-at.self c.self.inside.tickets.items c.in-Some.at c.loop-at.directory c.args.user c.remove-ticket.result
     c.self.view_is c.in-Some.ensures.next c.remove-ticket.ensures.value

@@ -1,6 +1,6 @@
 use Rattle.std.proofs.Common.{sym, ap, subst, ◌∙◌, arith}
 use Rattle.std.specs.Prelude.{vec_len}
-use Rattle.lj_tile.specs.Task.{Task}
+use Rattle.lj_task.specs.Task.{Task}
 use Rattle.lj_book.specs.Boxes.{BoxBook, GivesBox, IsOut, LentTask}
 use Rattle.lj_book.proofs.BookLemmas.{entries_put}
 use Rattle.lj_book.proofs.BoxLemmas.{older_put, gives_box, with_inner}

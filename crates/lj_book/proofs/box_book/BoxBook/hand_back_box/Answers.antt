@@ -1,6 +1,6 @@
 use Rattle.std.proofs.Common.{◌<◌, sym, ap, subst, ◌∙◌, arith}
 use Rattle.std.specs.Prelude.{vec_len}
-use Rattle.lj_tile.specs.Task.{Task}
+use Rattle.lj_task.specs.Task.{Task}
 use Rattle.lj_book.specs.Book.{Reopens, entry_at}
 use Rattle.lj_book.specs.Boxes.{BoxBook, HandsBackBox, IsBelow, IsOut, LentTask, Numbered}
 use Rattle.lj_book.proofs.BookLemmas.{entries_put}

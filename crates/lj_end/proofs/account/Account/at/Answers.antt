@@ -1,13 +1,13 @@
 use Rattle.std.proofs.Common.{◌<◌, None, Some, length, get_or, sym, ap, ◌∙◌, subst, arith}
 use Rattle.std.proofs.lemmas.List.{get_or_default}
 use Rattle.std.proofs.lemmas.Option.{slice_get-get_or}
-use Rattle.lj_tile.specs.Blank.{blank_task}
+use Rattle.lj_task.specs.Blank.{blank_task}
 use Rattle.lj_end.specs.declared.pool.TheConstants.{MAX_OWED}
 use Rattle.lj_end.proofs.Places.{place_within, task_at}
 use Rattle.lj_end.proofs.account.Account.at.Goals as goal
 
 pub bounds-self-inside-place : goal.bounds-self-inside-place
-bounds-self-inside-place c =
+bounds-self-inside-place g c =
     let kept = c.self.invariant.0 in
     let inside : c.args.here < c.self.inside.owed =
     omega (arith, c.requires, kept.count, ap (λ s. length s.owed) c.self.view_is) in
@@ -16,10 +16,10 @@ bounds-self-inside-place c =
     (place_within c.self.inside.places.items kept.once c.args.here (omega (arith, kept.all, kept.most, inside)))
 
 pub listed : goal.listed
-listed c = omega (arith, bounds-self-inside-place c, c.self.invariant.0.size)
+listed g c = omega (arith, bounds-self-inside-place g c, c.self.invariant.0.size)
 
 pub returns : goal.returns
-returns c =
+returns g c =
     let kept = c.self.invariant.0 in
     let tasks = c.self.inside.tasks in
     let here = c.args.here in

@@ -1,11 +1,11 @@
 use Rattle.std.proofs.Common.{◌≡◌, ap, sym, ◌∙◌, inl, inr, rules}
-use Rattle.lj_tile.specs.declared.task_name.TaskName.{TaskName}
+use Rattle.lj_task.specs.declared.task_name.TaskName.{TaskName}
 use Rattle.lj_step.specs.OpenSteps.{tile_number}
 use Rattle.lj_end.proofs.Places.{is_stray, of_another_tile, taken_off, returns_by_name}
 use Rattle.lj_end.proofs.account.Account.count_by_name.Goals as goal
 
 pub returns-in-Some-clause-handed_out : goal.returns-in-Some-clause-handed_out
-returns-in-Some-clause-handed_out c =
+returns-in-Some-clause-handed_out g c =
     let counted = c.count_owed.ensures in
     let task = c.args.task.now in
     let owed = c.args.self.now.owed in
@@ -17,7 +17,7 @@ returns-in-Some-clause-handed_out c =
     ])) counted.owed counted.expected counted.strays)
 
 pub returns-in-None-clause-handed_out : goal.returns-in-None-clause-handed_out
-returns-in-None-clause-handed_out c =
+returns-in-None-clause-handed_out g c =
     let counted = c.count_stray.ensures in
     let task = c.args.task.now in
     let owed = c.args.self.now.owed in

@@ -1,6 +1,6 @@
 use Rattle.std.specs.Prelude.{◌≡◌, ◌<◌, ℕ, false, length, slice_index_or}
 use Rattle.std.specs.Fn.{FnReturnsAt}
-use Rattle.lj_tile.specs.Blank.{blank_task}
+use Rattle.lj_task.specs.Blank.{blank_task}
 use Rattle.lj_end.specs.Accounts.{AnswersOf}
 use Rattle.lj_end.proofs.account.Account.find.Given as goal
 

@@ -2,13 +2,13 @@ use Rattle.std.proofs.Common.{◌≡◌, ◌<◌, ◌+◌, ◌++◌, ◌∷◌, 
 use Rattle.lj_end.specs.declared.pool.TheConstants.{MAX_OWED}
 use Rattle.std.specs.Prelude.{map}
 use Rattle.std.proofs.lemmas.List.{map-append}
-use Rattle.lj_end.specs.Accounts.{IsKept, tasks_owed}
+use Rattle.lj_end.specs.Accounts.{IsKeptAccount, tasks_owed}
 use Rattle.lj_step.specs.OpenSteps.{tile_number_of}
 use Rattle.lj_end.proofs.Places.{place_within, works_posted, kept_posted}
 use Rattle.lj_end.proofs.account.Account.post.Goals as goal
 
 pub bounds-self-inside-place : goal.bounds-self-inside-place
-bounds-self-inside-place c =
+bounds-self-inside-place g c =
     let kept = c.self.invariant.0 in
     let owed = c.self.inside.owed in
     let room : owed < MAX_OWED = omega (arith, c.requires, kept.count, ap (λ s. length s.owed) c.self.view_is) in
@@ -17,10 +17,10 @@ bounds-self-inside-place c =
     (place_within c.self.inside.places.items kept.once owed (omega (arith, kept.all, room)))
 
 pub listed : goal.listed
-listed c = omega (arith, bounds-self-inside-place c, c.self.invariant.0.size)
+listed g c = omega (arith, bounds-self-inside-place g c, c.self.invariant.0.size)
 
 pub invariant_of-self : goal.invariant_of-self
-invariant_of-self c =
+invariant_of-self g c =
     let kept = c.self.invariant.0 in
     let owed = c.self.inside.owed in
     let tasks = c.self.inside.tasks in
@@ -33,8 +33,8 @@ invariant_of-self c =
     ap (λ slot. tasks_owed (set tasks c.from-place.result slot) (take (owed + 1) places)) c.keep-tile.ensures.kept
     ∙ ap (λ k. tasks_owed (set tasks k (Some task)) (take (owed + 1) places)) is
     ∙ works_posted tasks places owed task kept room in (
-      subst (λ slot. IsKept (set tasks c.from-place.result slot) places (owed + 1)) (sym c.keep-tile.ensures.kept)
-          (subst (λ k. IsKept (set tasks k (Some task)) places (owed + 1)) (sym is) (kept_posted tasks places owed task kept room)),
+      subst (λ slot. IsKeptAccount (set tasks c.from-place.result slot) places (owed + 1)) (sym c.keep-tile.ensures.kept)
+          (subst (λ k. IsKeptAccount (set tasks k (Some task)) places (owed + 1)) (sym is) (kept_posted tasks places owed task kept room)),
       c.push.ensures.items
           ∙ ap (λ tiles. tiles ++ c.keep-tile.result ∷ []) c.self.invariant.1
           ∙ ap (λ tile. map tile_number_of (tasks_owed tasks (take owed places)) ++ tile ∷ []) c.keep-tile.ensures.tile
@@ -42,7 +42,7 @@ invariant_of-self c =
     )
 
 pub returns-clause-posted : goal.returns-clause-posted
-returns-clause-posted c =
+returns-clause-posted g c =
     let kept = c.self.invariant.0 in
     let owed = c.self.inside.owed in
     let tasks = c.self.inside.tasks in

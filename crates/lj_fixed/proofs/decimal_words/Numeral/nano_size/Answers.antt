@@ -3,7 +3,7 @@ use Rattle.std.proofs.Common.{◌≡◌, ◌≤ℤ◌, ◌∙◌, ap, arith, rul
 use Rattle.std.proofs.lemmas.Int.{ints, to_z-of_z}
 use Rattle.std.specs.Prelude.{nat_abs}
 use Rattle.lj_fixed.specs.Decimal.{rounded_quotient}
-use Rattle.lj_fixed.specs.Reading.{number_within_limit}
+use Rattle.lj_fixed.specs.WordParts.{number_within_limit}
 use Rattle.lj_fixed.proofs.Answered.{size_up}
 use Rattle.lj_fixed.proofs.decimal_words.Numeral.nano_size.Goals as goal
 

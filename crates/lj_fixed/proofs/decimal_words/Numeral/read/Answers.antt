@@ -2,7 +2,7 @@
 use Rattle.std.proofs.Common.{ℕ, ◌<◌, List, length, subst, sym, ◌∙◌, ap, arith, rules, FitsSigned, w32}
 use Rattle.std.proofs.lemmas.Int.{to_z-of_z}
 use Rattle.std.specs.Str.Parse.{digits_value, without_leading_sign}
-use Rattle.lj_fixed.specs.Reading.{Leads, fraction_of, tail_of}
+use Rattle.lj_fixed.specs.WordParts.{Leads, fraction_of, tail_of}
 use Rattle.lj_fixed.proofs.Grammar.{read_digits, decimal_of-long, decimal_of-empty}
 use Rattle.lj_fixed.proofs.Answered.{Exponent, decimal_of-no_exponent, decimal_of-exponent}
 use Rattle.lj_fixed.proofs.decimal_words.Numeral.read.Goals as goal

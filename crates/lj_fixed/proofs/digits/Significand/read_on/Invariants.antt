@@ -1,7 +1,7 @@
 use Rattle.std.proofs.Common.{◌≡◌, ℕ, ◌+◌, ◌<◌, ◌≤◌, true, take, get_or}
 use Rattle.std.specs.Char.{is_ascii_digit}
 use Rattle.std.specs.Str.Parse.{digits_value_after}
-use Rattle.lj_fixed.specs.Reading.{Leads}
+use Rattle.lj_fixed.specs.WordParts.{Leads}
 use Rattle.lj_fixed.proofs.digits.Significand.read_on.Given as goal
 
 abbrev pub invariant-loop-count : goal.invariant-loop-count

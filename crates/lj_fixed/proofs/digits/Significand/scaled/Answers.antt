@@ -1,7 +1,7 @@
 -- The front of the number, moved by as many places, rounds to what the number does; where digits were dropped and none
 -- of the others is rounded away, both are beyond the limit.
 use Rattle.std.proofs.Common.{◌∙◌, ap, sym}
-use Rattle.lj_fixed.specs.Reading.{number_within_limit}
+use Rattle.lj_fixed.specs.WordParts.{number_within_limit}
 use Rattle.lj_fixed.proofs.Leading.{then_some_within, within_limit_above, rounded_above_sub, rounded_below_sub}
 use Rattle.lj_fixed.proofs.digits.Significand.scaled.Goals as goal
 use Rattle.lj_fixed.proofs.digits.Significand.scaled.Goals.{then-up-down+in_ok-size, else-up-down}

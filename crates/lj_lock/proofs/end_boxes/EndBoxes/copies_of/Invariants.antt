@@ -1,5 +1,5 @@
 use Rattle.std.proofs.Common.{◌≡◌, ◌+◌, ◌<◌, ◌≤◌, ℕ, Some, None, length, get_or}
-use Rattle.lj_tile.specs.Blank.{blank_task}
+use Rattle.lj_task.specs.Blank.{blank_task}
 use Rattle.lj_lock.specs.declared.end_boxes.TheConstants.{MAX_SPARE}
 use Rattle.lj_lock.proofs.end_boxes.EndBoxes.copies_of.Given as goal
 

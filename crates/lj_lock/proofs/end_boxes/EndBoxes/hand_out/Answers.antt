@@ -2,7 +2,7 @@ use Rattle.std.proofs.Common.{◌<◌, ◌+◌, Some, cond, length, map, get_or,
 use Rattle.std.specs.Prelude.{is_some}
 use Rattle.std.specs.List.{remove}
 use Rattle.std.proofs.lemmas.List.{length-map}
-use Rattle.lj_tile.specs.Blank.{blank_task}
+use Rattle.lj_task.specs.Blank.{blank_task}
 use Rattle.lj_lock.specs.EndBoxes.{ArePlaced, EndBoxes, result_in}
 use Rattle.lj_lock.proofs.EndBoxLemmas.{map-remove, placed_left, read_result}
 use Rattle.lj_lock.proofs.end_boxes.EndBoxes.hand_out.Goals as goal

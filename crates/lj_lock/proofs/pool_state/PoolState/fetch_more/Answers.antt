@@ -1,7 +1,7 @@
 use Rattle.std.proofs.Common.{◌≡◌, ◌+◌, ◌++◌, ◌∷◌, [], length, ap, ◌∙◌, arith}
 use Rattle.std.proofs.lemmas.List.{append_assoc, length_push}
 use Rattle.std.proofs.lemmas.List.Elements.{All-push}
-use Rattle.lj_book.specs.Book.{user_of}
+use Rattle.lj_book.specs.Book.{user_of_task}
 use Rattle.lj_lock.specs.EndBoxes.{EndBoxes}
 use Rattle.lj_lock.proofs.EndBoxLemmas.{fetches_more, users_result}
 use Rattle.lj_lock.proofs.pool_state.PoolState.fetch_more.Goals as goal
@@ -24,7 +24,7 @@ loop-in_hand-preserved g c =
         ap (λ (own : EndBoxes). own.hand) pushed ∙ ap (λ front. front ++ done ∷ []) before.others.1
             ∙ append_assoc c.args.own.now.hand before.others.0 (done ∷ []),
         fetches_more before.others.0 done _ _ _ next.0 before.others.2 next.1.fetches,
-        All-push (λ task. user_of task ≡ c.args.user) before.others.0 done before.others.3
+        All-push (λ task. user_of_task task ≡ c.args.user) before.others.0 done before.others.3
             (users_result _ _ _ _ _ next.1.fetches next.2.passes),
       );
       kept = omega (arith, before.kept, one_more, next.1.boxes);

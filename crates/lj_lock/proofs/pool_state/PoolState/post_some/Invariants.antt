@@ -1,6 +1,6 @@
 use Rattle.std.proofs.Common.{◌≡◌, ◌<◌, ◌≤◌, ℕ, None, length, get_or, take}
 use Rattle.std.specs.Option.{ForSome}
-use Rattle.lj_tile.specs.Blank.{blank_task}
+use Rattle.lj_task.specs.Blank.{blank_task}
 use Rattle.lj_lock.specs.PoolStates.{PostsEach}
 use Rattle.lj_lock.specs.Copies.{HandsOver}
 use Rattle.lj_lock.proofs.pool_state.PoolState.post_some.Given as goal

@@ -1,5 +1,5 @@
 use Rattle.std.specs.Prelude.{◌≡◌}
-use Rattle.lj_lock.specs.EndBoxes.{box_count}
+use Rattle.lj_lock.specs.EndBoxes.{end_box_count}
 use Rattle.lj_lock.specs.PoolStates.{NoneIsLost}
 use Rattle.lj_lock.proofs.pool_state.PoolState.put_all_by.Given as goal
 
@@ -10,4 +10,4 @@ invariant-loop-lent g l = record {
 }
 
 abbrev pub decreases-loop-lent : goal.decreases-loop-lent
-decreases-loop-lent g l = box_count l.left
+decreases-loop-lent g l = end_box_count l.left

@@ -1,6 +1,7 @@
 use Rattle.std.proofs.Common.{ℕ, ◌≡◌, ◌+◌, ◌*◌, ◌<◌, slice_index, subst, arith}
-use Rattle.lj_ring.specs.Bins.{near_bin, lane_square}
+use Rattle.lj_ring.specs.Bins.{near_bin}
 use Rattle.lj_ring.specs.Kept.{cut_of}
+use Rattle.lj_ring.specs.LaneArithmetic.{lane_square}
 use Rattle.lj_ring.specs.Scale.{Scale}
 use Rattle.lj_ring.proofs.BinLemmas.{reciprocal_small, cut_fits, cut_sum_most, near_bin_lane}
 use Rattle.lj_ring.proofs.scales.Scale.bins.Goals as goal
@@ -24,12 +25,13 @@ pub returns-clause-value : goal.returns-clause-value
 returns-clause-value c k l =
     let sigma : ℕ = c.self.inside.sigma in
     let some : 0 < sigma * sigma = grind arith in
-    let P : Scale → Type 0 = λ u. slice_index c.least.result k
+    let P : Scale → Type 0 = λ u. slice_index c.min.result k
     ≡ near_bin u (lane_square c.args.x k + lane_square c.args.y k + lane_square c.args.z k) in
     subst P c.self.view_is
     (rw (
-      c.least.ensures k l,
-      c.narrowed.ensures k l,
+      c.min.ensures k l,
+      c.splat.ensures k l,
+      c.cast_u32.ensures k l,
       c.quotients-quotients.ensures.value k l,
       c.squares_cut_off-squared.ensures k l,
       c.self.invariant.square_is,

@@ -25,7 +25,7 @@ invariant_of-self c = either-way c.accept_from.result c.accept_from.ensures.take
       at_work = subst (λ (state : UserState). IsAtWork waiting state) (sym is)
           (at_work-taken waiting old c.name.result.now.label.session (tile_number_of c.args.done.now) c.self.invariant.at_work);
       some = turns-some waiting old c.accept_from.new.self (λ command w. turns-kept old c.accept_from.new.self command c.accept_from.ensures.user
-          (λ other waits. ap (λ (state : UserState). pending_in state other) is ∙ pending-changed old c.name.result.now.label.session tile (λ held. refl) other))
+          (λ other waits. ap (λ (state : UserState). pending_in state other) is ∙ pending-changed old c.name.result.now.label.session tile (λ session. refl) other))
           c.self.invariant.some;
     }
 

@@ -29,9 +29,9 @@ finish_step-requires-clause-pending c =
     unwaited-pending c.self.inside.waiting c.self.inside.state c.args.name.now (unwaited c) (whole c) c.self.invariant.at_work
 
 pub finish_step-requires-clause-whole : goal.finish_step-requires-clause-whole
-finish_step-requires-clause-whole c = λ held there.
+finish_step-requires-clause-whole c = λ session there.
     forces c.self.inside.waiting c.self.inside.state c.args.name.now (whole c) c.self.invariant.at_work
-    (finish_step-requires-clause-pending c) held there
+    (finish_step-requires-clause-pending c) session there
 
 pub invariant_of-self : goal.invariant_of-self
 invariant_of-self c =
@@ -71,10 +71,10 @@ some_of : (pending found : ℕ) → (found ≡ 0 → ⊥) → found ≡ pending 
 some_of pending found some is = omega (arith, some, is)
 
 pub measured-reply-requires-clause-whole : goal.measured-reply-requires-clause-whole
-measured-reply-requires-clause-whole c = λ held there.
+measured-reply-requires-clause-whole c = λ session there.
     let p = goal.at.measured-reply-requires-clause-whole c in
     measured-whole (owner_of_kept c.self.inside) c.args.name.now c.in_ok-command.command c.in_ok-command.ensures.value
-    (waited_for p.After-pending) c.self.invariant.at_work (whole_for p.After-pending) (none p.Then-pending-eq0) held
+    (waited_for p.After-pending) c.self.invariant.at_work (whole_for p.After-pending) (none p.Then-pending-eq0) session
     (ap (live_session c.self.inside.state) (sym c.copy.ensures) ∙ there)
 
 pub invariant_of-self-then-pending-eq0 : goal.invariant_of-self-then-pending-eq0

@@ -4,7 +4,7 @@ use Rattle.std.proofs.lemmas.Option.{slice_get-map}
 use Rattle.std.specs.Option.{option_copied_mut}
 use Rattle.indexmap.specs.IndexMap.{set_value_at}
 use Rattle.lj_step.specs.OpenSteps.{tile_number_of}
-use Rattle.lj_session.specs.UserState.{LiveSession, UserState, live_session, live_session_at, names, settled_session, with_tile_in}
+use Rattle.lj_session.specs.UserState.{LiveSession, UserState, live_session, live_session_at, loaded_names, settled_session, with_tile_in}
 use Rattle.lj_session.proofs.Entries.{set_at-name}
 use Rattle.lj_session.proofs.Indices.{index-none, index-held, index-named}
 use Rattle.lj_session.proofs.Results.{on_ok-then, on_err-then, same-either}
@@ -32,7 +32,7 @@ written c =
     writes name c.self.invariant c.self.view_is
     (sym (ap (λ (o : UserState). live_session o name) c.self.view_is ∙ there c))
     (set_at-name c.self.inside.sessions.entries c.in-Some.i name c.accept_from.new.self c.get_index_mut.ensures.unique
-    (ap (λ (o : UserState). slice_get (names o) c.in-Some.i) c.self.view_is
+    (ap (λ (o : UserState). slice_get (loaded_names o) c.in-Some.i) c.self.view_is
     ∙ index-named c.args.self.now name c.in-Some.i (sym c.in-Some.ensures)))
 
 -- its settled session is the same

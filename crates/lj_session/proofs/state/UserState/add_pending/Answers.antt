@@ -20,9 +20,9 @@ advanced c =
 
 pub invariant_of-self-2 : goal.invariant_of-self-2
 invariant_of-self-2 c =
-    let held = c.in-Some.session.now in
+    let session = c.in-Some.session.now in
     let wrote = writes c.args.name.now c.self.invariant c.self.view_is c.in-Some.ensures.value (c.get_mut.follows.holds c.add_pending.new.self).0 in record {
-      counted = totals_as wrote _ c.add_pending.ensures (count-added c.args.steps held) (saved-added c.args.steps held);
+      counted = totals_as wrote _ c.add_pending.ensures (count-added c.args.steps session) (saved-added c.args.steps session);
       reached = reached_answered wrote (Advance c.args.name.now c.args.steps)
           (advanced (goal.at.invariant_of-self-2 c).After-add_pending);
     }

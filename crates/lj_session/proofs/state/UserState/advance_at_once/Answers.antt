@@ -17,21 +17,21 @@ returns-in_default c = λ mark.
 pub returns-then-not-can_advance : goal.returns-then-not-can_advance
 returns-then-not-can_advance c = λ mark.
     let old = c.args.self.now in
-    let held = c.in-Some.session.now in
-    (performing.steps-far (user_of old) c.args.name mark (settled_session held)
-    (named-held old c.args.name held (sym c.in-Some.ensures)) c.args.steps
+    let session = c.in-Some.session.now in
+    (performing.steps-far (user_of old) c.args.name mark (settled_session session)
+    (named-held old c.args.name session (sym c.in-Some.ensures)) c.args.steps
     (sym c.can_advance.ensures ∙ c.if-not-can_advance.true)).0
 
 pub returns : goal.returns
 returns c = λ mark.
     let old = c.args.self.now in
-    let held = c.in-Some.session.now in
+    let session = c.in-Some.session.now in
     let found = sym c.in-Some.ensures in
     let near = sym c.can_advance.ensures ∙ c.if-not-can_advance.false in
     let none =
-    sym (advance-turns-near (user_of old) c.args.name c.args.steps (settled_session held)
-    (named-held old c.args.name held found) near) ∙ c.requires.turns in
+    sym (advance-turns-near (user_of old) c.args.name c.args.steps (settled_session session)
+    (named-held old c.args.name session found) near) ∙ c.requires.turns in
     ap (λ n. command_result (user_of old) (Advance c.args.name n) mark) none
-    ∙ outcomes.advance-nothing old c.args.name held found (ap (can_advance (settled_session held)) (sym none) ∙ near) mark
+    ∙ outcomes.advance-nothing old c.args.name session found (ap (can_advance (settled_session session)) (sym none) ∙ near) mark
     ∙ ap (λ s. Ok (reply.Advanced c.args.name s, user_of old))
     (sym (read-step c.target-step.result c.target-step.ensures.most ∙ c.target-step.ensures.value))

@@ -12,6 +12,6 @@ returns-in_default c = λ mark.
 pub returns : goal.returns
 returns c = λ mark.
     let old = c.args.self.now in
-    let held = c.in-Some._session.now in
-    performing.dump-done (user_of old) c.args.name mark (settled_session held)
-    (named-held old c.args.name held (sym c.in-Some.ensures))
+    let session = c.in-Some._session.now in
+    performing.dump-done (user_of old) c.args.name mark (settled_session session)
+    (named-held old c.args.name session (sym c.in-Some.ensures))

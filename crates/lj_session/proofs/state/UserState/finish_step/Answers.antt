@@ -5,16 +5,16 @@ use Rattle.lj_session.proofs.Writing.{writes, some_pending, changed_by, user_kep
 use Rattle.lj_session.proofs.state.UserState.finish_step.Goals as goal
 
 -- the session that is meant stays
-meant : (new held : LiveSession) → new ≡ with_step_finished held → 0 < held.pending → settled_session new ≡ settled_session held
-meant new held is some = ap settled_session is ∙ meant-passed held some
+meant : (new session : LiveSession) → new ≡ with_step_finished session → 0 < session.pending → settled_session new ≡ settled_session session
+meant new session is some = ap settled_session is ∙ meant-passed session some
 
 pub invariant_of-self-2 : goal.invariant_of-self-2
 invariant_of-self-2 c =
-    let held = c.in-Some.session.now in
+    let session = c.in-Some.session.now in
     let wrote = writes c.args.name.now c.self.invariant c.self.view_is c.in-Some.ensures.value (c.get_mut.follows.holds c.finish_step.new.self).0 in record {
-      counted = totals_as wrote _ c.finish_step.ensures (count-passed held) (saved-passed held);
-      reached = reached_kept wrote (meant _ held c.finish_step.ensures (some_pending c.self.inside c.args.self.now c.self.view_is
-          c.args.name.now held c.in-Some.ensures.value c.requires.pending));
+      counted = totals_as wrote _ c.finish_step.ensures (count-passed session) (saved-passed session);
+      reached = reached_kept wrote (meant _ session c.finish_step.ensures (some_pending c.self.inside c.args.self.now c.self.view_is
+          c.args.name.now session c.in-Some.ensures.value c.requires.pending));
     }
 
 pub returns-clause-passed : goal.returns-clause-passed

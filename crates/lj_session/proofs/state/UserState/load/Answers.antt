@@ -1,7 +1,7 @@
 use Rattle.std.proofs.Common.{◌≡◌, ◌+◌, false, length, Result, Ok, Err, refl, sym, ap, subst, ◌∙◌, rules}
 use Rattle.std.specs.Result.{OnErr}
 use Rattle.lj_xyz.specs.Lines.{lines_of}
-use Rattle.lj_xyz.specs.Reading.{reading, Fails}
+use Rattle.lj_xyz.specs.Reading.{reading, FailsAs}
 use Rattle.lj_quota.specs.declared.Over.TheVariants.{Atoms}
 use Rattle.lj_session.specs.declared.refusal.Refusal.TheVariants.{Memory}
 use Rattle.lj_session.specs.Faults.{quota_refusal, xyz_refusal}
@@ -57,7 +57,7 @@ returns-in_err-parsed-clause-performs c =
     c.from_residual-in_err-parsed.ensures.1
     (loading.not-read old old c.args.load c.in_ok-mix.mix (sym c.in_ok-mix.ensures)
     c.in-Read.body c.in-Read.is c.in_err-parsed.field-0.0
-    (subst (λ symbols. Fails c.in_err-parsed.field-0.0
+    (subst (λ symbols. FailsAs c.in_err-parsed.field-0.0
     (reading symbols (reading_mode c.args.load.mode) (lines_of c.in-Read.body)))
     c.symbols-symbols.ensures c.in_err-parsed.ensures)))
 

@@ -10,10 +10,10 @@ use Rattle.lj_session.proofs.state.UserState.measured.Goals as goal
 pub returns : goal.returns
 returns c = λ mark.
     let old = c.args.self.now in
-    let held = c.session.result.now in
+    let session = c.session.result.now in
     let live = c.sim-sim.ensures in
-    performing.measure-done (user_of old) c.args.name mark (as_session held)
-    (named-settled old c.args.name held c.session.ensures (pending-of old c.args.name held c.session.ensures c.requires.settled))
+    performing.measure-done (user_of old) c.args.name mark (as_session session)
+    (named-settled old c.args.name session c.session.ensures (pending-of old c.args.name session c.session.ensures c.requires.settled))
     ∙ measured (user_of old) c.args.name _ _ _ _ _ _ _ _ _ _
     (read-step c.step.result c.step.ensures.most ∙ (c.step.ensures.value ∙ ap (λ (l : Sim). l.sim.step) live))
     (c.count.ensures.value ∙ ap (λ (l : Sim). length l.sim.cur) live)

@@ -9,12 +9,12 @@ use Rattle.lj_session.proofs.state.UserState.perform.Goals as goal
 pub returns-in-List-clause-performs : goal.returns-in-List-clause-performs
 returns-in-List-clause-performs c =
     let old = c.args.self.now in
-    rw c.in-List.is (done old old _ _ (list-done (user_of old) false) (λ other apart. refl) (steps-same old List (λ name held is there. tt)))
+    rw c.in-List.is (done old old _ _ (list-done (user_of old) false) (λ other apart. refl) (steps-same old List (λ name session is there. tt)))
 
 pub returns-in-Bye-clause-performs : goal.returns-in-Bye-clause-performs
 returns-in-Bye-clause-performs c =
     let old = c.args.self.now in
-    rw c.in-Bye.is (done old old _ _ (bye-done (user_of old) false) (λ other apart. refl) (steps-same old Bye (λ name held is there. tt)))
+    rw c.in-Bye.is (done old old _ _ (bye-done (user_of old) false) (λ other apart. refl) (steps-same old Bye (λ name session is there. tt)))
 
 pub reverse-requires : goal.reverse-requires
 unfolding waits_for

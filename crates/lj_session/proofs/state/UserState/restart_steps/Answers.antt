@@ -4,7 +4,7 @@ use Rattle.std.specs.Option.{option_copied_mut}
 use Rattle.std.specs.Str.{bytes_eq}
 use Rattle.indexmap.specs.IndexMap.{set_value_at}
 use Rattle.lj_quota.specs.declared.Quota.{Quota}
-use Rattle.lj_session.specs.UserState.{LiveSession, UserState, Reached, names, with_steps_restarted, used_by, user_of}
+use Rattle.lj_session.specs.UserState.{LiveSession, UserState, Reached, loaded_names, with_steps_restarted, used_by, user_of}
 use Rattle.lj_session.proofs.Reaching.{reached-same}
 use Rattle.lj_session.proofs.Resting.{rested_to, rested_at, rested_next, rested_all, rested_used, rested_names, length-rested_to}
 use Rattle.lj_session.proofs.Waiting.{rested_user}
@@ -42,7 +42,7 @@ returns-clause-rested c = all c
 
 pub returns-clause-distinct : goal.returns-clause-distinct
 returns-clause-distinct c = subst (λ (l : List (List ℕ)). IsDistinct bytes_eq l)
-    (ap names c.self.view_is ∙ sym (ap names (all c) ∙ rested_names c.args.self.now.sessions)) c.len-i-end.ensures.unique
+    (ap loaded_names c.self.view_is ∙ sym (ap loaded_names (all c) ∙ rested_names c.args.self.now.sessions)) c.len-i-end.ensures.unique
 
 pub returns-clause-user : goal.returns-clause-user
 returns-clause-user c = ap user_of (all c) ∙ rested_user c.args.self.now

@@ -22,12 +22,12 @@ invariant_of-self-in_err-restore c =
 
 pub returns-in_err-restore-clause-performs : goal.returns-in_err-restore-clause-performs
 returns-in_err-restore-clause-performs c =
-    let held = c.in-Some.session.now in
+    let session = c.in-Some.session.now in
     performs-refused c.args.self.now _ _ c.from_residual.result _ c.from_residual.ensures.1
     (performing.refused c.args.self.now _ _ _ (performing.no_branch (user_of c.args.self.now)
-    c.args.name false (as_session held)
-    (is_settled c.self.inside c.args.self.now c.self.view_is c.args.name held c.in-Some.ensures.value c.requires)
-    c.args.branch (none-if (value_named c.args.branch held.saved) c.in_err-restore.ensures.found.1)).0)
+    c.args.name false (as_session session)
+    (is_settled c.self.inside c.args.self.now c.self.view_is c.args.name session c.in-Some.ensures.value c.requires)
+    c.args.branch (none-if (value_named c.args.branch session.saved) c.in_err-restore.ensures.found.1)).0)
 
 pub returns-in_err-restore-clause-unchanged : goal.returns-in_err-restore-clause-unchanged
 returns-in_err-restore-clause-unchanged c =
@@ -36,28 +36,28 @@ returns-in_err-restore-clause-unchanged c =
 
 pub invariant_of-self-2 : goal.invariant_of-self-2
 invariant_of-self-2 c =
-    let held = c.in-Some.session.now in
+    let session = c.in-Some.session.now in
     let saved =
-    some-with (λ sim. c.restore.new.self ≡ with_simulation held sim) (value_named c.args.branch held.saved)
+    some-with (λ sim. c.restore.new.self ≡ with_simulation session sim) (value_named c.args.branch session.saved)
     (c.in_ok-restore.ensures.found.0 refl) c.in_ok-restore.ensures.restored in
     let wrote = writes c.args.name c.self.invariant c.self.view_is c.in-Some.ensures.value (c.get_mut.follows.holds c.restore.new.self).0 in record {
       counted = totals_kept wrote c.in_ok-restore.ensures.count (ap (λ (h : LiveSession). length h.saved) saved.2);
       reached = reached_as wrote _ _ _
-          (outcomes.restore c.args.self.now c.args.name held wrote.found
-          (none_pending c.self.inside c.args.self.now c.self.view_is c.args.name held c.in-Some.ensures.value c.requires)
+          (outcomes.restore c.args.self.now c.args.name session wrote.found
+          (none_pending c.self.inside c.args.self.now c.self.view_is c.args.name session c.in-Some.ensures.value c.requires)
           c.args.branch saved.0 saved.1) saved.2;
     }
 
 pub returns-clause-performs : goal.returns-clause-performs
 returns-clause-performs c =
-    let held = c.in-Some.session.now in
+    let session = c.in-Some.session.now in
     let wrote = writes c.args.name c.self.invariant c.self.view_is c.in-Some.ensures.value (c.get_mut.follows.holds c.restore.new.self).0 in
     let saved =
-    some-with (λ sim. c.restore.new.self ≡ with_simulation held sim) (value_named c.args.branch held.saved)
+    some-with (λ sim. c.restore.new.self ≡ with_simulation session sim) (value_named c.args.branch session.saved)
     (c.in_ok-restore.ensures.found.0 refl) c.in_ok-restore.ensures.restored in
     done_at wrote _ (reply.Restored c.args.name c.args.branch) _ _ _
-    (outcomes.restore c.args.self.now c.args.name held wrote.found
-    (none_pending c.self.inside c.args.self.now c.self.view_is c.args.name held c.in-Some.ensures.value c.requires) c.args.branch saved.0 saved.1)
+    (outcomes.restore c.args.self.now c.args.name session wrote.found
+    (none_pending c.self.inside c.args.self.now c.self.view_is c.args.name session c.in-Some.ensures.value c.requires) c.args.branch saved.0 saved.1)
     (read-step c.step-step.result c.step-step.ensures.most
     ∙ (c.step-step.ensures.value ∙ ap (λ (l : Sim). l.sim.step) c.sim.ensures
     ∙ ap (λ (h : LiveSession). h.live.sim.step) saved.2)) saved.2

@@ -13,11 +13,11 @@ returns-in_default-clause-performs c =
 
 pub invariant_of-self-2 : goal.invariant_of-self-2
 invariant_of-self-2 c =
-    let held = c.in-Some.session.now in
+    let session = c.in-Some.session.now in
     let wrote = writes c.args.name c.self.invariant c.self.view_is c.in-Some.ensures.value (c.get_mut.follows.holds c.reverse.new.self).0 in record {
       counted = totals_kept wrote c.reverse.ensures.count (ap (λ (h : LiveSession). length h.saved) c.reverse.ensures.value);
-      reached = reached_as wrote _ _ _ (outcomes.reverse c.args.self.now c.args.name held wrote.found
-          (none_pending c.self.inside c.args.self.now c.self.view_is c.args.name held c.in-Some.ensures.value c.requires))
+      reached = reached_as wrote _ _ _ (outcomes.reverse c.args.self.now c.args.name session wrote.found
+          (none_pending c.self.inside c.args.self.now c.self.view_is c.args.name session c.in-Some.ensures.value c.requires))
           c.reverse.ensures.value;
     }
 

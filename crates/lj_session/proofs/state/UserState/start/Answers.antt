@@ -31,19 +31,19 @@ returns-then-not-can_advance-clause-unchanged c =
 
 pub invariant_of-self-2 : goal.invariant_of-self-2
 invariant_of-self-2 c =
-    let held = c.in-Some.session.now in
+    let session = c.in-Some.session.now in
     let wrote = writes c.args.name c.self.invariant c.self.view_is c.in-Some.ensures.value (c.get_mut.follows.holds c.add_pending.new.self).0 in record {
-      counted = totals_as wrote _ c.add_pending.ensures (count-added c.args.steps held) (saved-added c.args.steps held);
-      reached = reached_as wrote _ _ _ (outcomes.start c.args.self.now c.args.name held wrote.found c.args.steps
+      counted = totals_as wrote _ c.add_pending.ensures (count-added c.args.steps session) (saved-added c.args.steps session);
+      reached = reached_as wrote _ _ _ (outcomes.start c.args.self.now c.args.name session wrote.found c.args.steps
           (sym c.can_advance.ensures ∙ c.if-not-can_advance.false)) c.add_pending.ensures;
     }
 
 pub returns-clause-performs : goal.returns-clause-performs
 returns-clause-performs c =
-    let held = c.in-Some.session.now in
+    let session = c.in-Some.session.now in
     let wrote = writes c.args.name c.self.invariant c.self.view_is c.in-Some.ensures.value (c.get_mut.follows.holds c.add_pending.new.self).0 in
     done_at wrote _ (reply.Started c.args.name) _ _ _
-    (outcomes.start c.args.self.now c.args.name held wrote.found c.args.steps
+    (outcomes.start c.args.self.now c.args.name session wrote.found c.args.steps
     (sym c.can_advance.ensures ∙ c.if-not-can_advance.false))
     (read-step c.target-step.result c.target-step.ensures.most
     ∙ (c.target-step.ensures.value ∙ ap (λ (h : LiveSession). (settled_session h).sim.step) c.add_pending.ensures)) c.add_pending.ensures

@@ -20,12 +20,12 @@ invariant_of-self-then-atom-count c =
 
 pub returns-then-atom-count-clause-performs : goal.returns-then-atom-count-clause-performs
 returns-then-atom-count-clause-performs c =
-    let held = c.in-Some.session.now in
+    let session = c.in-Some.session.now in
     performing.refused c.args.self.now _ _ _ (performing.tug-no_atom (user_of c.args.self.now)
-    c.args.name false (as_session held)
-    (is_settled c.self.inside c.args.self.now c.self.view_is c.args.name held c.in-Some.ensures.value c.requires)
+    c.args.name false (as_session session)
+    (is_settled c.self.inside c.args.self.now c.self.view_is c.args.name session c.in-Some.ensures.value c.requires)
     c.args.atom c.args.by.x c.args.by.y c.args.by.z
-    (outcomes.past c.args.atom (length held.live.sim.cur)
+    (outcomes.past c.args.atom (length session.live.sim.cur)
     (let n = c.count.ensures.value ∙ ap (λ (l : Sim). length l.sim.cur)
     c.sim.ensures in let t = c.if-atom-count.true in omega (arith, n, t))))
 
@@ -35,26 +35,26 @@ returns-then-atom-count-clause-unchanged c =
 
 pub invariant_of-self-2 : goal.invariant_of-self-2
 invariant_of-self-2 c =
-    let held = c.in-Some.session.now in
+    let session = c.in-Some.session.now in
     let wrote = writes c.args.name c.self.invariant c.self.view_is c.in-Some.ensures.value (c.get_mut.follows.holds c.tug.new.self).0 in record {
       counted = totals_as wrote _ c.tug.ensures refl refl;
       reached = reached_as wrote _ _ _
-          (outcomes.tug c.args.self.now c.args.name held wrote.found
-          (none_pending c.self.inside c.args.self.now c.self.view_is c.args.name held c.in-Some.ensures.value c.requires)
+          (outcomes.tug c.args.self.now c.args.name session wrote.found
+          (none_pending c.self.inside c.args.self.now c.self.view_is c.args.name session c.in-Some.ensures.value c.requires)
           c.args.atom c.args.by.x c.args.by.y c.args.by.z
-          (outcomes.there c.args.atom (length held.live.sim.cur)
+          (outcomes.there c.args.atom (length session.live.sim.cur)
           (let n = c.count.ensures.value ∙ ap (λ (l : Sim). length l.sim.cur)
           c.sim.ensures in let t = c.if-atom-count.false in omega (arith, n, t)))) c.tug.ensures;
     }
 
 pub returns-clause-performs : goal.returns-clause-performs
 returns-clause-performs c =
-    let held = c.in-Some.session.now in
+    let session = c.in-Some.session.now in
     let wrote = writes c.args.name c.self.invariant c.self.view_is c.in-Some.ensures.value (c.get_mut.follows.holds c.tug.new.self).0 in
     done_at wrote _ (reply.Tugged c.args.name c.args.atom) _ _ _
-    (outcomes.tug c.args.self.now c.args.name held wrote.found
-    (none_pending c.self.inside c.args.self.now c.self.view_is c.args.name held c.in-Some.ensures.value c.requires) c.args.atom c.args.by.x c.args.by.y c.args.by.z
-    (outcomes.there c.args.atom (length held.live.sim.cur)
+    (outcomes.tug c.args.self.now c.args.name session wrote.found
+    (none_pending c.self.inside c.args.self.now c.self.view_is c.args.name session c.in-Some.ensures.value c.requires) c.args.atom c.args.by.x c.args.by.y c.args.by.z
+    (outcomes.there c.args.atom (length session.live.sim.cur)
     (let n = c.count.ensures.value ∙ ap (λ (l : Sim). length l.sim.cur)
     c.sim.ensures in let t = c.if-atom-count.false in omega (arith, n, t))))
     (read-step c.step-step.result c.step-step.ensures.most

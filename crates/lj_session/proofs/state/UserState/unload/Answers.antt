@@ -52,18 +52,18 @@ unloaded : (c : In-Some) → Performs c.args.self.now (Unload c.args.name) (Ok (
     (record { quota = c.self.inside.quota; sessions = c.shift_remove.new.self.entries })
 unloaded c =
     let old = c.args.self.now in
-    let held = c.in-Some.session in
-    written-to old _ _ _ _ (outcomes.unload old c.args.name held (found c)
-    (none_pending c.self.inside old c.self.view_is c.args.name held c.in-Some.ensures.value c.requires) (gone c))
+    let session = c.in-Some.session in
+    written-to old _ _ _ _ (outcomes.unload old c.args.name session (found c)
+    (none_pending c.self.inside old c.self.view_is c.args.name session c.in-Some.ensures.value c.requires) (gone c))
     (taken-of c.self.inside old c.self.view_is c.args.name _ c.in-Some.ensures.entries)
 
 pub invariant_of-self-2 : goal.invariant_of-self-2
 invariant_of-self-2 c =
     let old = c.args.self.now in
-    let held = c.in-Some.session in
+    let session = c.in-Some.session in
     let there = found (goal.at.invariant_of-self-2 c).In-Some in
     let is_out = taken-of c.self.inside old c.self.view_is c.args.name _ c.in-Some.ensures.entries in record {
-      counted = used-less c.self.inside old c.self.view_is c.self.invariant.counted c.args.name held there _ is_out
+      counted = used-less c.self.inside old c.self.view_is c.self.invariant.counted c.args.name session there _ is_out
           1 c.count.result c.len.result refl
           (c.count.ensures.value ∙ ap (λ (l : Sim). length l.sim.cur) c.sim.ensures)
           (c.len.ensures.value ∙ ap length c.branches.ensures);

@@ -1,5 +1,5 @@
 use Rattle.std.proofs.Common.{rules, ◌≡◌, ap, ◌∙◌, slice_index_or}
-use Rattle.lj_tile.specs.Species.{Composition}
+use Rattle.lj_task.specs.Species.{Composition}
 use Rattle.lj_step.specs.Sets.{species_bits_in}
 use Rattle.lj_step.proofs.SetLemmas.{word_in}
 use Rattle.lj_step.proofs.atoms.Atoms.species_bits.Goals as goal

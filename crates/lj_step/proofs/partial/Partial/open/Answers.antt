@@ -1,8 +1,8 @@
 use Rattle.std.proofs.Common.{◌≡◌, ◌*◌, length, ap, ◌∙◌, arith}
 use Rattle.std.proofs.lemmas.List.{length-replicate}
 use Rattle.std.proofs.lemmas.List.FromFn.{length-map-range_with_len}
-use Rattle.lj_tile.specs.Pushes.{no_push}
-use Rattle.lj_step.specs.Kept.{set_numbers}
+use Rattle.lj_task.specs.Pushes.{no_push}
+use Rattle.lj_step.specs.KeptSims.{set_numbers}
 use Rattle.lj_step.specs.OpenSteps.{blocks, is_tile, cover}
 use Rattle.lj_step.proofs.CoverLists.{set_by}
 use Rattle.lj_step.proofs.partial.Partial.open.Goals as goal

@@ -3,7 +3,7 @@ use Rattle.std.proofs.Common.{◌≡◌, ◌<◌, false, length, ap, ◌∙◌, 
 use Rattle.std.proofs.lemmas.List.{get_or_default}
 use Rattle.std.specs.Prelude.{slice_get}
 use Rattle.lj_step.specs.Sim.{Sim}
-use Rattle.lj_step.specs.Kept.{sim_of}
+use Rattle.lj_step.specs.KeptSims.{sim_of}
 use Rattle.lj_step.specs.OpenSteps.{cover}
 use Rattle.lj_step.proofs.Steps.{tile_found, awaits_found, step_part}
 use Rattle.lj_step.proofs.simulations.Sim.is_tile_awaited.Goals.{After-number}

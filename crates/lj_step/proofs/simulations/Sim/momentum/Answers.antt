@@ -2,7 +2,7 @@ use Rattle.std.proofs.Common.{◌≡◌, ℤ, ◌∷◌, [], FitsSigned, w64, to
 use Rattle.std.proofs.lemmas.Int.{to_z-of_z}
 use Rattle.lj_step.specs.Motion as motion
 use Rattle.lj_step.specs.Sim.{Sim}
-use Rattle.lj_step.specs.Kept.{sim_of}
+use Rattle.lj_step.specs.KeptSims.{sim_of}
 use Rattle.lj_step.proofs.simulations.Sim.momentum.Goals as goal
 
 kept : (z w : ℤ) → FitsSigned w64 z → z ≡ w → to_z w64 (of_z w64 z) ≡ w

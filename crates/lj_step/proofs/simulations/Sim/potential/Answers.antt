@@ -1,5 +1,5 @@
 use Rattle.std.proofs.Common.{ap, ◌∙◌}
-use Rattle.lj_tile.specs.declared.task_name.Kind.TheVariants.{Energy}
+use Rattle.lj_task.specs.declared.task_name.Kind.TheVariants.{Energy}
 use Rattle.lj_step.specs.Motion.{potential}
 use Rattle.lj_step.specs.Sim.{Sim}
 use Rattle.lj_step.specs.OpenSteps.{kind_of, is_whole}

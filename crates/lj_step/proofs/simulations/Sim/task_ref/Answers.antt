@@ -1,7 +1,7 @@
 -- The tile that is read at the i-th place, and the task made of it.
 use Rattle.std.proofs.Common.{◌≡◌, ◌<◌, ◌*◌, ap, ◌∙◌, refl, Some, length, true}
 use Rattle.lj_step.specs.Sim.{Sim, OpenStep}
-use Rattle.lj_step.specs.Kept.{sim_of}
+use Rattle.lj_step.specs.KeptSims.{sim_of}
 use Rattle.lj_step.specs.OpenSteps.{is_tile, blocks, cover}
 use Rattle.lj_step.proofs.Steps.{tile_found, task_found, step_part}
 use Rattle.lj_step.proofs.TileValues.{open_value}

@@ -1,12 +1,12 @@
 use Rattle.std.proofs.Common.{ℕ, ◌≡◌, ◌≤◌, ◌<◌, ◌^◌, ◌+ℤ◌, unsigned_abs, length, slice_index_or, rules, refl, ap, ◌∙◌}
 use Rattle.std.proofs.Common.{subst, sym, to_z, of_z, w64}
-use Rattle.lj_tile.specs.declared.task_name.Kind.TheVariants.{Force}
-use Rattle.lj_tile.specs.Pushes.{no_push}
+use Rattle.lj_task.specs.declared.task_name.Kind.TheVariants.{Force}
+use Rattle.lj_task.specs.Pushes.{no_push}
 use Rattle.lj_step.specs.Motion.{next_frame, force, next_simulation}
 use Rattle.lj_step.specs.Sim.{Sim}
-use Rattle.lj_step.specs.Kept.{sign_of, sim_of}
+use Rattle.lj_step.specs.KeptSims.{sign_of, sim_of}
 use Rattle.lj_step.specs.OpenSteps.{kind_of, is_whole, with_step_closed}
-use Rattle.lj_step.specs.Laws.{AreOnRing}
+use Rattle.lj_step.specs.MotionLaws.{IsFrameOnRing}
 use Rattle.lj_step.proofs.Undone.{next_frame_length, next_on_ring}
 use Rattle.lj_step.proofs.StepNumbers.{next_number}
 use Rattle.lj_step.proofs.Steps.{whole_of, forces_of, frame_is, turned_is}
@@ -57,5 +57,5 @@ invariant_of-self c =
     let a = c.self.inside in
     with_frames a _ c.self.invariant (ap (λ v. v.items) c.swap.ensures.x_after)
     (ap length (next_is c) ∙ next_frame_length a.atoms a.prev.items a.cur.items)
-    (subst AreOnRing (sym (next_is c)) (next_on_ring a.atoms a.prev.items a.cur.items))
+    (subst IsFrameOnRing (sym (next_is c)) (next_on_ring a.atoms a.prev.items a.cur.items))
     (rw (next_step c) (sum_bound c)) (search rules) refl refl refl

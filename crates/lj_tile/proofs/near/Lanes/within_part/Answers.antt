@@ -10,19 +10,19 @@ returns c k there l none lane =
     let x = unsigned_abs (image h.x there.x) in
     let y = unsigned_abs (image h.y there.y) in
     let z = unsigned_abs (image h.z there.z) in
-    elim (bit_of_either (bit_and c.less_than.result c.less_than-2.result) c.less_than-3.result k none) [
-      | inl either ↦ elim (bit_of_either c.less_than.result c.less_than-2.result k either) [
+    elim (bit_of_either (bit_and c.lt_bitmask.result c.lt_bitmask-2.result) c.lt_bitmask-3.result k none) [
+      | inl either ↦ elim (bit_of_either c.lt_bitmask.result c.lt_bitmask-2.result k either) [
         | inl clear ↦
             far_x s x y z
             (c.shifted-x.ensures k there.x l lane.ring.x (c.sixteen.ensures k l ∙ lane.x)
-            (omega (arith, c.less_than.ensures k l clear)))
+            (omega (arith, c.lt_bitmask.ensures k l clear)))
         | inr clear ↦
             far_y s x y z
             (c.shifted-y.ensures k there.y l lane.ring.y (c.sixteen-2.ensures k l ∙ lane.y)
-            (omega (arith, c.less_than-2.ensures k l clear)))
+            (omega (arith, c.lt_bitmask-2.ensures k l clear)))
       ]
       | inr clear ↦
           far_z s x y z
           (c.shifted-z.ensures k there.z l lane.ring.z (c.sixteen-3.ensures k l ∙ lane.z)
-          (omega (arith, c.less_than-3.ensures k l clear)))
+          (omega (arith, c.lt_bitmask-3.ensures k l clear)))
     ]

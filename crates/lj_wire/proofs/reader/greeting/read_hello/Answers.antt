@@ -1,7 +1,7 @@
 use Rattle.std.proofs.Common.{◌≤◌, length, take, ap, ◌∙◌, arith}
 use Rattle.lj_wire.specs.declared.reader.buffer.TheConstants.{MAX_HELD_BYTES}
 use Rattle.lj_wire.specs.declared.reader.source_input.Front.TheVariants as front
-use Rattle.lj_wire.specs.Steps.{Finds, SearchesFor}
+use Rattle.lj_wire.specs.ItemSteps.{Finds, SearchesFor}
 use Rattle.lj_wire.proofs.Greeting.{greeted}
 use Rattle.lj_wire.proofs.Wholes.{line_taken}
 use Rattle.lj_wire.proofs.reader.greeting.read_hello.Goals as goal

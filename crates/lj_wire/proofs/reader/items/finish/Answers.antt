@@ -1,7 +1,7 @@
 use Rattle.lj_wire.proofs.Wholes.{rest_taken}
 use Rattle.lj_wire.proofs.reader.items.finish.Goals as goal
 use Rattle.std.proofs.Common.{◌≡◌, true, rules, Some}
-use Rattle.lj_wire.specs.Steps.{may_take_body, ReadsBody}
+use Rattle.lj_wire.specs.ItemSteps.{may_take_body, ReadsBody}
 
 pub returns-in-Some-clause-item : goal.returns-in-Some-clause-item
 returns-in-Some-clause-item g c =

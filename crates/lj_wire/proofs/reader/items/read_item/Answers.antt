@@ -1,9 +1,12 @@
-use Rattle.std.proofs.Common.{◌≡◌, ◌≤◌, length, take, Some, None, if◌then◌else◌, ap, ◌∙◌, arith}
+use Rattle.std.proofs.Common.{◌≡◌, ℕ, ◌≤◌, length, take, Result, Ok, Some, None, if◌then◌else◌, ap, ◌∙◌, arith}
 use Rattle.std.proofs.lemmas.Result.{IfOk-weaker, IfErr-weaker}
 use Rattle.lj_wire.specs.declared.reader.buffer.TheConstants.{MAX_HELD_BYTES}
+use Rattle.lj_wire.specs.declared.source_and_sink.ReadFault.{ReadFault}
+use Rattle.lj_wire.specs.declared.reader.source_input.Front.{Front}
 use Rattle.lj_wire.specs.declared.reader.source_input.Front.TheVariants as front
-use Rattle.lj_wire.specs.Steps.{Finds, SearchesFor}
+use Rattle.lj_wire.specs.ItemSteps.{Finds, SearchesFor}
 use Rattle.lj_wire.proofs.Wholes.{LineTaken, line_taken, goes_onward, finished, open_body, long_line, too_long}
+use Rattle.lj_wire.proofs.Wholes.{held_line, bare_taken, finished_bare}
 use Rattle.lj_wire.proofs.reader.items.read_item.Given.{Over}
 use Rattle.lj_wire.proofs.reader.items.read_item.Goals.{After-skip_line}
 use Rattle.lj_wire.proofs.reader.items.read_item.Goals as goal
@@ -56,3 +59,40 @@ returns-in-Long-2-clause-item g c =
     let found = long g (goal.at.returns-in-Long-2-clause-item g c).After-skip_line in
     too_long c.args.input.now c.find_line.new.self c.skip_line.new.self found.0.0 found.1 found.0.1.bounded
     (rw c.in-Long-2.is at c.in_ok-skip_line-in-Long.ensures.skipped)
+
+-- a line that is held is found
+same_count : (n m : ℕ) → ◌≡◌ {A = Result Front ReadFault} (Ok (front.Line n)) (Ok (front.Line m)) → n ≡ m
+same_count n m e = cc
+
+pub returns-in-Line-clause-at_once : goal.returns-in-Line-clause-at_once
+returns-in-Line-clause-at_once g c = λ begins.
+    let found = c.in_ok-count.ensures.at_once (length begins.line) (held_line c.args.input.now begins) in
+    let counted = same_count c.in-Line.count (length begins.line) (rw c.in-Line.is at found.0) in
+    let bare = bare_taken c.args.input.now c.find_line.new.self begins c.in-Line.count c.split_at.result.0.now counted found.1
+    (c.split_at.ensures.front ∙ ap (take c.in-Line.count) c.held.ensures.value) in
+    finished_bare c.finish.result _ _ _ _ _ (c.read_line_into-body.ensures.body ∙ bare) c.finish.ensures.item c.finish.ensures.part
+
+pub returns-in_err-count-clause-at_once : goal.returns-in_err-count-clause-at_once
+returns-in_err-count-clause-at_once g c = λ begins.
+    let e = (c.in_err-count.ensures.at_once (length begins.line) (held_line c.args.input.now begins)).0 in absurd (cc)
+
+no_long : (m : ℕ) → ◌≡◌ {A = Result Front ReadFault} (Ok front.Long) (Ok (front.Line m)) → ⊥
+no_long m e = cc
+
+no_end : (m : ℕ) → ◌≡◌ {A = Result Front ReadFault} (Ok front.End) (Ok (front.Line m)) → ⊥
+no_end m e = cc
+
+pub returns-in_err-skip_line-in-Long-clause-at_once : goal.returns-in_err-skip_line-in-Long-clause-at_once
+returns-in_err-skip_line-in-Long-clause-at_once g c = λ begins.
+    let found = c.in_ok-count.ensures.at_once (length begins.line) (held_line c.args.input.now begins) in
+    absurd (no_long (length begins.line) (rw c.in-Long.is at found.0))
+
+pub returns-in-End-2-clause-at_once : goal.returns-in-End-2-clause-at_once
+returns-in-End-2-clause-at_once g c = λ begins.
+    let found = c.in_ok-count.ensures.at_once (length begins.line) (held_line c.args.input.now begins) in
+    absurd (no_long (length begins.line) (rw c.in-Long.is at found.0))
+
+pub returns-in-End-clause-at_once : goal.returns-in-End-clause-at_once
+returns-in-End-clause-at_once g c = λ begins.
+    let found = c.in_ok-count.ensures.at_once (length begins.line) (held_line c.args.input.now begins) in
+    absurd (no_end (length begins.line) (rw c.in-End.is at found.0))

@@ -1,7 +1,7 @@
 use Rattle.std.proofs.Common.{arith, ◌-◌, length, sym, ◌∙◌, subst, rules}
-use Rattle.lj_wire.specs.Input.{Takes}
+use Rattle.lj_wire.specs.Input.{TakesBytes}
 use Rattle.lj_wire.proofs.Buffers.{filled_more}
-use Rattle.lj_wire.proofs.Taking.{Takes-trans}
+use Rattle.lj_wire.proofs.Taking.{TakesBytes-trans}
 use Rattle.lj_wire.proofs.reader.load_body.fill.Goals as goal
 
 pub loop-at-preserved : goal.loop-at-preserved
@@ -14,9 +14,9 @@ loop-at-preserved g c =
     let fits = c.in_ok-count.ensures.bound in
     record {
       within = search rules;
-      taken = subst (Takes c.args.input.now c.read_into.new.self)
+      taken = subst (TakesBytes c.args.input.now c.read_into.new.self)
           (sym (filled_more buf bytes at (length buf - at) count i.within fits))
-          (Takes-trans c.args.input.now c.loop-at.input c.read_into.new.self _ _ i.taken c.in_ok-count.ensures.taken);
+          (TakesBytes-trans c.args.input.now c.loop-at.input c.read_into.new.self _ _ i.taken c.in_ok-count.ensures.taken);
       held = λ _. c.in_ok-count.ensures.held;
       errors = c.in_ok-count.ensures.counted ∙ i.errors;
       reads_for = λ enough. absurd (omega (arith, c.loop-at-test.true, (i.reads_for (search rules)).0));

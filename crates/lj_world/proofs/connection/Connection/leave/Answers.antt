@@ -1,7 +1,7 @@
 use Rattle.std.proofs.Common.{◌≡◌, sym, ap, ◌∙◌, subst, None, IsSomeAnd, slice_get}
 use Rattle.lj_session.specs.UserState.{UserState, with_steps_restarted}
 use Rattle.lj_session.specs.Owner.{Owner}
-use Rattle.lj_access.specs.Rows.{Ticket, HasEntered, with_row_changed, with_home}
+use Rattle.lj_access.specs.UserRows.{Ticket, HasEntered, with_row_changed, with_home}
 use Rattle.lj_world.specs.Machine.{inside}
 use Rattle.lj_world.specs.contracts.connection.Connection.{the_view}
 use Rattle.lj_world.specs.Connections.{IsDone}

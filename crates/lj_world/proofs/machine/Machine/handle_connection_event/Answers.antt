@@ -5,7 +5,7 @@ use Rattle.lj_world.specs.contracts.machine.Machine.{the_view}
 use Rattle.lj_world.specs.Machine.{Connection}
 use Rattle.lj_world.specs.declared.event.Event.TheVariants.{At}
 use Rattle.lj_world.specs.Connections.{connection_view}
-use Rattle.lj_world.specs.Transitions.{entry, with_connection_view}
+use Rattle.lj_world.specs.Transitions.{reply_entry, with_connection_view}
 use Rattle.lj_world.specs.Picked.{PickedStep}
 use Rattle.lj_world.proofs.Slots.{read_at, written_back, none_past}
 use Rattle.lj_world.proofs.MachineSteps.{connection_step_by_pick, absent}
@@ -57,12 +57,12 @@ invariant_of-self-2 c = let p = goal.at.invariant_of-self-2 c in kept p.In_ok-te
 -- and is one of the machine
 step : (c : In_ok-text) → get_or c.self.inside.connections.items c.args.id None ≡ Some c.in-Some.connection
     → (text : Option (List ℕ)) → c.in_ok-text.field-0 ≡ text
-    → PickedStep (the_view c.self.inside) (At c.args.id c.args.event) (option_map (entry c.args.id c.in-Some.connection) text)
+    → PickedStep (the_view c.self.inside) (At c.args.id c.args.event) (option_map (reply_entry c.args.id c.in-Some.connection) text)
     (with_connection_view c.args.id (connection_view c.handle.new.self c.handle.new.directory c.handle.new.book) (the_view c.self.inside))
 step c here text is =
     let s = the_view c.self.inside in
     let h = connection_view c.handle.new.self c.handle.new.directory c.handle.new.book in
-    subst (λ (t : Option (List ℕ)). PickedStep s (At c.args.id c.args.event) (option_map (entry c.args.id c.in-Some.connection) t)
+    subst (λ (t : Option (List ℕ)). PickedStep s (At c.args.id c.args.event) (option_map (reply_entry c.args.id c.in-Some.connection) t)
     (with_connection_view c.args.id h s)) is
     (connection_step_by_pick c.args.event s c.args.id c.in-Some.connection c.in_ok-text.field-0 h here c.in_ok-text.ensures.step
     c.handle.ensures.picked)

@@ -1,5 +1,5 @@
 use Rattle.std.proofs.Common.{◌≡◌, List, None, arith, refl, subst, sym, ◌∙◌}
-use Rattle.lj_access.specs.Rows.{UserRow}
+use Rattle.lj_access.specs.UserRows.{UserRow}
 use Rattle.lj_world.specs.contracts.machine.Machine.{the_view}
 use Rattle.lj_world.specs.declared.event.Event.TheVariants.{Hello}
 use Rattle.lj_world.specs.Machine.{IsConnection}

@@ -3,4 +3,5 @@ use Rattle.lj_program.proofs.serve.visitor.Visitor.enter.Given as goal
 
 abbrev pub invariant-loop : goal.invariant-loop
 invariant-loop g l =
-    (goal.iterator-loop g).can_next l.iterator' × (goal.iterator-loop g).is_finite l.iterator' × (l.ticket ≡ l.initial.ticket)
+    (goal.iterator-loop g).can_next l.iterator' × (goal.iterator-loop g).is_finite l.iterator'
+    × (l.ticket.ticket ≡ l.initial.ticket.ticket)

@@ -1,0 +1,32 @@
+-- What becomes of a ticket that waits, and of a state that comes home.
+use Rattle.std.specs.Prelude.{◌≡◌, ◌⊎◌, List, Some, slice_get, IsSomeAnd}
+use Rattle.lj_session.specs.UserState.{Reached, UserState}
+use Rattle.lj_access.specs.UserRows.{CanEnter, HasEntered, Ticket, UserRow, home_of, with_home, with_row_changed, without_home}
+use Rattle.lj_program.specs.declared.serve.shared_directory.EntryOutcome.{EntryOutcome}
+use Rattle.lj_program.specs.declared.serve.shared_directory.EntryOutcome.TheVariants.{Entered, Closed, Waits}
+
+-- The outcome is that of this ticket. A state lent to it is one that commands reach.
+abbrev pub IsOutcome : Ticket → EntryOutcome → Type 0
+IsOutcome ticket (Entered lent) = (lent.ticket ≡ ticket) × Reached lent.state
+IsOutcome ticket (Closed seen) = Unit {0}
+IsOutcome ticket (Waits waiting) = waiting.ticket ≡ ticket
+
+-- no ticket enters any more
+abbrev pub IsClosing : EntryOutcome → Type 0
+IsClosing (Entered lent) = ⊥
+IsClosing (Closed seen) = Unit {0}
+IsClosing (Waits waiting) = ⊥
+
+-- a ticket that enters has the state that was at home; one that waits could not enter, and nothing has changed
+abbrev pub HasMoved : Ticket → EntryOutcome → List UserRow → List UserRow → Type 0
+HasMoved ticket (Entered lent) old new =
+    (home_of old ticket.user ≡ Some lent.state) × (new ≡ with_row_changed ticket.user without_home old)
+HasMoved ticket (Closed seen) old new = new ≡ old
+HasMoved ticket (Waits waiting) old new =
+    (new ≡ old) × (IsSomeAnd (slice_get old ticket.user) (CanEnter ticket.number) → ⊥)
+
+-- a state comes home from the ticket that it was lent to; another ticket changes nothing
+abbrev pub ComesHome : Ticket → UserState → List UserRow → List UserRow → Type 0
+ComesHome ticket state old new =
+    (new ≡ with_row_changed ticket.user (with_home state) old)
+    ⊎ ((new ≡ old) × (IsSomeAnd (slice_get old ticket.user) (HasEntered ticket.number) → ⊥))

@@ -1,6 +1,0 @@
-use Rattle.std.proofs.Common.{◌*◌, ◌%◌, ◌^◌}
-use Rattle.lj_ring.proofs.LaneLemmas.{splat_lanes}
-use Rattle.lj_ring.proofs.lane_arithmetic.shifted_left.Goals as goal
-
-pub returns : goal.returns
-returns c = splat_lanes (λ x n. x * 2 ^ n % 2 ^ 64) c.args.v c.args.by c.fits-v.0

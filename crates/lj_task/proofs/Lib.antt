@@ -1,0 +1,3 @@
+pub mod Opposites
+pub mod SameLemmas
+pub mod FirstSums

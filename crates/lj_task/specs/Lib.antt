@@ -1,0 +1,11 @@
+pub mod Species
+pub mod Pushes
+pub mod Block
+pub mod Tiles
+pub mod Task
+pub mod Frames
+pub mod SameTasks
+pub mod Blank
+pub mod Results
+pub mod Worked
+pub mod Limits

@@ -1,0 +1,21 @@
+//! The tasks into which a step is divided: their blocks, names and results, and what their sums are by definition.
+#![tactic(auto)]
+
+mod blocks;
+mod force_sums;
+mod kernels;
+mod pushes;
+mod results;
+mod shared_frames;
+mod task_name;
+mod tasks;
+
+pub use blocks::{BLOCK, Block, BlockRef, MAX_BLOCKS};
+pub use force_sums::ForceSums;
+pub use kernels::Kernel;
+pub use lj_base::{Label, Name};
+pub use pushes::Push;
+pub use results::{Done, DoneRef, Sums};
+pub use shared_frames::SharedFrame;
+pub use task_name::{Kind, TaskName, TaskNameRef};
+pub use tasks::{Task, TaskRef};

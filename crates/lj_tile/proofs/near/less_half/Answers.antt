@@ -1,6 +1,0 @@
-use Rattle.std.proofs.Common.{◌+◌, ◌-◌, ◌%◌, ◌^◌}
-use Rattle.lj_tile.proofs.NearLemmas.{splat_lanes}
-use Rattle.lj_tile.proofs.near.less_half.Goals as goal
-
-pub returns : goal.returns
-returns c = splat_lanes (λ x n. (x + (2 ^ 32 - n)) % 2 ^ 32) c.args.v (2 ^ 15) c.fits-v.0

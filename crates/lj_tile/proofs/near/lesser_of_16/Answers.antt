@@ -1,6 +1,0 @@
-use Rattle.std.proofs.Common.{arith}
-use Rattle.lj_tile.proofs.NearLanes.{lesser_of_both}
-use Rattle.lj_tile.proofs.near.lesser_of_16.Goals as goal
-
-pub returns : goal.returns
-returns c = lesser_of_both 8 c.args.v (omega arith) c.fits-v.0
