@@ -1,4 +1,5 @@
 pub mod Seen
+pub mod Ends
 pub mod RefusedPosts
 pub mod InlinePool
 pub mod Accounts

@@ -2,6 +2,7 @@
 #![tactic(auto)]
 
 mod account;
+mod end;
 mod gate;
 mod inline;
 mod locking;
@@ -11,6 +12,7 @@ mod task_list;
 mod waking;
 
 pub use account::Account;
+pub use end::{End, Finish, PoolLink};
 pub use gate::Gate;
 pub use inline::InlinePool;
 pub use locking::lock_soon;

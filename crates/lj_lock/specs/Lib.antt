@@ -1,5 +1,5 @@
 pub mod EndBoxes
-pub mod LockEnd
+pub mod LockLinks
 pub mod PoolStates
 pub mod Copies
 pub mod Limits

@@ -2,12 +2,12 @@
 #![tactic(auto)]
 
 mod end_boxes;
-mod lock_end;
+mod lock_link;
 mod lock_pool;
 mod pool_state;
 mod working;
 
-pub use lock_end::LockEnd;
+pub use lock_link::{LockEnd, LockLink};
 pub use lock_pool::LockPool;
 pub use pool_state::LockClosed;
 pub use working::{gather, work};

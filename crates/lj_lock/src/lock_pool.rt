@@ -5,16 +5,17 @@ ghost use Rattle.std.specs.Option.{ForSome};
 ghost use Rattle.lj_lock.specs.EndBoxes.{IsNext, SameResults, TakesInHand};
 ghost use Rattle.lj_lock.specs.Copies.{AreCopies, HandsOver};
 ghost use Rattle.lj_end.specs.RefusedPosts.{IsPoolClosed};
-ghost use Rattle.lj_end.specs.Seen.{nothing_seen};
+ghost use Rattle.lj_end.specs.Ends.{end_over};
+ghost use Rattle.lj_lock.specs.LockLinks.{link_without_boxes};
 ghost use Rattle.lj_task.specs.Blank.{blank_task};
 
 use crate::end_boxes::{EndBoxes, MAX_END_BOXES, TaskCopies};
-use crate::lock_end::LockEnd;
+use crate::lock_link::{LockEnd, LockLink};
 use crate::pool_state::{LockClosed, PoolState};
 use lj_book::{BoxBook, Counts, LentDone, LentTask, MAX_ENTRIES, TaskBox};
 use lj_end::{
-    LOOKS, MAX_ENDS, NotPosted, Share, TASKS_AT_ONCE, TaskList, WAIT_QUEUES, lock_soon, shares_of,
-    wait_queue_of, wake,
+    End, LOOKS, MAX_ENDS, NotPosted, Share, TASKS_AT_ONCE, TaskList, WAIT_QUEUES, lock_soon,
+    shares_of, wait_queue_of, wake,
 };
 use lj_task::{Done, TaskRef};
 use std::alloc::{AllocError, Global};
@@ -77,23 +78,17 @@ impl<L: Ledger> LockPool<L> {
 
     /// Makes an end of the pool, to which nothing is owed, for tasks of any user.
     pub fn end<'p, R: Wait>(&'p self, rt: &'p R) -> LockEnd<'p, L, R>
-        ensures seen { result.seen ≡ nothing_seen }
-        ensures last { result.last ≡ blank_task }
-        ensures counted { result.uncounted ≡ false }
-        ensures user { result.user ≡ None }
+        ensures { result ≡ end_over (link_without_boxes None) }
     {
-        LockEnd::new(rt, self, None)
+        End::new(LockLink::new(rt, self, None))
     }
 
     /// Makes an end of the pool, to which nothing is owed, for tasks of one user. Once it is finished or dropped, the pool has no
     /// entry of this user.
     pub fn end_of<'p, R: Wait>(&'p self, rt: &'p R, user: u8) -> LockEnd<'p, L, R>
-        ensures seen { result.seen ≡ nothing_seen }
-        ensures last { result.last ≡ blank_task }
-        ensures counted { result.uncounted ≡ false }
-        ensures user { result.user ≡ Some user }
+        ensures { result ≡ end_over (link_without_boxes (Some user)) }
     {
-        LockEnd::new(rt, self, Some(user))
+        End::new(LockLink::new(rt, self, Some(user)))
     }
 
     /// Closes the pool: from now on no task is posted or taken and no result fetched.

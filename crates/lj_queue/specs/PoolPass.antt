@@ -5,7 +5,6 @@ use Rattle.atomic_table.specs.Seated.{TableId}
 use Rattle.crossbeam_queue.specs.Passes.{Pass, view}
 use Rattle.lj_task.specs.Task.{Task}
 use Rattle.lj_task.specs.declared.task_name.TaskName.{TaskName}
-use Rattle.lj_end.specs.Seen.{Seen}
 use Rattle.lj_queue.specs.declared.open_task.OpenTask.{OpenTask}
 use Rattle.lj_queue.specs.declared.kept_boxes.TheConstants.{MAX_SPARE_BOXES}
 use Rattle.lj_queue.specs.declared.rule.PassHistory.{PassHistory}
@@ -77,36 +76,50 @@ pub record QueueBlank : Type 0 where
   pub parts : ℕ
   pub table : TableId
 
--- an end of a pool: what it has seen, its pass, its number, its user, the task of the result that it shows, whether that was taken and
--- is not counted yet, the tasks of the results in hand, and the number of boxes that it has for tasks
-pub record QueueEnd : Type 0 where
-  pub seen : Seen
+-- what an end has of its pool: its pass, its number, its user, the task of the result that it shows, the tasks of the results in hand,
+-- and the number of boxes that it has for tasks
+pub record QueueLink : Type 0 where
   pub pass : PoolPass
   pub number : ℕ
   pub user : ℕ
   pub last : Task
-  pub uncounted : Bool
   pub hand : List Task
   pub boxes : ℕ
 
--- It is the same end, by its number and its user.
-pub record IsSameEnd (old new : QueueEnd) : Type 0 where
+-- It is that of the same end, by its number and its user.
+pub record IsSameLink (old new : QueueLink) : Type 0 where
   pub number : new.number ≡ old.number
   pub user : new.user ≡ old.user
 
 -- An end pushed this task and nothing else, and lost one box at most: that of the task.
-pub record HasPushed (task : Task) (old new : QueueEnd) : Type 0 where
+pub record HasPushed (task : Task) (old new : QueueLink) : Type 0 where
   pub pass : new.pass ≡ with_push old.pass (open_task_of old.number old.user task)
-  pub same_end : IsSameEnd old new
+  pub same_link : IsSameLink old new
   pub hand : new.hand ≡ old.hand
   pub one_box : old.boxes ≤ MAX_SPARE_BOXES → old.boxes ≤ new.boxes + 1
 
 -- An end pushed nothing, and lost no box.
-pub record HasPushedNothing (old new : QueueEnd) : Type 0 where
+pub record HasPushedNothing (old new : QueueLink) : Type 0 where
   pub pass : new.pass ≡ old.pass
-  pub same_end : IsSameEnd old new
+  pub same_link : IsSameLink old new
   pub hand : new.hand ≡ old.hand
   pub box_kept : old.boxes ≤ MAX_SPARE_BOXES → old.boxes ≤ new.boxes
+
+-- The next result of its user was taken, the first in hand if there was one. The box of the result before it is one for tasks, unless
+-- there are enough.
+pub record IsTaken (old new : QueueLink) : Type 0 where
+  pub pass : new.pass ≡ old.pass
+  pub same_link : IsSameLink old new
+  pub whose : new.last.name.label.user ≡ old.user
+  pub in_hand : 0 < length old.hand → old.hand ≡ new.last ∷ new.hand
+  pub box_freed : old.boxes < MAX_SPARE_BOXES → new.boxes ≡ old.boxes + 1
+  pub boxes : old.boxes ≤ new.boxes
+
+-- No result was taken, and no box has gone.
+pub record IsUntaken (old new : QueueLink) : Type 0 where
+  pub pass : new.pass ≡ old.pass
+  pub same_link : IsSameLink old new
+  pub boxes : old.boxes ≤ new.boxes
 
 -- the name of no queue
 abbrev pub no_table : TableId

@@ -1,7 +1,7 @@
 //! A pool whose open tasks lie in a queue that no lock guards, and whose results lie under a lock.
-ghost use Rattle.std.specs.Prelude.{◌≡◌, ◌+◌, ◌≤◌, ◌<◌, None, Some, true, false, length, vec_len, IfErr, IfNone, IfOk, IfSome, IsSomeAnd, OnErr, OnOk};
+ghost use Rattle.std.specs.Prelude.{◌≡◌, ◌+◌, ◌≤◌, ◌<◌, [], None, Some, true, false, length, vec_len, IfErr, IfNone, IfOk, IfSome, IsSomeAnd, OnErr, OnOk};
 ghost use Rattle.std.specs.List.{All};
-ghost use Rattle.lj_end.specs.Seen.{nothing_seen};
+ghost use Rattle.lj_end.specs.Ends.{end_over};
 ghost use Rattle.lj_queue.specs.NoRoom.{IsCause, IsCauseOf, SaysClosed, boxes_in};
 ghost use Rattle.lj_queue.specs.ResultList.{FetchesResults, empty_list};
 ghost use Rattle.lj_queue.specs.PoolPass.{AreUntouched, IsRootPass, with_post, with_push, with_pop};
@@ -12,14 +12,15 @@ use crate::no_room::{FullCause, PostFault};
 use crate::open_task::OpenTask;
 use crate::pass::{CountedPass, NotPushed, PoolIdentity, PoolPass};
 use crate::poster::Poster;
-use crate::queue_end::QueueEnd;
+use crate::queue_link::{QueueEnd, QueueLink};
 use crate::result_list::ResultList;
 use crate::root_pass::{RootPass, passes_of};
 use crate::rule::{OpenTasks, TaskPass};
 use crate::spares::Spares;
 use lj_book::{DoneBox, MAX_ENTRIES, TaskBox};
 use lj_end::{
-    IdleWorkers, LOOKS, MAX_ENDS, Share, WAIT_QUEUES, lock_soon, shares_of, wait_queue_of, wake,
+    End, IdleWorkers, LOOKS, MAX_ENDS, Share, WAIT_QUEUES, lock_soon, shares_of, wait_queue_of,
+    wake,
 };
 use lj_task::TaskRef;
 use std::alloc::{AllocError, Global};
@@ -152,12 +153,13 @@ impl<L: PoolIdentity> QueuePool<L> {
     /// Makes an end of the pool for a user, to which nothing is owed, in place of the user's present one. After 2^64 - 1 ends it
     /// closes the pool, and the end has the number 0, which no present one has.
     pub fn end<'p, R: Wait>(&'p self, rt: &'p R, pass: PoolPass<L>, user: u8) -> QueueEnd<'p, L, R>
-        ensures seen { result.seen ≡ nothing_seen }
-        ensures pass { result.pass ≡ pass }
-        ensures user { result.user ≡ user }
+        ensures over { result ≡ end_over result.link }
+        ensures pass { result.link.pass ≡ pass }
+        ensures user { result.link.user ≡ user }
+        ensures empty_handed { result.link.hand ≡ [] }
     {
         let number = self.enter(rt, user);
-        QueueEnd::new(rt, self, None, pass, number, user)
+        End::new(QueueLink::new(rt, self, None, pass, number, user))
     }
 
     /// Makes an end of the pool as `end` does, with a free pass, and waits until one is free. Once it is dropped, the pool has no
@@ -168,12 +170,13 @@ impl<L: PoolIdentity> QueuePool<L> {
         free: &'p FreePasses<L>,
         user: u8,
     ) -> QueueEnd<'p, L, R>
-        ensures seen { result.seen ≡ nothing_seen }
-        ensures user { result.user ≡ user }
+        ensures over { result ≡ end_over result.link }
+        ensures user { result.link.user ≡ user }
+        ensures empty_handed { result.link.hand ≡ [] }
     {
         let pass = free.take(rt);
         let number = self.enter(rt, user);
-        QueueEnd::new(rt, self, Some(free), pass, number, user)
+        End::new(QueueLink::new(rt, self, Some(free), pass, number, user))
     }
 
     /// Gives the user's next end a number. After 2^64 - 1 ends it closes the pool, and the number is 0.

@@ -1,7 +1,7 @@
 //! A pool behind a lock, as the worker pool of a server.
 ghost use Rattle.std.specs.Prelude.{◌≡◌, IfOk, sum};
 
-use crate::serve::server_backend::{PoolEnds, ServerBackend};
+use crate::serve::server_backend::{PoolEnds, visit_over};
 use crate::serve::visitor::Visitor;
 use crate::serve::worker_pool::WorkerPool;
 use lj_base::OutOfMemory;
@@ -9,7 +9,7 @@ use lj_book::Counts;
 use lj_end::Share;
 use lj_lock::{LockEnd, LockPool, gather, work};
 use lj_table::Table;
-use lj_visit::{UserEnd, Visited, visit};
+use lj_visit::{UserEnd, Visited};
 use lj_wire::{LineReader, Sink, Source};
 use log::{Log, info};
 use std::alloc::{AllocError, Global};
@@ -40,12 +40,46 @@ impl<L: Ledger> LockWorkers<L> {
         let (pool, shares) = LockPool::new(alloc, blank, workers)?;
         Ok((LockWorkers { pool }, shares))
     }
+}
 
-    /// Returns the number of results given to the pool: the sum of the shares of all its workers. Logs the counts of the tasks.
-    ///
-    /// # Errors
-    /// Out of memory if some shares are lost, since a worker had no thread.
-    pub fn gather<R: Wait + Log>(
+impl<'s, L: Ledger + 's, R: Wait + 's> PoolEnds<'s, R> for LockWorkers<L> {
+    type OpenedEnd = LockEnd<'s, L, R>;
+
+    fn open_end(&'s self, rt: &'s R, user: u8) -> UserEnd<LockEnd<'s, L, R>> {
+        let pool = self.pool.end_of(rt, user);
+        UserEnd { pool, user }
+    }
+
+    fn close_pool(&self, rt: &R) {
+        self.pool.close(rt);
+    }
+}
+
+impl<L: Ledger + Send> WorkerPool for LockWorkers<L> {
+    type WorkerState = Share<L>;
+
+    ghost has_workers = { λ workers. workers ≡ L.parts };
+
+    ghost counted = { sum };
+
+    fn visit<'s, R: Wait + Clock + Log, S: Source, W: Sink>(
+        &'s self,
+        visitor: &mut Visitor<'s, R>,
+        lines: &mut LineReader<S>,
+        writer: &mut W,
+    ) -> Visited {
+        visit_over(self, visitor, lines, writer)
+    }
+
+    fn work<R: Wait>(&self, rt: &R, state: Share<L>, table: &Table) -> Share<L> {
+        work(rt, &self.pool, state, &(), table)
+    }
+
+    fn close<R: Wait>(&self, rt: &R) {
+        self.pool.close(rt);
+    }
+
+    fn gather<R: Wait + Log>(
         self,
         rt: &R,
         workers: usize,
@@ -65,43 +99,5 @@ impl<L: Ledger> LockWorkers<L> {
         } = self.pool.counts(rt);
         info!(rt; "the book: {posted} tasks posted, {fetched} fetched, {withdrawn} withdrawn");
         Ok(gather(rt, &self.pool, states))
-    }
-}
-
-impl<'s, L: Ledger + 's, R: Wait + 's> PoolEnds<'s, R> for LockWorkers<L> {
-    type OpenedEnd = LockEnd<'s, L, R>;
-
-    fn open_end(&'s self, rt: &'s R, user: u8) -> UserEnd<LockEnd<'s, L, R>> {
-        let pool = self.pool.end_of(rt, user);
-        UserEnd { pool, user }
-    }
-
-    fn close_pool(&self, rt: &R) {
-        self.pool.close(rt);
-    }
-}
-
-impl<L: Ledger + Send> WorkerPool for LockWorkers<L> {
-    type WorkerState = Share<L>;
-
-    fn visit<'s, R: Wait + Clock + Log, S: Source, W: Sink>(
-        &'s self,
-        visitor: &mut Visitor<'s, R>,
-        lines: &mut LineReader<S>,
-        writer: &mut W,
-    ) -> Visited {
-        let mut backend = ServerBackend {
-            visitor,
-            pool: self,
-        };
-        visit(&mut backend, lines, writer)
-    }
-
-    fn work<R: Wait>(&self, rt: &R, state: Share<L>, table: &Table) -> Share<L> {
-        work(rt, &self.pool, state, &(), table)
-    }
-
-    fn close<R: Wait>(&self, rt: &R) {
-        self.pool.close(rt);
     }
 }

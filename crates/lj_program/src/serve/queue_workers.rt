@@ -2,7 +2,7 @@
 ghost use Rattle.std.specs.Prelude.{◌≡◌, ◌+◌, IfOk};
 ghost use Rattle.std.specs.List.{sum_by};
 
-use crate::serve::server_backend::{PoolEnds, ServerBackend};
+use crate::serve::server_backend::{PoolEnds, visit_over};
 use crate::serve::visitor::Visitor;
 use crate::serve::worker_pool::WorkerPool;
 use lj_base::OutOfMemory;
@@ -12,7 +12,7 @@ use lj_queue::{
     gather, work_queue,
 };
 use lj_table::Table;
-use lj_visit::{UserEnd, Visited, visit};
+use lj_visit::{UserEnd, Visited};
 use lj_wire::{LineReader, Sink, Source};
 use log::{Log, info};
 use std::alloc::{AllocError, Global};
@@ -60,19 +60,58 @@ impl<L: PoolIdentity> QueueWorkers<L> {
         };
         Ok((made, states))
     }
+}
 
-    /// Returns the number of results given to the pool: the sum of the shares of all its workers. Logs the counts of the tasks.
-    ///
-    /// # Errors
-    /// Out of memory if the state of a worker is lost, since it had no thread.
-    pub fn gather<R: Wait + Log>(
+impl<'s, L: PoolIdentity + 's, R: Wait + 's> PoolEnds<'s, R> for QueueWorkers<L> {
+    type OpenedEnd = QueueEnd<'s, L, R>;
+
+    fn open_end(&'s self, rt: &'s R, user: u8) -> UserEnd<QueueEnd<'s, L, R>> {
+        let pool = self.pool.end_of(rt, &self.free, user);
+        UserEnd { pool, user }
+    }
+
+    fn close_pool(&self, rt: &R) {
+        self.pool.close(rt);
+    }
+}
+
+impl<L: PoolIdentity + Send> WorkerPool for QueueWorkers<L> {
+    type WorkerState = (Share<L>, PoolPass<L>);
+
+    ghost has_workers = { λ workers. (workers ≡ L.parts) × (workers + CONNECTIONS ≡ L.passes) };
+
+    ghost counted = { sum_by (λ state. state.0) };
+
+    fn visit<'s, R: Wait + Clock + Log, S: Source, W: Sink>(
+        &'s self,
+        visitor: &mut Visitor<'s, R>,
+        lines: &mut LineReader<S>,
+        writer: &mut W,
+    ) -> Visited {
+        visit_over(self, visitor, lines, writer)
+    }
+
+    fn work<R: Wait>(
+        &self,
+        rt: &R,
+        state: (Share<L>, PoolPass<L>),
+        table: &Table,
+    ) -> (Share<L>, PoolPass<L>) {
+        let (share, pass) = state;
+        work_queue(rt, &self.pool, share, pass, &(), table)
+    }
+
+    fn close<R: Wait>(&self, rt: &R) {
+        self.pool.close(rt);
+    }
+
+    fn gather<R: Wait + Log>(
         self,
         rt: &R,
         workers: usize,
         states: Vec<(Share<L>, PoolPass<L>)>,
     ) -> Result<u64, OutOfMemory>
-        requires one_each { workers ≡ L.parts }
-        requires passes { workers + CONNECTIONS ≡ L.passes }
+        requires { (workers ≡ L.parts) × (workers + CONNECTIONS ≡ L.passes) }
         ensures { IfOk result (λ total. total ≡ sum_by (λ state. state.0) states.items) }
     {
         let QueueWorkers { pool, free, shares } = self;
@@ -94,49 +133,5 @@ impl<L: PoolIdentity> QueueWorkers<L> {
         } = pool.settle(rt, passes);
         info!(rt; "the queue: {pushed} tasks posted, {popped} taken, {left} left");
         Ok(given)
-    }
-}
-
-impl<'s, L: PoolIdentity + 's, R: Wait + 's> PoolEnds<'s, R> for QueueWorkers<L> {
-    type OpenedEnd = QueueEnd<'s, L, R>;
-
-    fn open_end(&'s self, rt: &'s R, user: u8) -> UserEnd<QueueEnd<'s, L, R>> {
-        let pool = self.pool.end_of(rt, &self.free, user);
-        UserEnd { pool, user }
-    }
-
-    fn close_pool(&self, rt: &R) {
-        self.pool.close(rt);
-    }
-}
-
-impl<L: PoolIdentity + Send> WorkerPool for QueueWorkers<L> {
-    type WorkerState = (Share<L>, PoolPass<L>);
-
-    fn visit<'s, R: Wait + Clock + Log, S: Source, W: Sink>(
-        &'s self,
-        visitor: &mut Visitor<'s, R>,
-        lines: &mut LineReader<S>,
-        writer: &mut W,
-    ) -> Visited {
-        let mut backend = ServerBackend {
-            visitor,
-            pool: self,
-        };
-        visit(&mut backend, lines, writer)
-    }
-
-    fn work<R: Wait>(
-        &self,
-        rt: &R,
-        state: (Share<L>, PoolPass<L>),
-        table: &Table,
-    ) -> (Share<L>, PoolPass<L>) {
-        let (share, pass) = state;
-        work_queue(rt, &self.pool, share, pass, &(), table)
-    }
-
-    fn close<R: Wait>(&self, rt: &R) {
-        self.pool.close(rt);
     }
 }

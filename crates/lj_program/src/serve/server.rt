@@ -80,9 +80,7 @@ fn serve_by_lock<L: Ledger + Send + Sync, R: Threads + Wait + Clock + Log + Sync
     requires one_each { blank.parts ≡ workers }
 {
     let (pool, states) = LockWorkers::<L>::new(alloc, blank, workers)?;
-    let server = Server::new(alloc, directory, pool);
-    let states = run_workers(rt, &server, states, listening)?;
-    server.pool.gather(rt, workers, states)
+    serve_over(rt, alloc, directory, pool, states, workers, listening)
 }
 
 fn serve_by_queue<L: PoolIdentity + Send + Sync, R: Threads + Wait + Clock + Log + Sync>(
@@ -100,6 +98,21 @@ fn serve_by_queue<L: PoolIdentity + Send + Sync, R: Threads + Wait + Clock + Log
     requires passes { workers + CONNECTIONS ≡ L.passes }
 {
     let (pool, states) = QueueWorkers::<L>::new(alloc, blank, workers)?;
+    serve_over(rt, alloc, directory, pool, states, workers, listening)
+}
+
+/// Serves the users of a directory over a pool, whose workers have these states. Returns the number of tiles computed.
+fn serve_over<P: WorkerPool + Sync, R: Threads + Wait + Clock + Log + Sync>(
+    rt: &R,
+    alloc: Global,
+    directory: Directory,
+    pool: P,
+    states: Vec<P::WorkerState>,
+    workers: usize,
+    listening: Listening<'_>,
+) -> Result<u64, OutOfMemory>
+    requires { P.has_workers workers }
+{
     let server = Server::new(alloc, directory, pool);
     let states = run_workers(rt, &server, states, listening)?;
     server.pool.gather(rt, workers, states)

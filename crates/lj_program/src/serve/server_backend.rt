@@ -2,13 +2,16 @@
 ghost use Rattle.std.specs.Prelude.{◌≡◌, ◌∷◌, [], None};
 ghost use Rattle.lj_end.specs.Seen.{nothing_seen};
 ghost use Rattle.lj_visit.specs.Events.{Happens};
+ghost use Rattle.lj_visit.specs.Visits.{IsVisit};
+ghost use Rattle.lj_wire.specs.declared.reader.phase.Phase.TheVariants.{Open};
 ghost use Rattle.lj_visit.specs.Events.Event.{withdrawn};
 
 use crate::serve::visitor::Visitor;
 use lj_access::Denied;
 use lj_base::{Name, Token};
 use lj_end::PoolEnd;
-use lj_visit::{Backend, LentState, LentTicket, Shut, UserEnd};
+use lj_visit::{Backend, LentState, LentTicket, Shut, UserEnd, Visited, visit};
+use lj_wire::{LineReader, Sink, Source};
 use log::Log;
 use std::rt::Clock;
 use std::sync::Wait;
@@ -68,4 +71,21 @@ impl<'s, P: PoolEnds<'s, R>, R: Wait + Clock + Log> Backend for ServerBackend<'_
         self.pool.close_pool(self.visitor.rt);
         self.visitor.directory.close(self.visitor.rt);
     }
+}
+
+/// Answers a connection from its first line to its end, over an end of the pool.
+pub fn visit_over<'s, P: PoolEnds<'s, R>, R: Wait + Clock + Log, S: Source, W: Sink>(
+    pool: &'s P,
+    visitor: &mut Visitor<'s, R>,
+    lines: &mut LineReader<S>,
+    writer: &mut W,
+) -> Visited
+    requires fresh { lines.old.items ≡ 0 }
+    requires at_work { lines.old.phase ≡ Open }
+    ensures { IsVisit result lines.old lines.new
+        (record { contents = W.contents writer.old; faults = W.faults writer.old; unflushed = W.unflushed writer.old })
+        (record { contents = W.contents writer.new; faults = W.faults writer.new; unflushed = W.unflushed writer.new }) None None }
+{
+    let mut backend = ServerBackend { visitor, pool };
+    visit(&mut backend, lines, writer)
 }

@@ -1,9 +1,10 @@
 //! The pool of workers of a server.
-ghost use Rattle.std.specs.Prelude.{◌≡◌, None};
+ghost use Rattle.std.specs.Prelude.{◌≡◌, ℕ, IfOk, List, None};
 ghost use Rattle.lj_wire.specs.declared.reader.phase.Phase.TheVariants.{Open};
 ghost use Rattle.lj_visit.specs.Visits.{IsVisit};
 
 use crate::serve::visitor::Visitor;
+use lj_base::OutOfMemory;
 use lj_table::Table;
 use lj_visit::Visited;
 use lj_wire::{LineReader, Sink, Source};
@@ -25,6 +26,12 @@ pub trait WorkerPool: Drop {
     /// The state of a worker: what it counts its results by, and pops tasks with.
     type WorkerState: Send + Drop;
 
+    // such a pool has this many workers
+    ghost has_workers: { ℕ → Type 0 };
+
+    // how many results these states count
+    ghost counted: { List Self.WorkerState → ℕ };
+
     /// Answers a connection from its first line to its end, over an end of the pool.
     fn visit<'s, R: Wait + Clock + Log, S: Source, W: Sink>(
         &'s self,
@@ -43,4 +50,18 @@ pub trait WorkerPool: Drop {
 
     /// Closes the pool: from now on no task is computed.
     fn close<R: Wait>(&self, rt: &R);
+
+    /// Returns the number of results given to the pool: the sum of what the states of all its workers count. Logs the counts of the
+    /// tasks.
+    ///
+    /// # Errors
+    /// Out of memory if the state of a worker is lost, since it had no thread.
+    fn gather<R: Wait + Log>(
+        self,
+        rt: &R,
+        workers: usize,
+        states: Vec<Self::WorkerState>,
+    ) -> Result<u64, OutOfMemory>
+        requires { has_workers workers }
+        ensures { IfOk result (λ total. total ≡ counted states.items) };
 }

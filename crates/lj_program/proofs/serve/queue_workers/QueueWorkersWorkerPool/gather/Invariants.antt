@@ -1,6 +1,6 @@
 use Rattle.std.specs.Prelude.{◌≡◌, ◌+◌, sum, vec_len}
 use Rattle.std.specs.List.{sum_by}
-use Rattle.lj_program.proofs.serve.queue_workers.QueueWorkers.gather.Given as goal
+use Rattle.lj_program.proofs.serve.queue_workers.QueueWorkersWorkerPool.gather.Given as goal
 
 abbrev pub invariant-loop-share : goal.invariant-loop-share
 invariant-loop-share g l =
