@@ -129,7 +129,7 @@ impl<C: Drop, X: Finish> End<X, C> {
     }
 }
 
-impl<C: Copy + Drop, X: PoolLink<C>> PoolEnd for End<X, C> {
+impl<C: Copy + Send + Drop, X: PoolLink<C>> PoolEnd for End<X, C> {
     type Closed = C;
 
     ghost use Rattle.lj_end.specs.declared.pool.TheConstants.{MAX_OWED};

@@ -66,6 +66,16 @@ fn post_fourth<P: Pool, R: Clock + Abort>(rt: &R, held: &Barrier<'_, R>, end: &m
     is_held && first_came && others_came
 }
 
+/// Does this beside a worker that passes a gate, and then closes the pool.
+fn post_fourth_beside<S: TestPool<R> + Sync, P: Pool, R: Host + Sync>(
+    rt: &R,
+    test_pool: &S,
+    gate: &Noting<'_, R>,
+    end: &mut P,
+) -> bool {
+    beside_worker(rt, test_pool, gate, || post_fourth(rt, &gate.held, end))
+}
+
 /// Posts one task, and then two together.
 fn post_three<P: Pool, R: Abort>(rt: &R, end: &mut P) {
     post_one(rt, end, task(rt, USER, 1));
@@ -87,8 +97,7 @@ pub fn take_in_turn<S: TestPool<R> + Sync, R: Host + Sync>(rt: &R, test_pool: &S
         order: AtomicU64::new(0),
         held: Barrier::new(rt),
     };
-    let held = &gate.held;
-    let all_came = beside_worker(rt, test_pool, &gate, || post_fourth(rt, held, &mut end));
+    let all_came = post_fourth_beside(rt, test_pool, &gate, &mut end);
     test_pool.leave(rt, end);
     Taken {
         all_came,
