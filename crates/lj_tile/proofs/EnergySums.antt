@@ -1,6 +1,6 @@
 -- Sums of the energies of pairs, by lists and by rows.
 use Rattle.std.proofs.Common.{ℕ, zero, suc, ◌+◌, ◌*◌, ◌^◌, ◌<◌, ◌≤◌, ◌≡◌, Bool, true, false, List, [], ◌∷◌, ◌++◌, ℤ, pos, ◌+ℤ◌, unsigned_abs, to_z, of_z, w64, FitsSigned}
-use Rattle.std.proofs.Common.{length, take, drop, slice_index_or, refl, sym, ap, ◌∙◌, inl, inr, add-one, arith}
+use Rattle.std.proofs.Common.{length, take, drop, slice_index_or, subst, refl, sym, ap, ◌∙◌, inl, inr, add-one, arith}
 use Rattle.std.specs.Int.{bit_at}
 use Rattle.std.proofs.lemmas.Bool.{cases_eq}
 use Rattle.std.proofs.lemmas.Int.{ints, fits_signed_from_abs, to_z-of_z}
@@ -20,11 +20,11 @@ use Rattle.lj_task.specs.Tiles.{place_at, chosen_energy}
 use Rattle.lj_task.specs.Task.{Task, task_energy, are_in_order, class_in}
 use Rattle.lj_tile.specs.Rows.{energy_of, energy_row, energy_in, energies_in}
 use Rattle.lj_tile.specs.Pairs.{row_pairs}
-use Rattle.lj_tile.specs.Energies.{pair_energy, list_energy, lists_energy, chosen_row, rows_energy}
-use Rattle.lj_tile.proofs.Splits.{in_none, in_firsts, in_seconds, RowSplit, SplitRow}
+use Rattle.lj_tile.specs.RowSets.{IsSpeciesRow, IsOfOne, of_one, of_other, of_none, IsSilentRow, AreRowsBySpecies, in_none, in_firsts, in_seconds, RowSplit, SplitRow}
+use Rattle.lj_tile.specs.Energies.{pair_energy, list_energy, lists_energy, energy_with_both, chosen_row, rows_energy}
 use Rattle.lj_tile.proofs.SumLemmas.{sum_past, abs_add}
 use Rattle.lj_tile.proofs.RowPairs.{pairs_to, pairs_more, pairs_same, pairs_zero, pair_first, pair_second, whole_row, none_behind}
-use Rattle.lj_tile.proofs.RowSums.{is_in_set, is_not_in, IsOfOne, IsSilentRow, of_one, of_other, of_none}
+use Rattle.lj_tile.proofs.RowSums.{is_in_set, is_not_in}
 
 joined : (x y z : ℤ) → x +ℤ (y +ℤ z) ≡ (x +ℤ y) +ℤ z
 joined x y z = omega (arith, ints)
@@ -157,7 +157,7 @@ row_both w t firsts seconds row =
     (int_sum_both (length w.b.places) _ _ (energy_of w t) (λ s h. split_energy w t firsts seconds s (row.split s h)))
 
 -- a row is added where the pairs of both its parts are
-pub row_energy_added : (w : Task) (t firsts seconds : ℕ) (ps qs ps_after qs_after : List ℕ) (one other : ℤ)
+with_classes : (w : Task) (t firsts seconds : ℕ) (ps qs ps_after qs_after : List ℕ) (one other : ℤ)
     → SplitRow w t firsts seconds
     → one +ℤ list_energy (class_with w t First) w.a.places w.b.places ps_after
     ≡ list_energy (class_with w t First) w.a.places w.b.places (ps ++ row_pairs t firsts)
@@ -165,7 +165,7 @@ pub row_energy_added : (w : Task) (t firsts seconds : ℕ) (ps qs ps_after qs_af
     ≡ list_energy (class_with w t Second) w.a.places w.b.places (qs ++ row_pairs t seconds)
     → one +ℤ other +ℤ lists_energy w (class_with w t First) (class_with w t Second) ps_after qs_after
     ≡ lists_energy w (class_with w t First) (class_with w t Second) ps qs +ℤ energy_row w t
-row_energy_added w t firsts seconds ps qs ps_after qs_after one other split of_firsts of_seconds =
+with_classes w t firsts seconds ps qs ps_after qs_after one other split of_firsts of_seconds =
     let k = class_with w t First in
     let l = class_with w t Second in
     let a = w.a.places in
@@ -179,6 +179,23 @@ row_energy_added w t firsts seconds ps qs ps_after qs_after one other split of_f
     of_row : (one other pa qa p q f g row : ℤ) → one +ℤ pa ≡ p +ℤ f → other +ℤ qa ≡ q +ℤ g → f +ℤ g ≡ row
         → one +ℤ other +ℤ (pa +ℤ qa) ≡ (p +ℤ q) +ℤ row
     of_row one other pa qa p q f g row e h i = omega (arith, ints, e, h, i)
+
+pub row_energy_added : (w : Task) (own : Species) (t firsts seconds : ℕ) (ps qs ps_after qs_after : List ℕ) (one other : ℤ)
+    → IsSpeciesRow w own t → SplitRow w t firsts seconds
+    → one +ℤ list_energy (class_of w.mix own First) w.a.places w.b.places ps_after
+    ≡ list_energy (class_of w.mix own First) w.a.places w.b.places (ps ++ row_pairs t firsts)
+    → other +ℤ list_energy (class_of w.mix own Second) w.a.places w.b.places qs_after
+    ≡ list_energy (class_of w.mix own Second) w.a.places w.b.places (qs ++ row_pairs t seconds)
+    → one +ℤ other +ℤ energy_with_both w own ps_after qs_after ≡ energy_with_both w own ps qs +ℤ energy_row w t
+row_energy_added w own t firsts seconds ps qs ps_after qs_after one other is split of_firsts of_seconds =
+    let a = w.a.places in
+    let b = w.b.places in
+    subst (λ o. one +ℤ other +ℤ energy_with_both w o ps_after qs_after ≡ energy_with_both w o ps qs +ℤ energy_row w t) is.species
+    (with_classes w t firsts seconds ps qs ps_after qs_after one other split
+    (subst (λ o. one +ℤ list_energy (class_of w.mix o First) a b ps_after ≡ list_energy (class_of w.mix o First) a b (ps ++ row_pairs t firsts))
+    (sym is.species) of_firsts)
+    (subst (λ o. other +ℤ list_energy (class_of w.mix o Second) a b qs_after ≡ list_energy (class_of w.mix o Second) a b (qs ++ row_pairs t seconds))
+    (sym is.species) of_seconds))
 
 -- rows that are not in the set add nothing
 pub rows_energy_past : (w : Task) (rows from to : ℕ) → from ≤ to → ((k : ℕ) → from ≤ k → k < to → bit_at rows k ≡ 0)
@@ -203,16 +220,14 @@ silent_row : (w : Task) (t : ℕ) → IsSilentRow w t → pos 0 ≡ energy_row w
 silent_row w t silent = sum_past (energy_of w t) 0 (length w.b.places) (omega arith) (λ s h k. (silent s k).energy)
 
 -- the rows of two sets are all that have energies
-pub both_rows : (w : Task) (one other : ℕ) → length w.a.places ≤ 64
-    → ((t : ℕ) → bit_at one t ≡ 1 → t < length w.a.places) → ((t : ℕ) → bit_at other t ≡ 1 → t < length w.a.places)
-    → ((t : ℕ) → t < length w.a.places → IsOfOne one other t (IsSilentRow w t))
+pub both_rows : (w : Task) (one other : ℕ) → length w.a.places ≤ 64 → AreRowsBySpecies w one other
     → rows_energy w one 64 +ℤ rows_energy w other 64 ≡ int_sum_below (length w.a.places) (energy_row w)
-both_rows w one other many one_in other_in rows =
+both_rows w one other many rows =
     rw (
-      ← rows_energy_past w one (length w.a.places) 64 many (none_behind one (length w.a.places) one_in),
-      ← rows_energy_past w other (length w.a.places) 64 many (none_behind other (length w.a.places) other_in),
+      ← rows_energy_past w one (length w.a.places) 64 many (none_behind one (length w.a.places) (λ t set. (rows.firsts t set).within)),
+      ← rows_energy_past w other (length w.a.places) 64 many (none_behind other (length w.a.places) (λ t set. (rows.seconds t set).within)),
     )
-    (int_sum_both (length w.a.places) (chosen_row w one) (chosen_row w other) (energy_row w) (λ t h. each t (rows t h)))
+    (int_sum_both (length w.a.places) (chosen_row w one) (chosen_row w other) (energy_row w) (λ t h. each t (rows.each t h)))
   where
     each : (t : ℕ) → IsOfOne one other t (IsSilentRow w t) → chosen_row w one t +ℤ chosen_row w other t ≡ energy_row w t
     each t (of_one e f) = rw (is_in_set one t e, is_not_in other t f) (+ℤ_idr (energy_row w t))

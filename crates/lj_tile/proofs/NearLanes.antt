@@ -1,5 +1,5 @@
 -- The steps of the quick test, lane by lane.
-use Rattle.std.proofs.Common.{ℕ, ◌+◌, ◌-◌, ◌*◌, ◌/◌, ◌%◌, ◌^◌, ◌<◌, ◌≤◌, ◌≡◌, Bool, true, false, cond, ltb, ℤ, pos, List, length, get_or, map, refl, sym, ap, subst, ◌∙◌, inl, inr, bit_or, w16, max, min, ◌++◌, take, drop, pow_pos, to_z, of_z, arith}
+use Rattle.std.proofs.Common.{ℕ, ◌+◌, ◌-◌, ◌*◌, ◌/◌, ◌%◌, ◌^◌, ◌<◌, ◌≤◌, ◌≡◌, Bool, false, cond, ltb, ℤ, pos, List, length, get_or, map, refl, sym, ap, subst, ◌∙◌, inl, inr, bit_or, w16, max, min, ◌++◌, take, drop, pow_pos, to_z, of_z, arith}
 use Rattle.std.specs.Simd.Lanes.{zip2, mask_l, top, chunk, pick_l}
 use Rattle.std.specs.List.{range_with_len}
 use Rattle.std.specs.Int.{bit_at}

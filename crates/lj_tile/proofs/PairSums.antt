@@ -10,7 +10,8 @@ use Rattle.lj_task.specs.declared.pushes.Push.{Push}
 use Rattle.lj_task.specs.declared.force_sums.ForceSums.{ForceSums}
 use Rattle.lj_task.specs.Pushes.{push, no_push, sum_of_pushes, opposite_push}
 use Rattle.lj_task.specs.Tiles.{place_at}
-use Rattle.lj_tile.specs.Pairs.{first_of, second_of, push_on_first, push_on_second, sum_of_pairs, IsMore, HavePushes, HaveTotals, total}
+use Rattle.lj_tile.specs.Pairs.{first_of, second_of, push_on_first, push_on_second, sum_of_pairs, IsMore, HavePushes}
+use Rattle.lj_tile.specs.PairTotals.{HaveTotals, total}
 use Rattle.lj_tile.specs.declared.pair_lanes.Eight.{Eight}
 use Rattle.lj_tile.specs.Lanes.{IsPush}
 use Rattle.std.proofs.lemmas.List.{take-append-drop}
@@ -173,7 +174,8 @@ more_total f pairs n old new more =
     ∙ ap (sum_of_pushes old) (sym (sum_appended f (take n pairs) (drop n pairs)) ∙ ap (sum_of_pairs f) (take-append-drop n pairs))
 
 pub totals_kept : (u : Scale) (a b : List Place) (pairs after : List ℕ) (n : ℕ) (old new : ForceSums)
-    → HavePushes u a b (take n pairs) old new → after ≡ drop n pairs → HaveTotals u a b pairs after old new
+    → HavePushes u a b (take n pairs) old new → after ≡ drop n pairs
+    → HaveTotals u a b (record { pairs = pairs; sums = old }) (record { pairs = after; sums = new })
 totals_kept u a b pairs after n old new more e = record {
   first = λ t h. rw e (more_total (push_on_first u a b t) pairs n _ _ (more.first t h));
   second = λ s h. rw e (more_total (push_on_second u a b s) pairs n _ _ (more.second s h));

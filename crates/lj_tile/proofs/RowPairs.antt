@@ -1,6 +1,6 @@
 -- The pairs of a row, and their sums.
 use Rattle.std.proofs.Common.{ℕ, zero, suc, ◌+◌, ◌-◌, ◌*◌, ◌%◌, ◌^◌, ◌<◌, ◌≤◌, ◌≡◌, ◌≢◌, ◌==◌, true, false, List, [], ◌∷◌, ◌++◌, map}
-use Rattle.std.proofs.Common.{length, length-append, slice_index_or, subst, refl, sym, ap, ◌∙◌, inl, inr, add-one, if◌then◌else◌, arith}
+use Rattle.std.proofs.Common.{length, length-append, slice_index_or, subst, refl, sym, ap, ◌∙◌, inl, inr, add-one, arith}
 use Rattle.std.specs.Int.{bit_at}
 use Rattle.std.proofs.lemmas.Bool.{cases_lt, cases_eq}
 use Rattle.std.proofs.lemmas.Bool.Decides.{nat_tests}
@@ -9,18 +9,20 @@ use Rattle.std.proofs.lemmas.List.{map-append, append-nil, get_or_append_left}
 use Rattle.std.proofs.Math.Seq.{get_or-append_right}
 use Rattle.lj_ring.specs.declared.coordinates.Place.{Place}
 use Rattle.lj_ring.specs.Scale.{Scale}
+use Rattle.lj_ring.specs.declared.mixes.Species.{Species}
 use Rattle.lj_task.specs.declared.pushes.Push.{Push}
 use Rattle.lj_task.specs.declared.force_sums.ForceSums.{ForceSums}
 use Rattle.lj_task.specs.Pushes.{push, no_push, sum_of_pushes}
-use Rattle.lj_task.specs.Species.{is_in}
+use Rattle.lj_task.specs.Species.{is_in, species_at}
 use Rattle.lj_task.specs.Tiles.{place_at, chosen_push}
 use Rattle.lj_task.specs.Task.{Task}
-use Rattle.lj_tile.specs.Rows.{pushes_in, push_in, push_back, sum_on_first}
+use Rattle.lj_tile.specs.Rows.{pushes_in, push_in, push_back}
 use Rattle.lj_tile.specs.Pairs.{members, row_pairs, first_of, second_of, ArePairs, push_on_first, push_on_second, sum_of_pairs}
-use Rattle.lj_tile.specs.Pairs.{HaveTotals, total, total_of_two, HaveRow}
+use Rattle.lj_tile.specs.PairTotals.{SumsWithList, SumsWithLists, HaveTotals, total, HaveRow, row_on_first, scale_between}
+use Rattle.lj_tile.specs.RowSets.{IsSpeciesRow, in_none, in_firsts, in_seconds, RowSplit, SplitRow}
 use Rattle.lj_task.proofs.Opposites.{same_push}
 use Rattle.lj_ring.specs.declared.mixes.Species.TheVariants.{First, Second}
-use Rattle.lj_tile.proofs.Splits.{in_none, in_firsts, in_seconds, RowSplit, SplitRow, scale_with, row_sum}
+use Rattle.lj_tile.proofs.Splits.{scale_with, row_sum}
 use Rattle.lj_tile.proofs.RowLemmas.{pushes_more, pushes_past}
 use Rattle.lj_tile.proofs.PairSums.{sum_appended, sum_of_one, whole_sum, more_none}
 
@@ -167,8 +169,8 @@ row_there u a b s t set (suc n) le before =
     none_twice p = same_push _ _ (omega arith) (omega arith) (omega arith)
 
 -- nothing added, and nothing to be added
-pub totals_same : (u : Scale) (a b : List Place) (ps : List ℕ) (sums : ForceSums) → HaveTotals u a b ps ps sums sums
-totals_same u a b ps sums = record { first = λ t h. refl; second = λ s h. refl; firsts = refl; seconds = refl }
+totals_same : (u : Scale) (a b : List Place) (state : SumsWithList) → HaveTotals u a b state state
+totals_same u a b state = record { first = λ t h. refl; second = λ s h. refl; firsts = refl; seconds = refl }
 
 -- the pairs of a row in all
 pub whole_row : (t set : ℕ) → row_pairs t set ≡ pairs_to t set 64
@@ -179,7 +181,7 @@ whole_row t set = refl
 two_more : (f g : ℕ → Push) (ps qs ps_after qs_after fs gs : List ℕ) (old mid new row : Push)
     → total f ps_after mid ≡ total f (ps ++ fs) old → total g qs_after new ≡ total g (qs ++ gs) mid
     → sum_of_pushes row no_push ≡ sum_of_pushes (sum_of_pairs f fs) (sum_of_pairs g gs)
-    → total_of_two f g ps_after qs_after new ≡ sum_of_pushes (total_of_two f g ps qs old) row
+    → total g qs_after (total f ps_after new) ≡ sum_of_pushes (total g qs (total f ps old)) row
 two_more f g ps qs ps_after qs_after fs gs old mid new row one other whole =
     let first = one ∙ ap (sum_of_pushes old) (sum_appended f ps fs) in
     let second = other ∙ ap (sum_of_pushes mid) (sum_appended g qs gs) in
@@ -223,7 +225,7 @@ there_pairs u a b s t set few =
 -- what a row adds to its own place and to others of its block
 pub row_sum_first : (w : Task) (k t firsts seconds : ℕ) → SplitRow w t firsts seconds
     → (let a = w.a.places in let b = w.b.places in
-    sum_of_pushes (if k == t then sum_on_first w t (length b) else no_push) no_push
+    sum_of_pushes (row_on_first w t k) no_push
     ≡ sum_of_pushes (sum_of_pairs (push_on_first (scale_with w t First) a b k) (row_pairs t firsts))
     (sum_of_pairs (push_on_first (scale_with w t Second) a b k) (row_pairs t seconds)))
 row_sum_first w k t firsts seconds row =
@@ -280,27 +282,48 @@ row_sum_second w s t firsts seconds few within split =
     none_more_second p = same_push _ _ (omega arith) (omega arith) (omega arith)
 
 -- a row is added where the pairs of both its parts are
-pub row_added : (w : Task) (t firsts seconds : ℕ) (ps qs ps_after qs_after : List ℕ) (old mid new : ForceSums)
+with_scales : (w : Task) (t firsts seconds : ℕ) (before after : SumsWithLists) (mid : ForceSums) → SplitRow w t firsts seconds
+    → HaveTotals (scale_with w t First) w.a.places w.b.places
+    (record { pairs = before.of_firsts ++ row_pairs t firsts; sums = before.sums }) (record { pairs = after.of_firsts; sums = mid })
+    → HaveTotals (scale_with w t Second) w.a.places w.b.places
+    (record { pairs = before.of_seconds ++ row_pairs t seconds; sums = mid }) (record { pairs = after.of_seconds; sums = after.sums })
+    → HaveRow w (species_at w.a.species_bits t) t before after
+with_scales w t firsts seconds before after mid row one other =
+    let a = w.a.places in
+    let b = w.b.places in
+    let u = scale_with w t First in
+    let v = scale_with w t Second in
+    record {
+      first = λ k h.
+          two_more (push_on_first u a b k) (push_on_first v a b k) before.of_firsts before.of_seconds after.of_firsts after.of_seconds
+          (row_pairs t firsts) (row_pairs t seconds) (slice_index_or before.sums.first k no_push) (slice_index_or mid.first k no_push)
+          (slice_index_or after.sums.first k no_push) _ (one.first k h) (other.first k h) (row_sum_first w k t firsts seconds row);
+      second = λ s h.
+          let below : s < 64 = omega (arith, row.few, h) in
+          two_more (push_on_second u a b s) (push_on_second v a b s) before.of_firsts before.of_seconds after.of_firsts after.of_seconds
+          (row_pairs t firsts) (row_pairs t seconds) (slice_index_or before.sums.second s no_push) (slice_index_or mid.second s no_push)
+          (slice_index_or after.sums.second s no_push) _ (one.second s below) (other.second s below)
+          (row_sum_second w s t firsts seconds row.few h (row.split s h));
+      firsts = other.firsts ∙ one.firsts;
+      seconds = other.seconds ∙ one.seconds;
+    }
+
+pub row_added : (w : Task) (own : Species) (t firsts seconds : ℕ) (before after : SumsWithLists) (mid : ForceSums) → IsSpeciesRow w own t
     → SplitRow w t firsts seconds
-    → HaveTotals (scale_with w t First) w.a.places w.b.places (ps ++ row_pairs t firsts) ps_after old mid
-    → HaveTotals (scale_with w t Second) w.a.places w.b.places (qs ++ row_pairs t seconds) qs_after mid new
-    → HaveRow w (scale_with w t First) (scale_with w t Second) t ps qs ps_after qs_after old new
-row_added w t firsts seconds ps qs ps_after qs_after old mid new row one other = record {
-  first = λ k h.
-      two_more (push_on_first (scale_with w t First) w.a.places w.b.places k) (push_on_first (scale_with w t Second) w.a.places w.b.places k)
-      ps qs ps_after qs_after (row_pairs t firsts) (row_pairs t seconds) (slice_index_or old.first k no_push)
-      (slice_index_or mid.first k no_push) (slice_index_or new.first k no_push) _ (one.first k h) (other.first k h)
-      (row_sum_first w k t firsts seconds row);
-  second = λ s h.
-      let below : s < 64 = omega (arith, row.few, h) in
-      two_more (push_on_second (scale_with w t First) w.a.places w.b.places s)
-      (push_on_second (scale_with w t Second) w.a.places w.b.places s) ps qs ps_after qs_after (row_pairs t firsts)
-      (row_pairs t seconds) (slice_index_or old.second s no_push) (slice_index_or mid.second s no_push)
-      (slice_index_or new.second s no_push) _ (one.second s below) (other.second s below)
-      (row_sum_second w s t firsts seconds row.few h (row.split s h));
-  firsts = other.firsts ∙ one.firsts;
-  seconds = other.seconds ∙ one.seconds;
-}
+    → HaveTotals (scale_between w own First) w.a.places w.b.places
+    (record { pairs = before.of_firsts ++ row_pairs t firsts; sums = before.sums }) (record { pairs = after.of_firsts; sums = mid })
+    → HaveTotals (scale_between w own Second) w.a.places w.b.places
+    (record { pairs = before.of_seconds ++ row_pairs t seconds; sums = mid }) (record { pairs = after.of_seconds; sums = after.sums })
+    → HaveRow w own t before after
+row_added w own t firsts seconds before after mid is row one other =
+    subst (λ o. HaveRow w o t before after) is.species
+    (with_scales w t firsts seconds before after mid row
+    (subst (λ o. HaveTotals (scale_between w o First) w.a.places w.b.places
+    (record { pairs = before.of_firsts ++ row_pairs t firsts; sums = before.sums }) (record { pairs = after.of_firsts; sums = mid }))
+    (sym is.species) one)
+    (subst (λ o. HaveTotals (scale_between w o Second) w.a.places w.b.places
+    (record { pairs = before.of_seconds ++ row_pairs t seconds; sums = mid }) (record { pairs = after.of_seconds; sums = after.sums }))
+    (sym is.species) other))
 
 -- one list of pairs of places after another
 are_appended : (a b : List Place) (ps qs : List ℕ) → ArePairs a b ps → ArePairs a b qs → ArePairs a b (ps ++ qs)
@@ -358,8 +381,8 @@ no_pairs t zero = pairs_zero t 0
 no_pairs t (suc n) = pairs_same t 0 n (bit_at-zero n) ∙ no_pairs t n
 
 pub none_came : (u : Scale) (a b : List Place) (ps : List ℕ) (t set : ℕ) (sums : ForceSums) → set ≡ 0
-    → HaveTotals u a b (ps ++ row_pairs t set) ps sums sums
+    → HaveTotals u a b (record { pairs = ps ++ row_pairs t set; sums = sums }) (record { pairs = ps; sums = sums })
 none_came u a b ps t set sums empty =
     let same : ps ++ row_pairs t set ≡ ps =
     ap (λ n. ps ++ row_pairs t n) empty ∙ ap (λ (l : List ℕ). ps ++ l) (whole_row t 0 ∙ no_pairs t 64) ∙ append-nil ps in
-    rw same (totals_same u a b ps sums)
+    rw same (totals_same u a b (record { pairs = ps; sums = sums }))

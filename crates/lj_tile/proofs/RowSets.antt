@@ -7,8 +7,7 @@ use Rattle.std.proofs.lemmas.Nat.Bits.{bit_at_and, bit_at_not, bit_at-lt}
 use Rattle.lj_ring.specs.declared.mixes.Species.TheVariants.{First, Second}
 use Rattle.lj_task.specs.Species.{species_at, is_in}
 use Rattle.lj_task.specs.Task.{Task}
-use Rattle.lj_tile.specs.Pairs.{AreRowsOf}
-use Rattle.lj_tile.proofs.RowSums.{of_one, of_other, of_none, IsOfOne, IsSilentRow}
+use Rattle.lj_tile.specs.RowSets.{AreSpeciesRows, AreRowsBySpecies, of_one, of_other, of_none, IsOfOne, IsSilentRow}
 
 -- a bit of the rows without those of a set, and of those of the set
 split_bits : (rows set t : ℕ) → set < 2 ^ 64 → t < 64
@@ -22,11 +21,11 @@ of_second : (set t : ℕ) → bit_at set t ≡ 1 → species_at set t ≡ Second
 of_second set t e = let f : is_in set t ≡ true = rw e (grind (arith, nat_tests)) in rw f refl
 
 -- the rows of atoms of the first species
-pub first_rows : (w : Task) (rows set : ℕ) → set < 2 ^ 64 → length w.a.places ≤ 64 → set ≡ w.a.species_bits
-    → ((t : ℕ) → bit_at rows t ≡ 1 → t < length w.a.places) → AreRowsOf w First (bit_and rows (18446744073709551615 - set))
-first_rows w rows set small few e within = record {
-  within = λ t one. within t (in_rows t one);
-  species = λ t one.
+first_rows : (w : Task) (rows set : ℕ) → set < 2 ^ 64 → length w.a.places ≤ 64 → set ≡ w.a.species_bits
+    → ((t : ℕ) → bit_at rows t ≡ 1 → t < length w.a.places) → AreSpeciesRows w First (bit_and rows (18446744073709551615 - set))
+first_rows w rows set small few e within t one = record {
+  within = within t (in_rows t one);
+  species =
       let h : t < 64 = omega (arith, few, within t (in_rows t one)) in
       let bits = split_bits rows set t small h in
       rw (sym e) (of_first set t (omega (arith, bits, one)));
@@ -37,19 +36,19 @@ first_rows w rows set small few e within = record {
         let both = bit_at_and rows (bit_not w64 set) t in
         omega (arith, both, one, bit_at-lt rows t, bit_at-lt (bit_not w64 set) t)
 
-pub second_rows : (w : Task) (rows set : ℕ) → set ≡ w.a.species_bits
-    → ((t : ℕ) → bit_at rows t ≡ 1 → t < length w.a.places) → AreRowsOf w Second (bit_and rows set)
-second_rows w rows set e within = record {
-  within = λ t one.
+second_rows : (w : Task) (rows set : ℕ) → set ≡ w.a.species_bits
+    → ((t : ℕ) → bit_at rows t ≡ 1 → t < length w.a.places) → AreSpeciesRows w Second (bit_and rows set)
+second_rows w rows set e within t one = record {
+  within =
       let both = bit_at_and rows set t in
       within t (omega (arith, both, one, bit_at-lt rows t, bit_at-lt set t));
-  species = λ t one.
+  species =
       let both = bit_at_and rows set t in
       rw (sym e) (of_second set t (omega (arith, both, one, bit_at-lt rows t, bit_at-lt set t)));
 }
 
 -- each row is in one of the two, or silent
-pub of_either : (w : Task) (rows set t : ℕ) → set < 2 ^ 64 → t < 64 → (bit_at rows t ≡ 0 → IsSilentRow w t)
+of_either : (w : Task) (rows set t : ℕ) → set < 2 ^ 64 → t < 64 → (bit_at rows t ≡ 0 → IsSilentRow w t)
     → IsOfOne (bit_and rows (18446744073709551615 - set)) (bit_and rows set) t (IsSilentRow w t)
 of_either w rows set t small h silent =
     let bits = split_bits rows set t small h in
@@ -65,3 +64,14 @@ of_either w rows set t small h silent =
           let none : bit_at rows t ≡ 0 = omega (arith, other, bit_at-lt rows t) in
           of_none (omega (arith, bits, none)) (omega (arith, both, none)) (silent none)
     ]
+
+-- the near rows of a task, parted by the species of their atoms
+pub by_species : (w : Task) (rows set : ℕ) → set < 2 ^ 64 → length w.a.places ≤ 64 → set ≡ w.a.species_bits
+    → ((t : ℕ) → bit_at rows t ≡ 1 → t < length w.a.places)
+    → ((t : ℕ) → t < length w.a.places → bit_at rows t ≡ 0 → IsSilentRow w t)
+    → AreRowsBySpecies w (bit_and rows (18446744073709551615 - set)) (bit_and rows set)
+by_species w rows set small few e within far = record {
+  firsts = first_rows w rows set small few e within;
+  seconds = second_rows w rows set e within;
+  each = λ t h. of_either w rows set t small (omega (arith, h, few)) (far t h);
+}

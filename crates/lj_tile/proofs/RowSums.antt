@@ -1,19 +1,23 @@
 -- The sums of the rows of a set, and of those of two sets.
-use Rattle.std.proofs.Common.{ℕ, zero, suc, ◌+◌, ◌%◌, ◌^◌, ◌<◌, ◌≤◌, ◌≡◌, ◌≢◌, ◌==◌, true, false, nat_lt, List, []}
-use Rattle.std.proofs.Common.{length, slice_index_or, refl, sym, ap, ◌∙◌, inl, inr, add-one, if◌then◌else◌, arith}
+use Rattle.std.proofs.Common.{ℕ, zero, suc, ◌+◌, ◌%◌, ◌^◌, ◌<◌, ◌≤◌, ◌≡◌, ◌≢◌, true, false, nat_lt, List, []}
+use Rattle.std.proofs.Common.{length, slice_index_or, subst, refl, sym, ap, ◌∙◌, inl, inr, add-one, arith}
 use Rattle.std.specs.Int.{bit_at}
 use Rattle.std.proofs.lemmas.Bool.{cases_lt, cases_eq}
 use Rattle.std.proofs.lemmas.Bool.Decides.{nat_tests}
 use Rattle.lj_ring.specs.Scale.{Scale}
+use Rattle.lj_ring.specs.declared.mixes.Class.{Class}
+use Rattle.lj_ring.specs.declared.mixes.Species.{Species}
+use Rattle.lj_ring.specs.declared.mixes.Species.TheVariants.{First, Second}
+use Rattle.lj_ring.proofs.MixLemmas.{class_symmetric}
 use Rattle.lj_task.specs.declared.pushes.Push.{Push}
 use Rattle.lj_task.specs.declared.force_sums.ForceSums.{ForceSums}
 use Rattle.lj_task.specs.Pushes.{no_push, sum_of_pushes}
 use Rattle.lj_task.specs.Species.{is_in}
 use Rattle.lj_task.specs.Task.{Task}
-use Rattle.lj_tile.specs.Rows.{IsSilent}
 use Rattle.lj_tile.specs.Rows.{push_back, sum_on_first, sum_on_second}
-use Rattle.lj_tile.specs.Pairs.{push_on_first, push_on_second, sum_of_pairs}
-use Rattle.lj_tile.specs.Pairs.{IsMore, HavePushes, total_of_two, HaveRow, HaveRows, rows_on_first, rows_on_second, row_on_second, IsPushOnRing}
+use Rattle.lj_tile.specs.RowSets.{IsOfOne, of_one, of_other, of_none, IsSilentRow, AreRowsBySpecies}
+use Rattle.lj_tile.specs.Pairs.{push_on_first, push_on_second, sum_of_pairs, IsMore, HavePushes, IsPushOnRing}
+use Rattle.lj_tile.specs.PairTotals.{SumsWithLists, total, total_of, scale_between, HaveRow, HaveRows, row_on_first, rows_on_first, row_on_second, rows_on_second}
 use Rattle.lj_task.proofs.Opposites.{same_push}
 use Rattle.lj_tile.proofs.RowLemmas.{row_silent, second_more}
 use Rattle.lj_tile.proofs.PairSums.{sums_joined, more_none}
@@ -29,9 +33,9 @@ pub is_not_in : (set n : ℕ) → bit_at set n ≡ 0 → is_in set n ≡ false
 is_not_in set n none = rw none refl
 
 -- before the first row of a set nothing has come
-pub no_rows : (w : Task) (u v : Scale) (rows : ℕ) (ps qs : List ℕ) (sums : ForceSums) → HaveRows w u v rows 0 ps qs ps qs sums sums
+pub no_rows : (w : Task) (own : Species) (set : ℕ) (state : SumsWithLists) → HaveRows w own set 0 state state
 unfolding rows_on_second
-no_rows w u v rows ps qs sums = record {
+no_rows w own set state = record {
   first = λ t h. rw (not_before t 0 (omega arith)) (sym (more_none _ _));
   second = λ s h. sym (more_none _ _);
   firsts = refl;
@@ -40,7 +44,7 @@ no_rows w u v rows ps qs sums = record {
 
 -- the sums of rows of which none is in the set
 first_past : (w : Task) (rows t from to : ℕ) → from ≤ to → ((k : ℕ) → from ≤ k → k < to → bit_at rows k ≡ 0)
-    → rows_on_first w rows t from ≡ rows_on_first w rows t to
+    → rows_on_first w rows from t ≡ rows_on_first w rows to t
 first_past w rows t from to le none =
     elim (cases_lt t from) [
       | inl before ↦ rw (is_before t from before, is_before t to (omega arith)) refl
@@ -51,45 +55,44 @@ first_past w rows t from to le none =
       ]
     ]
 
-reduced : (w : Task) (rows s n : ℕ) → sum_of_pushes (rows_on_second w rows s n) no_push ≡ rows_on_second w rows s n
+reduced : (w : Task) (rows s n : ℕ) → sum_of_pushes (rows_on_second w rows n s) no_push ≡ rows_on_second w rows n s
 unfolding rows_on_second
 reduced w rows s zero = refl
-reduced w rows s (suc n) = more_none (rows_on_second w rows s n) (row_on_second w rows s n)
+reduced w rows s (suc n) = more_none (rows_on_second w rows n s) (row_on_second w rows s n)
 
 not_more : (w : Task) (rows s n : ℕ) → bit_at rows n ≡ 0
-    → sum_of_pushes (rows_on_second w rows s n) no_push ≡ rows_on_second w rows s (suc n)
+    → sum_of_pushes (rows_on_second w rows n s) no_push ≡ rows_on_second w rows (suc n) s
 unfolding rows_on_second
 not_more w rows s n clear = rw (is_not_in rows n clear) refl
 
 second_past : (w : Task) (rows s from to : ℕ) → from ≤ to → ((k : ℕ) → from ≤ k → k < to → bit_at rows k ≡ 0)
-    → rows_on_second w rows s from ≡ rows_on_second w rows s to
-second_past w rows s from zero le none = let e : from ≡ 0 = omega (arith, le) in ap (rows_on_second w rows s) e
+    → rows_on_second w rows from s ≡ rows_on_second w rows to s
+second_past w rows s from zero le none = let e : from ≡ 0 = omega (arith, le) in ap (λ n. rows_on_second w rows n s) e
 second_past w rows s from (suc to) le none =
     elim (cases_lt to from) [
-      | inl end ↦ let e : from ≡ suc to = omega (arith, le, end) in ap (rows_on_second w rows s) e
+      | inl end ↦ let e : from ≡ suc to = omega (arith, le, end) in ap (λ n. rows_on_second w rows n s) e
       | inr more ↦
           second_past w rows s from to more (λ k h l. none k h (omega arith))
           ∙ sym (reduced w rows s to) ∙ not_more w rows s to (none to more (omega arith))
     ]
 
-pub rows_past : (w : Task) (u v : Scale) (rows from to : ℕ) (ps qs ps_after qs_after : List ℕ) (old new : ForceSums) → from ≤ to
-    → ((k : ℕ) → from ≤ k → k < to → bit_at rows k ≡ 0) → HaveRows w u v rows from ps qs ps_after qs_after old new
-    → HaveRows w u v rows to ps qs ps_after qs_after old new
-rows_past w u v rows from to ps qs ps_after qs_after old new le none have = record {
-  first = λ t h. have.first t h ∙ ap (sum_of_pushes _) (first_past w rows t from to le none);
-  second = λ s h. have.second s h ∙ ap (sum_of_pushes _) (second_past w rows s from to le none);
+pub rows_past : (w : Task) (own : Species) (set from to : ℕ) (before after : SumsWithLists) → from ≤ to
+    → ((k : ℕ) → from ≤ k → k < to → bit_at set k ≡ 0) → HaveRows w own set from before after → HaveRows w own set to before after
+rows_past w own set from to before after le none have = record {
+  first = λ t h. have.first t h ∙ ap (sum_of_pushes _) (first_past w set t from to le none);
+  second = λ s h. have.second s h ∙ ap (sum_of_pushes _) (second_past w set s from to le none);
   firsts = have.firsts;
   seconds = have.seconds;
 }
 
 row_more : (w : Task) (rows s n : ℕ) → bit_at rows n ≡ 1
-    → sum_of_pushes (rows_on_second w rows s n) (push_back w n s) ≡ rows_on_second w rows s (suc n)
+    → sum_of_pushes (rows_on_second w rows n s) (push_back w n s) ≡ rows_on_second w rows (suc n) s
 unfolding rows_on_second
 row_more w rows s n set = let yes_in : is_in rows n ≡ true = rw set refl in rw yes_in refl
 
 first_more : (w : Task) (rows t n : ℕ) (sum : Push) → bit_at rows n ≡ 1
-    → sum_of_pushes (sum_of_pushes sum (rows_on_first w rows t n)) (if t == n then sum_on_first w n (length w.b.places) else no_push)
-    ≡ sum_of_pushes sum (rows_on_first w rows t (n + 1))
+    → sum_of_pushes (sum_of_pushes sum (rows_on_first w rows n t)) (row_on_first w n t)
+    ≡ sum_of_pushes sum (rows_on_first w rows (n + 1) t)
 first_more w rows t n sum set =
     elim (cases_lt t n) [
       | inl before ↦
@@ -109,30 +112,18 @@ first_more w rows t n sum set =
     none_between a b = same_push _ _ (omega arith) (omega arith) (omega arith)
 
 -- one row of the set more
-pub rows_next : (w : Task) (u v : Scale) (rows n : ℕ) (ps qs ps_mid qs_mid ps_after qs_after : List ℕ) (old mid new : ForceSums)
-    → bit_at rows n ≡ 1 → HaveRows w u v rows n ps qs ps_mid qs_mid old mid → HaveRow w u v n ps_mid qs_mid ps_after qs_after mid new
-    → HaveRows w u v rows (n + 1) ps qs ps_after qs_after old new
-rows_next w u v rows n ps qs ps_mid qs_mid ps_after qs_after old mid new set have row = record {
+pub rows_next : (w : Task) (own : Species) (set n : ℕ) (before mid after : SumsWithLists) → bit_at set n ≡ 1
+    → HaveRows w own set n before mid → HaveRow w own n mid after → HaveRows w own set (n + 1) before after
+rows_next w own set n before mid after one have row = record {
   first = λ t h.
-      row.first t h
-      ∙ ap (λ p. sum_of_pushes p (if t == n then sum_on_first w n (length w.b.places) else no_push)) (have.first t h)
-      ∙ first_more w rows t n _ set;
+      row.first t h ∙ ap (λ p. sum_of_pushes p (row_on_first w n t)) (have.first t h) ∙ first_more w set t n _ one;
   second = λ s h.
       row.second s h ∙ ap (λ p. sum_of_pushes p (push_back w n s)) (have.second s h)
-      ∙ sums_joined _ (rows_on_second w rows s n) (push_back w n s)
-      ∙ ap (sum_of_pushes _) (row_more w rows s n set ∙ ap (rows_on_second w rows s) (sym (add-one n)));
+      ∙ sums_joined _ (rows_on_second w set n s) (push_back w n s)
+      ∙ ap (sum_of_pushes _) (row_more w set s n one ∙ ap (λ m. rows_on_second w set m s) (sym (add-one n)));
   firsts = row.firsts ∙ have.firsts;
   seconds = row.seconds ∙ have.seconds;
 }
-
--- a row is in one of two sets, or in none and silent
-pub data IsOfOne (one other t : ℕ) (silent : Type 0) : Type 0 where
-  of_one : bit_at one t ≡ 1 → bit_at other t ≡ 0 → IsOfOne one other t silent
-  of_other : bit_at one t ≡ 0 → bit_at other t ≡ 1 → IsOfOne one other t silent
-  of_none : bit_at one t ≡ 0 → bit_at other t ≡ 0 → silent → IsOfOne one other t silent
-
-abbrev pub IsSilentRow : Task → ℕ → Type 0
-IsSilentRow w t = (s : ℕ) → s < length w.b.places → IsSilent w t s
 
 pub is_in_set : (set n : ℕ) → bit_at set n ≡ 1 → is_in set n ≡ true
 is_in_set set n one = rw one refl
@@ -145,7 +136,7 @@ none_own w t n = same_push _ _ (omega arith) (omega arith) (omega arith)
 
 -- the rows of two sets are all that push
 pub both_first : (w : Task) (one other t : ℕ) → t < 64 → IsOfOne one other t (IsSilentRow w t)
-    → sum_of_pushes (rows_on_first w one t 64) (rows_on_first w other t 64) ≡ sum_on_first w t (length w.b.places)
+    → sum_of_pushes (rows_on_first w one 64 t) (rows_on_first w other 64 t) ≡ sum_on_first w t (length w.b.places)
 both_first w one other t below row =
     elim row [
       | of_one e f ↦ rw (is_before t 64 below, is_in_set one t e, is_not_in other t f) (own_none w t (length w.b.places))
@@ -173,11 +164,11 @@ added_other w s n = joined_none (sum_on_second w s n) (push_back w n s) ∙ seco
 
 pub both_second : (w : Task) (one other s n : ℕ) → s < length w.b.places
     → ((t : ℕ) → t < n → IsOfOne one other t (IsSilentRow w t))
-    → sum_of_pushes (rows_on_second w one s n) (rows_on_second w other s n) ≡ sum_on_second w s n
+    → sum_of_pushes (rows_on_second w one n s) (rows_on_second w other n s) ≡ sum_on_second w s n
 unfolding rows_on_second
 both_second w one other s zero within rows = refl
 both_second w one other s (suc n) within rows =
-    four (rows_on_second w one s n) (row_on_second w one s n) (rows_on_second w other s n) (row_on_second w other s n)
+    four (rows_on_second w one n s) (row_on_second w one s n) (rows_on_second w other n s) (row_on_second w other s n)
     ∙ ap (λ p. sum_of_pushes p (sum_of_pushes (row_on_second w one s n) (row_on_second w other s n)))
     (both_second w one other s n within (λ t h. rows t (omega arith)))
     ∙ last (rows n (omega arith))
@@ -200,13 +191,13 @@ both_second w one other s (suc n) within rows =
 
 -- the rows behind the last place are in no set
 pub rows_behind : (w : Task) (rows s n : ℕ) → n ≤ 64 → ((t : ℕ) → bit_at rows t ≡ 1 → t < n)
-    → rows_on_second w rows s n ≡ rows_on_second w rows s 64
+    → rows_on_second w rows n s ≡ rows_on_second w rows 64 s
 rows_behind w rows s n le within = second_past w rows s n 64 le (none_behind rows n within)
 
 -- the sums when all pairs of three lists are added
 pub sums_of_all : (f g h : ℕ → Push) (like unlike unlike_after others : List ℕ) (sum1 sum2 sum3 sum4 sum5 one other : Push)
-    → total_of_two f g like unlike sum1 ≡ sum_of_pushes (total_of_two f g [] [] no_push) one
-    → total_of_two g h unlike_after others sum2 ≡ sum_of_pushes (total_of_two g h unlike [] sum1) other
+    → total g unlike (total f like sum1) ≡ sum_of_pushes (total g [] (total f [] no_push)) one
+    → total h others (total g unlike_after sum2) ≡ sum_of_pushes (total h [] (total g unlike sum1)) other
     → IsMore f like sum2 sum3 → IsMore g unlike_after sum3 sum4 → IsMore h others sum4 sum5 → IsPushOnRing sum5
     → sum5 ≡ sum_of_pushes one other
 unfolding sum_of_pairs
@@ -226,55 +217,78 @@ sums_of_all f g h like unlike unlike_after others sum1 sum2 sum3 sum4 sum5 one o
         → (s5 + 0) % 2 ^ 32 ≡ (s4 + ho) % 2 ^ 32 → s5 < 2 ^ 32 → s5 ≡ (one + other) % 2 ^ 32
     mods s1 s2 s3 s4 s5 fl gu gv ho one other p q r s t ring = omega (arith, p, q, r, s, t, ring)
 
--- the sums of a task's places, from none at first: the rows of atoms of the first species, then those of the second, and at
--- last what is left in the three lists
-pub record AreAllSums (w : Task) (u v x : Scale) (one other : ℕ) (like unlike unlike_after others : List ℕ)
-    (sums0 sums1 sums2 sums3 sums4 sums5 : ForceSums) : Type 0 where
-  pub rows : HaveRows w u v one 64 [] [] like unlike sums0 sums1
-  pub more_rows : HaveRows w v x other 64 unlike [] unlike_after others sums1 sums2
-  pub like_pairs : HavePushes u w.a.places w.b.places like sums2 sums3
-  pub unlike_pairs : HavePushes v w.a.places w.b.places unlike_after sums3 sums4
-  pub other_pairs : HavePushes x w.a.places w.b.places others sums4 sums5
-  pub firsts : (t : ℕ) → t < 64 → slice_index_or sums0.first t no_push ≡ no_push
-  pub seconds : (s : ℕ) → s < 64 → slice_index_or sums0.second s no_push ≡ no_push
-  pub first_ring : (t : ℕ) → t < 64 → IsPushOnRing (slice_index_or sums5.first t no_push)
-  pub second_ring : (s : ℕ) → s < 64 → IsPushOnRing (slice_index_or sums5.second s no_push)
+-- the sums of a task in the course of its computation, and the three lists of pairs: with the rows of atoms of the first
+-- species, with those of the second too, and with what is left in the lists
+pub record Course : Type 0 where
+  pub like : List ℕ
+  pub unlike : List ℕ
+  pub unlike_after : List ℕ
+  pub others : List ℕ
+  pub none : ForceSums
+  pub with_rows : ForceSums
+  pub with_more_rows : ForceSums
+  pub with_like : ForceSums
+  pub with_unlike : ForceSums
+  pub all : ForceSums
 
-pub all_firsts : (w : Task) (u v x : Scale) (one other : ℕ) (like unlike unlike_after others : List ℕ)
-    (sums0 sums1 sums2 sums3 sums4 sums5 : ForceSums)
-    → AreAllSums w u v x one other like unlike unlike_after others sums0 sums1 sums2 sums3 sums4 sums5 → (t : ℕ) → t < 64
-    → IsOfOne one other t (IsSilentRow w t) → slice_index_or sums5.first t no_push ≡ sum_on_first w t (length w.b.places)
-all_firsts w u v x one other like unlike unlike_after others sums0 sums1 sums2 sums3 sums4 sums5 all t h row =
-    let f = push_on_first u w.a.places w.b.places t in
-    let g = push_on_first v w.a.places w.b.places t in
-    sums_of_all f g (push_on_first x w.a.places w.b.places t) like unlike unlike_after others
-    (slice_index_or sums1.first t no_push) (slice_index_or sums2.first t no_push) (slice_index_or sums3.first t no_push)
-    (slice_index_or sums4.first t no_push) (slice_index_or sums5.first t no_push) (rows_on_first w one t 64)
-    (rows_on_first w other t 64)
-    (all.rows.first t h ∙ ap (λ p. sum_of_pushes (total_of_two f g [] [] p) (rows_on_first w one t 64)) (all.firsts t h))
-    (all.more_rows.first t h) (all.like_pairs.first t h) (all.unlike_pairs.first t h) (all.other_pairs.first t h) (all.first_ring t h)
+-- the sums of a task's places, from none at first
+pub record AreAllSums (w : Task) (one other : ℕ) (c : Course) : Type 0 where
+  pub rows : HaveRows w First one 64 (record { of_firsts = []; of_seconds = []; sums = c.none })
+      (record { of_firsts = c.like; of_seconds = c.unlike; sums = c.with_rows })
+  pub more_rows : HaveRows w Second other 64 (record { of_firsts = c.unlike; of_seconds = []; sums = c.with_rows })
+      (record { of_firsts = c.unlike_after; of_seconds = c.others; sums = c.with_more_rows })
+  pub like_pairs : HavePushes (scale_between w First First) w.a.places w.b.places c.like c.with_more_rows c.with_like
+  pub unlike_pairs : HavePushes (scale_between w First Second) w.a.places w.b.places c.unlike_after c.with_like c.with_unlike
+  pub other_pairs : HavePushes (scale_between w Second Second) w.a.places w.b.places c.others c.with_unlike c.all
+  pub firsts : (t : ℕ) → t < 64 → slice_index_or c.none.first t no_push ≡ no_push
+  pub seconds : (s : ℕ) → s < 64 → slice_index_or c.none.second s no_push ≡ no_push
+  pub first_ring : (t : ℕ) → t < 64 → IsPushOnRing (slice_index_or c.all.first t no_push)
+  pub second_ring : (s : ℕ) → s < 64 → IsPushOnRing (slice_index_or c.all.second s no_push)
+
+-- the class of two species is the same in either order
+same_scale : (w : Task) → scale_between w Second First ≡ scale_between w First Second
+same_scale w = ap (λ (k : Class). k.scale) (class_symmetric w.mix Second First)
+
+-- the sum of one place at last, from those in the course of the computation
+all_added : (w : Task) (c : Course) (push_of : Scale → ℕ → Push) (sum_in : ForceSums → Push) (one other : Push)
+    → total_of w First push_of (record { of_firsts = c.like; of_seconds = c.unlike; sums = c.with_rows }) (sum_in c.with_rows)
+    ≡ sum_of_pushes (total_of w First push_of (record { of_firsts = []; of_seconds = []; sums = c.none }) (sum_in c.none)) one
+    → total_of w Second push_of (record { of_firsts = c.unlike_after; of_seconds = c.others; sums = c.with_more_rows })
+    (sum_in c.with_more_rows)
+    ≡ sum_of_pushes
+    (total_of w Second push_of (record { of_firsts = c.unlike; of_seconds = []; sums = c.with_rows }) (sum_in c.with_rows)) other
+    → IsMore (push_of (scale_between w First First)) c.like (sum_in c.with_more_rows) (sum_in c.with_like)
+    → IsMore (push_of (scale_between w First Second)) c.unlike_after (sum_in c.with_like) (sum_in c.with_unlike)
+    → IsMore (push_of (scale_between w Second Second)) c.others (sum_in c.with_unlike) (sum_in c.all)
+    → sum_in c.none ≡ no_push → IsPushOnRing (sum_in c.all) → sum_in c.all ≡ sum_of_pushes one other
+all_added w c push_of sum_in one other rows more_rows like unlike others none ring =
+    let f = push_of (scale_between w First First) in
+    let g = push_of (scale_between w First Second) in
+    let h = push_of (scale_between w Second Second) in
+    sums_of_all f g h c.like c.unlike c.unlike_after c.others (sum_in c.with_rows) (sum_in c.with_more_rows) (sum_in c.with_like)
+    (sum_in c.with_unlike) (sum_in c.all) one other
+    (rows ∙ ap (λ p. sum_of_pushes (total g [] (total f [] p)) one) none)
+    (subst (λ u. total h c.others (total (push_of u) c.unlike_after (sum_in c.with_more_rows))
+    ≡ sum_of_pushes (total h [] (total (push_of u) c.unlike (sum_in c.with_rows))) other) (same_scale w) more_rows)
+    like unlike others ring
+
+pub all_firsts : (w : Task) (one other : ℕ) (c : Course) → AreAllSums w one other c → (t : ℕ) → t < 64
+    → IsOfOne one other t (IsSilentRow w t) → slice_index_or c.all.first t no_push ≡ sum_on_first w t (length w.b.places)
+all_firsts w one other c sums t h row =
+    all_added w c (λ u. push_on_first u w.a.places w.b.places t) (λ s. slice_index_or s.first t no_push) (rows_on_first w one 64 t)
+    (rows_on_first w other 64 t) (sums.rows.first t h) (sums.more_rows.first t h) (sums.like_pairs.first t h)
+    (sums.unlike_pairs.first t h) (sums.other_pairs.first t h) (sums.firsts t h) (sums.first_ring t h)
     ∙ both_first w one other t h row
 
-pub all_seconds : (w : Task) (u v x : Scale) (one other : ℕ) (like unlike unlike_after others : List ℕ)
-    (sums0 sums1 sums2 sums3 sums4 sums5 : ForceSums)
-    → AreAllSums w u v x one other like unlike unlike_after others sums0 sums1 sums2 sums3 sums4 sums5 → (s : ℕ)
-    → s < length w.b.places → length w.b.places ≤ 64 → length w.a.places ≤ 64
-    → ((t : ℕ) → bit_at one t ≡ 1 → t < length w.a.places) → ((t : ℕ) → bit_at other t ≡ 1 → t < length w.a.places)
-    → ((t : ℕ) → t < length w.a.places → IsOfOne one other t (IsSilentRow w t))
-    → slice_index_or sums5.second s no_push ≡ sum_on_second w s (length w.a.places)
-all_seconds w u v x one other like unlike unlike_after others sums0 sums1 sums2 sums3 sums4 sums5 all s within few many one_in other_in rows =
+pub all_seconds : (w : Task) (one other : ℕ) (c : Course) → AreAllSums w one other c → (s : ℕ) → s < length w.b.places
+    → length w.b.places ≤ 64 → length w.a.places ≤ 64 → AreRowsBySpecies w one other
+    → slice_index_or c.all.second s no_push ≡ sum_on_second w s (length w.a.places)
+all_seconds w one other c sums s within few many rows =
     let h : s < 64 = omega (arith, within, few) in
-    let f = push_on_second u w.a.places w.b.places s in
-    let g = push_on_second v w.a.places w.b.places s in
     let n = length w.a.places in
-    sums_of_all f g (push_on_second x w.a.places w.b.places s) like unlike unlike_after others
-    (slice_index_or sums1.second s no_push) (slice_index_or sums2.second s no_push) (slice_index_or sums3.second s no_push)
-    (slice_index_or sums4.second s no_push) (slice_index_or sums5.second s no_push) (rows_on_second w one s 64)
-    (rows_on_second w other s 64)
-    (all.rows.second s within
-    ∙ ap (λ p. sum_of_pushes (total_of_two f g [] [] p) (rows_on_second w one s 64)) (all.seconds s h))
-    (all.more_rows.second s within) (all.like_pairs.second s h) (all.unlike_pairs.second s h) (all.other_pairs.second s h)
-    (all.second_ring s h)
-    ∙ ap (λ p. sum_of_pushes p (rows_on_second w other s 64)) (sym (rows_behind w one s n many one_in))
-    ∙ ap (sum_of_pushes (rows_on_second w one s n)) (sym (rows_behind w other s n many other_in))
-    ∙ both_second w one other s n within rows
+    all_added w c (λ u. push_on_second u w.a.places w.b.places s) (λ t. slice_index_or t.second s no_push)
+    (rows_on_second w one 64 s) (rows_on_second w other 64 s) (sums.rows.second s within) (sums.more_rows.second s within)
+    (sums.like_pairs.second s h) (sums.unlike_pairs.second s h) (sums.other_pairs.second s h) (sums.seconds s h) (sums.second_ring s h)
+    ∙ ap (λ p. sum_of_pushes p (rows_on_second w other 64 s)) (sym (rows_behind w one s n many (λ t set. (rows.firsts t set).within)))
+    ∙ ap (sum_of_pushes (rows_on_second w one n s)) (sym (rows_behind w other s n many (λ t set. (rows.seconds t set).within)))
+    ∙ both_second w one other s n within rows.each

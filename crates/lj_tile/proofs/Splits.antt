@@ -17,18 +17,10 @@ use Rattle.lj_task.specs.Species.{is_in, species_at}
 use Rattle.lj_task.specs.Tiles.{place_at, chosen_push}
 use Rattle.lj_task.specs.Task.{Task, are_in_order, class_in}
 use Rattle.lj_tile.specs.Rows.{ordered_push, sum_on_first, pushes_in, push_in, IsSilent}
+use Rattle.lj_tile.specs.RowSets.{IsSplit, in_none, in_firsts, in_seconds, RowSplit, SplitRow}
 use Rattle.lj_task.proofs.Opposites.{same_push}
 use Rattle.lj_tile.specs.Pairs.{AreOnRing}
 use Rattle.lj_tile.proofs.RowLemmas.{sum_both, not_in_order, far_silent}
-
--- a place is in none of two sets, and silent there; or it is in the one set, in order, and of the first species; or it is
--- in the other, in order, and of the second
-pub data IsSplit (firsts seconds here s : ℕ) (ordered : Bool) (silent : Type 0) : Type 0 where
-  in_none : is_in firsts s ≡ false → is_in seconds s ≡ false → silent → IsSplit firsts seconds here s ordered silent
-  in_firsts : is_in firsts s ≡ true → is_in seconds s ≡ false → ordered ≡ true → species_at here s ≡ First
-      → IsSplit firsts seconds here s ordered silent
-  in_seconds : is_in firsts s ≡ false → is_in seconds s ≡ true → ordered ≡ true → species_at here s ≡ Second
-      → IsSplit firsts seconds here s ordered silent
 
 set_is : (set s : ℕ) → bit_at set s ≡ 1 → is_in set s ≡ true
 set_is set s e = rw e refl
@@ -106,10 +98,6 @@ part_within near ordered_set other s n ordered chosen set =
 abbrev pub scale_with : Task → ℕ → Species → Scale
 scale_with w t species = (class_of w.mix (species_at w.a.species_bits t) species).scale
 
--- which of the two sets a place of the second block is in
-abbrev pub RowSplit : Task → ℕ → ℕ → ℕ → ℕ → Type 0
-RowSplit w t firsts seconds s = IsSplit firsts seconds w.b.species_bits s (are_in_order w t s) (IsSilent w t s)
-
 by_class : (w : Task) (t s : ℕ) (species : Species) → species_at w.b.species_bits s ≡ species
     → (class_in w t s).scale ≡ scale_with w t species
 by_class w t s species e = ap (scale_with w t) e
@@ -159,13 +147,6 @@ row_sum w t firsts seconds split =
         let both = sum_both (length w.b.places) _ _ (λ s. axis (ordered_push w t s))
         (λ s h. split_push axis none w t firsts seconds s (split s h)) in
         omega (arith, both)
-
--- two sets of places of the second block that split row t, each within the block
-pub record SplitRow (w : Task) (t firsts seconds : ℕ) : Type 0 where
-  pub few : length w.b.places ≤ 64
-  pub first_within : (s : ℕ) → bit_at firsts s ≡ 1 → s < length w.b.places
-  pub second_within : (s : ℕ) → bit_at seconds s ≡ 1 → s < length w.b.places
-  pub split : (s : ℕ) → s < length w.b.places → RowSplit w t firsts seconds s
 
 -- the near places of a row that are in order, split by species
 pub row_split : (w : Task) (t near ordered_set bits : ℕ) (here : Place) → length w.b.places ≤ 64 → bits < 2 ^ 64

@@ -82,45 +82,48 @@ bits_left : (rest n k : ℕ) → bit_at (rest / 2 ^ n / 2) k ≡ bit_at rest (n 
 bits_left rest n k =
     ap (λ m. m % 2) (shr-shr (rest / 2 ^ n) 1 k ∙ shr-shr rest n (1 + k) ∙ ap (λ j. rest / 2 ^ j) (omega arith))
 
--- `rest` is a mask from bit s on
-abbrev pub IsFrom : ℕ → ℕ → ℕ → Type 0
-IsFrom mask s rest = (k : ℕ) → bit_at rest k ≡ bit_at mask (s + k)
+-- `rest` is a mask of 64 from bit s on
+pub record IsFrom (mask s rest : ℕ) : Type 0 where
+  pub within : s ≤ 64
+  pub bits : (k : ℕ) → bit_at rest k ≡ bit_at mask (s + k)
 
 pub from_all : (mask : ℕ) → IsFrom mask 0 mask
-from_all mask k = ap (bit_at mask) (omega arith)
+from_all mask = record { within = omega arith; bits = λ k. ap (bit_at mask) (omega arith) }
 
--- the lowest bit that is set in the rest of a mask of 64
-pub record HasNext (mask s n : ℕ) : Type 0 where
+-- the lowest bit that is set in the rest of a mask, and the rest above it
+pub record HasNext (mask s rest n : ℕ) : Type 0 where
   pub within : s + n < 64
   pub set : bit_at mask (s + n) ≡ 1
   pub before : (k : ℕ) → s ≤ k → k < s + n → bit_at mask k ≡ 0
+  pub after : IsFrom mask (s + n + 1) (rest / 2 ^ n / 2)
 
 pub next_set : (mask s rest : ℕ) → mask < 2 ^ 64 → rest < 2 ^ 64 → 0 < rest → IsFrom mask s rest
-    → HasNext mask s (trailing_zeros w64 rest)
+    → HasNext mask s rest (trailing_zeros w64 rest)
 next_set mask s rest small rest_small some from =
     let n : ℕ = trailing_zeros w64 rest in
     let found = bit_at-trailing_zeros w64 rest some rest_small in
-    let set : bit_at mask (s + n) ≡ 1 = sym (from n) ∙ found.1 in
+    let set : bit_at mask (s + n) ≡ 1 = sym (from.bits n) ∙ found.1 in
+    let within : s + n < 64 = elim (cases_lt (s + n) 64) [
+      | inl less ↦ less
+      | inr more ↦ absurd (omega (arith, set, bit_at_above mask 64 (s + n) small more))
+    ] in
     record {
-      within = elim (cases_lt (s + n) 64) [
-        | inl less ↦ less
-        | inr more ↦ absurd (omega (arith, set, bit_at_above mask 64 (s + n) small more))
-      ];
+      within = within;
       set = set;
       before = λ k least less.
           let e : s + (k - s) ≡ k = omega arith in
-          ap (bit_at mask) (sym e) ∙ sym (from (k - s)) ∙ found.2 (k - s) (omega arith);
+          ap (bit_at mask) (sym e) ∙ sym (from.bits (k - s)) ∙ found.2 (k - s) (omega arith);
+      after = record {
+        within = omega (arith, within);
+        bits = λ k. bits_left rest n k ∙ from.bits (n + 1 + k) ∙ ap (bit_at mask) (omega arith);
+      };
     }
 
--- the rest above it
-pub from_next : (mask s rest n : ℕ) → IsFrom mask s rest → IsFrom mask (s + n + 1) (rest / 2 ^ n / 2)
-from_next mask s rest n from k = bits_left rest n k ∙ from (n + 1 + k) ∙ ap (bit_at mask) (omega arith)
-
 -- no bit is set from an empty rest on
-pub from_empty : (mask s rest : ℕ) → IsFrom mask s rest → rest ≡ 0 → (k : ℕ) → s ≤ k → bit_at mask k ≡ 0
-from_empty mask s rest from empty k least =
+pub from_empty : (mask s rest : ℕ) → IsFrom mask s rest → rest ≡ 0 → (k : ℕ) → s ≤ k → k < 64 → bit_at mask k ≡ 0
+from_empty mask s rest from empty k least less =
     let e : s + (k - s) ≡ k = omega arith in
-    ap (bit_at mask) (sym e) ∙ sym (from (k - s)) ∙ ap (λ r. bit_at r (k - s)) empty ∙ bit_at-zero (k - s)
+    ap (bit_at mask) (sym e) ∙ sym (from.bits (k - s)) ∙ ap (λ r. bit_at r (k - s)) empty ∙ bit_at-zero (k - s)
 
 -- places without energy leave the sum as it is
 pub sum_past : (f : ℕ → ℤ) (from to : ℕ) → from ≤ to → ((t : ℕ) → from ≤ t → t < to → f t ≡ pos 0)

@@ -11,6 +11,12 @@ pub record AreApartBy (v : Eight) (k : ℕ) (p q : Place) : Type 0 where
   pub y : slice_index v.y k ≡ ring_difference p.y q.y
   pub z : slice_index v.z k ≡ ring_difference p.z q.z
 
+-- lane k has the place
+pub record IsPlace (v : Eight) (k : ℕ) (p : Place) : Type 0 where
+  pub x : slice_index v.x k ≡ p.x
+  pub y : slice_index v.y k ≡ p.y
+  pub z : slice_index v.z k ≡ p.z
+
 -- lane k has the push
 pub record IsPush (v : Eight) (k : ℕ) (push : Push) : Type 0 where
   pub x : slice_index v.x k ≡ push.x

@@ -1,5 +1,7 @@
 pub mod Rows
+pub mod RowSets
 pub mod Pairs
+pub mod PairTotals
 pub mod Lanes
 pub mod Grains
 pub mod Near

@@ -8,6 +8,7 @@ mod near_pairs;
 mod pair_lanes;
 mod pair_sums;
 mod pairs;
+mod species_rows;
 mod sums;
 
 pub use computing::{TableKernel, compute, compute_into, compute_sums};

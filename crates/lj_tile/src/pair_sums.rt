@@ -3,11 +3,13 @@ ghost use Rattle.std.specs.Prelude.{◌≡◌, ◌≤◌, ◌<◌, ◌+◌, ℕ,
 ghost use Rattle.lj_ring.specs.Ring.{IsOnRing};
 ghost use Rattle.lj_ring.specs.Scale.{IsScale};
 ghost use Rattle.lj_tile.specs.declared.near_pairs.TheConstants.{FULL};
-ghost use Rattle.lj_tile.specs.Lanes.{AreApartBy};
+ghost use Rattle.lj_tile.specs.Lanes.{AreApartBy, IsPlace};
 ghost use Rattle.lj_task.specs.Pushes as pushes_of;
 ghost use Rattle.lj_task.specs.Pushes.{no_push, sum_of_pushes, opposite_push};
 ghost use Rattle.lj_tile.specs.Pairs as pairs_of;
-ghost use Rattle.lj_tile.specs.Pairs.{ArePairs, AreOnRing, HavePushes, HaveTotals};
+ghost use Rattle.lj_tile.specs.Pairs.{place_on, AreOfBlocks, AreOnRing, ArePairs, HavePushes};
+ghost use Rattle.lj_tile.specs.PairTotals.{HaveTotals};
+ghost use Rattle.lj_task.specs.Task.{IsTask};
 ghost use Rattle.lj_task.specs.Tiles.{place_at};
 
 use crate::near_pairs::NearPairs;
@@ -15,56 +17,74 @@ use crate::pair_lanes::{Eight, pushes};
 use crate::pairs::pair_push;
 use lj_ring::{Place, Scale};
 use lj_table::Table;
-use lj_task::{BLOCK, ForceSums, Push};
+use lj_task::{BLOCK, ForceSums, Push, TaskRef};
 use std::simd::prelude::*;
+
+/// The places of the two blocks of a task, and the table in which their pairs are looked up.
+#[derive(Clone, Copy)]
+pub(crate) struct BlockPair<'a> {
+    pub(crate) first: &'a [Place],
+    pub(crate) second: &'a [Place],
+    pub(crate) table: &'a Table,
+    ghost of_blocks: { AreOfBlocks first.now second.now },
+}
+
+impl<'a> BlockPair<'a> {
+    /// Returns the places of the blocks of a task, with a table.
+    #[inline(always)]
+    pub(crate) fn new(task: &TaskRef<'a>, table: &'a Table) -> BlockPair<'a>
+        requires first { AreOnRing task.now.a.places }
+        requires second { AreOnRing task.now.b.places }
+        ensures first { result.first.now ≡ task.now.a.places }
+        ensures second { result.second.now ≡ task.now.b.places }
+        ensures sound { IsTask task.now }
+    {
+        BlockPair {
+            first: task.first().places(),
+            second: task.second().places(),
+            table,
+        }
+    }
+}
 
 /// Adds the pushes of a list's pairs in whole eights to the sums of their places, and drops these pairs: fewer than
 /// eight are left.
 pub(crate) fn work_off(
     pairs: &mut NearPairs,
-    first: &[Place],
-    second: &[Place],
+    blocks: &BlockPair<'_>,
     scale: &Scale,
-    table: &Table,
     sums: &mut ForceSums,
 )
-    requires first { AreOnRing first.now }
-    requires second { AreOnRing second.now }
-    requires most { length first.now ≤ BLOCK }
     requires few { length pairs.old < FULL + BLOCK }
-    requires pairs { ArePairs first.now second.now pairs.old }
+    requires pairs { ArePairs blocks.now.first.now blocks.now.second.now pairs.old }
     ensures few { length pairs.new < 8 }
-    ensures pairs { ArePairs first.now second.now pairs.new }
-    ensures totals { HaveTotals scale.now first.now second.now pairs.old pairs.new sums.old sums.new }
+    ensures pairs { ArePairs blocks.now.first.now blocks.now.second.now pairs.new }
+    ensures totals { HaveTotals scale.now blocks.now.first.now blocks.now.second.now
+        (record { pairs = pairs.old; sums = sums.old }) (record { pairs = pairs.new; sums = sums.new }) }
 {
-    let done = add_eights(pairs, first, second, scale, table, sums);
+    let done = add_eights(pairs, blocks, scale, sums);
     pairs.keep_from(done);
 }
 
 /// Adds the pushes of all pairs of a list to the sums of their places.
 pub(crate) fn add_all(
     pairs: &NearPairs,
-    first: &[Place],
-    second: &[Place],
+    blocks: &BlockPair<'_>,
     scale: &Scale,
-    table: &Table,
     sums: &mut ForceSums,
 )
-    requires first { AreOnRing first.now }
-    requires second { AreOnRing second.now }
-    requires most { length first.now ≤ BLOCK }
-    requires pairs { ArePairs first.now second.now pairs.now }
-    ensures { HavePushes scale.now first.now second.now pairs.now sums.old sums.new }
+    requires pairs { ArePairs blocks.now.first.now blocks.now.second.now pairs.now }
+    ensures { HavePushes scale.now blocks.now.first.now blocks.now.second.now pairs.now sums.old sums.new }
 {
     let _room = sums.room();
-    let done = add_eights(pairs, first, second, scale, table, sums);
+    let done = add_eights(pairs, blocks, scale, sums);
     for i in done..pairs.len() {
         let pair = pairs.at(i);
         let push = pair_push(
-            table,
+            blocks.table,
             scale,
-            &first[first_of(pair)],
-            &second[second_of(pair)],
+            &blocks.first[first_of(pair)],
+            &blocks.second[second_of(pair)],
         );
         add(pair, push, sums);
     }
@@ -74,23 +94,19 @@ pub(crate) fn add_all(
 #[inline(always)]
 fn add_eights(
     pairs: &NearPairs,
-    first: &[Place],
-    second: &[Place],
+    blocks: &BlockPair<'_>,
     scale: &Scale,
-    table: &Table,
     sums: &mut ForceSums,
 ) -> usize
-    requires first { AreOnRing first.now }
-    requires second { AreOnRing second.now }
-    requires most { length first.now ≤ BLOCK }
-    requires pairs { ArePairs first.now second.now pairs.now }
+    requires pairs { ArePairs blocks.now.first.now blocks.now.second.now pairs.now }
     ensures within { result ≤ length pairs.now }
     ensures left { length pairs.now < result + 8 }
-    ensures sums { HavePushes scale.now first.now second.now (take result pairs.now) sums.old sums.new }
+    ensures sums { HavePushes scale.now blocks.now.first.now blocks.now.second.now (take result pairs.now) sums.old sums.new }
 {
+    let blocks = *blocks; // so that its fields stay in registers while sums are written
     let mut at = 0;
     while pairs.len() >= at + 8 {
-        add_eight(pairs, at, first, second, scale, table, sums);
+        add_eight(pairs, at, &blocks, scale, sums);
         at += 8;
     }
     at
@@ -101,21 +117,16 @@ fn add_eights(
 fn add_eight(
     pairs: &NearPairs,
     at: usize,
-    first: &[Place],
-    second: &[Place],
+    blocks: &BlockPair<'_>,
     scale: &Scale,
-    table: &Table,
     sums: &mut ForceSums,
 )
-    requires first { AreOnRing first.now }
-    requires second { AreOnRing second.now }
-    requires most { length first.now ≤ BLOCK }
     requires within { at + 8 ≤ length pairs.now }
     requires few { at + 8 < FULL + BLOCK }
-    requires pairs { ArePairs first.now second.now pairs.now }
-    ensures { HavePushes scale.now first.now second.now (take 8 (drop at pairs.now)) sums.old sums.new }
+    requires pairs { ArePairs blocks.now.first.now blocks.now.second.now pairs.now }
+    ensures { HavePushes scale.now blocks.now.first.now blocks.now.second.now (take 8 (drop at pairs.now)) sums.old sums.new }
 {
-    let eight = pushes(&apart(pairs, at, first, second), scale, table);
+    let eight = pushes(&apart(pairs, at, blocks), scale, blocks.table);
     let (x, y, z) = (eight.x.to_array(), eight.y.to_array(), eight.z.to_array());
     // Reading the step factor shows that no pair that interacts lies half the box apart: opposite pushes are exact.
     let _step_factor = scale.step_factor();
@@ -162,87 +173,76 @@ pub(crate) fn second_of(pair: u16) -> usize
 
 /// Returns the differences on the ring of the places of eight pairs of a list, from `at` on.
 #[inline(always)]
-pub(crate) fn apart(pairs: &NearPairs, at: usize, first: &[Place], second: &[Place]) -> Eight
+pub(crate) fn apart(pairs: &NearPairs, at: usize, blocks: &BlockPair<'_>) -> Eight
     requires within { at + 8 ≤ length pairs.now }
     requires few { at + 8 < FULL + BLOCK }
-    requires pairs { ArePairs first.now second.now pairs.now }
+    requires pairs { ArePairs blocks.now.first.now blocks.now.second.now pairs.now }
     ensures { (k : ℕ) → k < 8 → AreApartBy result k
-        (place_at first.now (pairs_of.first_of (slice_index_or pairs.now (at + k) 0)))
-        (place_at second.now (pairs_of.second_of (slice_index_or pairs.now (at + k) 0))) }
+        (place_at blocks.now.first.now (pairs_of.first_of (slice_index_or pairs.now (at + k) 0)))
+        (place_at blocks.now.second.now (pairs_of.second_of (slice_index_or pairs.now (at + k) 0))) }
 {
-    let a = first_places(pairs, at, first);
-    let b = second_places(pairs, at, second);
+    let a = in_lanes(&eight_places(pairs, at, PairSide::First, blocks.first));
+    let b = in_lanes(&eight_places(pairs, at, PairSide::Second, blocks.second));
     Eight {
-        x: along_x(&a) - along_x(&b),
-        y: along_y(&a) - along_y(&b),
-        z: along_z(&a) - along_z(&b),
+        x: a.x - b.x,
+        y: a.y - b.y,
+        z: a.z - b.z,
     }
 }
 
-/// Returns the first places of eight pairs.
+/// Returns the places of eight pairs of a list in one of the two blocks, from `at` on.
 #[inline(always)]
-fn first_places(pairs: &NearPairs, at: usize, places: &[Place]) -> [Place; 8]
+fn eight_places(pairs: &NearPairs, at: usize, side: PairSide, places: &[Place]) -> [Place; 8]
     requires within { at + 8 ≤ length pairs.now }
     requires few { at + 8 < FULL + BLOCK }
     requires places { (i : ℕ) → i < length pairs.now
-        → pairs_of.first_of (slice_index_or pairs.now i 0) < length places.now }
+        → place_on side (slice_index_or pairs.now i 0) < length places.now }
     ensures { (k : ℕ) → k < 8 → place_at result k
-        ≡ place_at places.now (pairs_of.first_of (slice_index_or pairs.now (at + k) 0)) }
+        ≡ place_at places.now (place_on side (slice_index_or pairs.now (at + k) 0)) }
 {
     [
-        places[first_of(pairs.at(at))],
-        places[first_of(pairs.at(at + 1))],
-        places[first_of(pairs.at(at + 2))],
-        places[first_of(pairs.at(at + 3))],
-        places[first_of(pairs.at(at + 4))],
-        places[first_of(pairs.at(at + 5))],
-        places[first_of(pairs.at(at + 6))],
-        places[first_of(pairs.at(at + 7))],
+        places[side.place_in(pairs.at(at))],
+        places[side.place_in(pairs.at(at + 1))],
+        places[side.place_in(pairs.at(at + 2))],
+        places[side.place_in(pairs.at(at + 3))],
+        places[side.place_in(pairs.at(at + 4))],
+        places[side.place_in(pairs.at(at + 5))],
+        places[side.place_in(pairs.at(at + 6))],
+        places[side.place_in(pairs.at(at + 7))],
     ]
 }
 
-/// Returns the second places of eight pairs.
-#[inline(always)]
-fn second_places(pairs: &NearPairs, at: usize, places: &[Place]) -> [Place; 8]
-    requires within { at + 8 ≤ length pairs.now }
-    requires few { at + 8 < FULL + BLOCK }
-    requires places { (i : ℕ) → i < length pairs.now
-        → pairs_of.second_of (slice_index_or pairs.now i 0) < length places.now }
-    ensures { (k : ℕ) → k < 8 → place_at result k
-        ≡ place_at places.now (pairs_of.second_of (slice_index_or pairs.now (at + k) 0)) }
-{
-    [
-        places[second_of(pairs.at(at))],
-        places[second_of(pairs.at(at + 1))],
-        places[second_of(pairs.at(at + 2))],
-        places[second_of(pairs.at(at + 3))],
-        places[second_of(pairs.at(at + 4))],
-        places[second_of(pairs.at(at + 5))],
-        places[second_of(pairs.at(at + 6))],
-        places[second_of(pairs.at(at + 7))],
-    ]
+/// Which of the two places of a pair.
+#[derive(Clone, Copy)]
+enum PairSide {
+    /// The place of the first block.
+    First,
+    /// The place of the second block.
+    Second,
 }
 
-#[inline(always)]
-fn along_x(places: &[Place; 8]) -> u32x8
-    ensures { (k : ℕ) → k < 8 → slice_index result k ≡ (place_at places.now k).x }
-{
-    let [a, b, c, d, e, f, g, h] = *places;
-    u32x8::from_array([a.x, b.x, c.x, d.x, e.x, f.x, g.x, h.x])
+impl PairSide {
+    /// Returns this place of a pair.
+    #[inline(always)]
+    fn place_in(self, pair: u16) -> usize
+        ensures { result ≡ place_on self pair }
+    {
+        match self {
+            PairSide::First => first_of(pair),
+            PairSide::Second => second_of(pair),
+        }
+    }
 }
 
+/// Returns eight places, their coordinates axis by axis.
 #[inline(always)]
-fn along_y(places: &[Place; 8]) -> u32x8
-    ensures { (k : ℕ) → k < 8 → slice_index result k ≡ (place_at places.now k).y }
+fn in_lanes(places: &[Place; 8]) -> Eight
+    ensures { (k : ℕ) → k < 8 → IsPlace result k (place_at places.now k) }
 {
     let [a, b, c, d, e, f, g, h] = *places;
-    u32x8::from_array([a.y, b.y, c.y, d.y, e.y, f.y, g.y, h.y])
-}
-
-#[inline(always)]
-fn along_z(places: &[Place; 8]) -> u32x8
-    ensures { (k : ℕ) → k < 8 → slice_index result k ≡ (place_at places.now k).z }
-{
-    let [a, b, c, d, e, f, g, h] = *places;
-    u32x8::from_array([a.z, b.z, c.z, d.z, e.z, f.z, g.z, h.z])
+    Eight {
+        x: u32x8::from_array([a.x, b.x, c.x, d.x, e.x, f.x, g.x, h.x]),
+        y: u32x8::from_array([a.y, b.y, c.y, d.y, e.y, f.y, g.y, h.y]),
+        z: u32x8::from_array([a.z, b.z, c.z, d.z, e.z, f.z, g.z, h.z]),
+    }
 }

@@ -12,15 +12,15 @@ loop-i-preserved c =
     let small : unsigned_abs c.energy-sum.result ≤ 2 ^ 45 = omega (arith, c.energy-sum.ensures.size) in
     let few : i < 128 = omega (arith, c.len-i-end.ensures.few, c.loop-i-test.true) in
     let pair : c.at-pair.result ≡ slice_index_or c.args.pairs.now i 0 = c.at-pair.ensures in
-    let value : c.energy-sum.result ≡ pair_energy class c.args.first.now c.args.second.now c.at-pair.result =
+    let value : c.energy-sum.result ≡ pair_energy class c.args.blocks.now.first.now c.args.blocks.now.second.now c.at-pair.result =
     c.energy-sum.ensures.value
     ∙ ap (λ s. weighted_energy class.weight (energy_at class.scale s))
     (rw (sym c.first_of.ensures, sym c.second_of.ensures) c.dist2-squared.ensures.value) in
     rw (sum_is _ c.energy-sum.result i (2 ^ 45) c.loop-i.invariant.size small few (omega arith))
     record {
       value =
-          energy_next class c.args.first.now c.args.second.now c.args.pairs.now i _ c.energy-sum.result c.loop-i.invariant.value
-          (value ∙ ap (pair_energy class c.args.first.now c.args.second.now) pair)
+          energy_next class c.args.blocks.now.first.now c.args.blocks.now.second.now c.args.pairs.now i _ c.energy-sum.result c.loop-i.invariant.value
+          (value ∙ ap (pair_energy class c.args.blocks.now.first.now c.args.blocks.now.second.now) pair)
           (omega (arith, c.len-i-end.ensures.value, c.loop-i-test.true));
       size = sum_size _ c.energy-sum.result i (2 ^ 45) c.loop-i.invariant.size small;
     }

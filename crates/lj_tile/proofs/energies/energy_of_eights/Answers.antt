@@ -6,7 +6,7 @@ use Rattle.lj_tile.proofs.energies.energy_of_eights.Goals as goal
 
 pub loop-eight-init : goal.loop-eight-init
 loop-eight-init c = record {
-  value = sym (energy_of_none c.args.class.now c.args.first.now c.args.second.now);
+  value = sym (energy_of_none c.args.class.now c.args.blocks.now.first.now c.args.blocks.now.second.now);
   size = omega arith;
 }
 
@@ -21,8 +21,8 @@ loop-eight-preserved c =
     rw (sum_is _ c.energy_of_eight-sum.result n (8 * 2 ^ 45) before c.energy_of_eight-sum.ensures.size few (omega arith))
     record {
       value =
-          energy_eight c.args.class.now c.args.first.now c.args.second.now c.args.pairs.now (8 * n) (to_z w64 c.loop-eight.sum-bits) c.energy_of_eight-sum.result
+          energy_eight c.args.class.now c.args.blocks.now.first.now c.args.blocks.now.second.now c.args.pairs.now (8 * n) (to_z w64 c.loop-eight.sum-bits) c.energy_of_eight-sum.result
           c.loop-eight.invariant.value c.energy_of_eight-sum.ensures.value
-          ∙ ap (λ m. list_energy c.args.class.now c.args.first.now c.args.second.now (take m c.args.pairs.now)) (sym (next n));
+          ∙ ap (λ m. list_energy c.args.class.now c.args.blocks.now.first.now c.args.blocks.now.second.now (take m c.args.pairs.now)) (sym (next n));
       size = omega (arith, sum_size (to_z w64 c.loop-eight.sum-bits) c.energy_of_eight-sum.result n (8 * 2 ^ 45) before c.energy_of_eight-sum.ensures.size);
     }

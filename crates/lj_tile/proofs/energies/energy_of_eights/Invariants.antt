@@ -4,6 +4,6 @@ use Rattle.lj_tile.proofs.energies.energy_of_eights.Given as goal
 
 abbrev pub invariant-loop-eight : goal.invariant-loop-eight
 invariant-loop-eight l = record {
-  value : l.sum ≡ list_energy l.class l.first l.second (take (8 * l.eight) l.pairs);
+  value : l.sum ≡ list_energy l.class l.blocks.first.now l.blocks.second.now (take (8 * l.eight) l.pairs);
   size : unsigned_abs l.sum ≤ 8 * l.eight * 2 ^ 45;
 }

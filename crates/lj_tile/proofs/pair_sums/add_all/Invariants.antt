@@ -6,5 +6,5 @@ abbrev pub invariant-loop-i : goal.invariant-loop-i
 invariant-loop-i l = record {
   first_room : length l.sums.first ≡ 64;
   second_room : length l.sums.second ≡ 64;
-  sums : HavePushes l.scale l.first l.second (take l.i l.pairs) l.fn.sums l.sums;
+  sums : HavePushes l.scale l.blocks.first.now l.blocks.second.now (take l.i l.pairs) l.fn.sums l.sums;
 }

@@ -6,5 +6,5 @@ abbrev pub invariant-loop-k : goal.invariant-loop-k
 invariant-loop-k l = record {
   first_room : length l.sums.first ≡ 64;
   second_room : length l.sums.second ≡ 64;
-  sums : HavePushes l.scale l.first l.second (take l.k (drop l.at l.pairs)) l.fn.sums l.sums;
+  sums : HavePushes l.scale l.blocks.first.now l.blocks.second.now (take l.k (drop l.at l.pairs)) l.fn.sums l.sums;
 }

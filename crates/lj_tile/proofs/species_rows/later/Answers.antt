@@ -1,7 +1,7 @@
 use Rattle.std.proofs.Common.{◌≡◌, ◌+◌, length, arith, sym}
 use Rattle.lj_task.specs.Task.{are_in_order}
 use Rattle.lj_tile.proofs.Splits.{later_are, within_one}
-use Rattle.lj_tile.proofs.sums.later.Goals as goal
+use Rattle.lj_tile.proofs.species_rows.later.Goals as goal
 
 pub returns : goal.returns
 returns c s =

@@ -1,7 +1,7 @@
 use Rattle.std.proofs.Common.{◌≤◌, ◌^◌, refl, arith}
 use Rattle.std.proofs.Math.Nat.{pow-le-pow_right}
 use Rattle.lj_tile.proofs.Splits.{ones_are}
-use Rattle.lj_tile.proofs.sums.lowest_bits.Goals as goal
+use Rattle.lj_tile.proofs.species_rows.lowest_bits.Goals as goal
 
 pub returns-then-count-eq-BLOCK : goal.returns-then-count-eq-BLOCK
 returns-then-count-eq-BLOCK c k = ones_are _ c.args.count k (rw c.if-count-eq-BLOCK.true refl)
