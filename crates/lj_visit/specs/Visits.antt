@@ -28,6 +28,12 @@ pub record Writer : Type 0 where
   pub faults : Option ℕ
   pub unflushed : Bool
 
+-- a visit at one moment: its reader of lines, its writer, and the events that have happened, where they are known
+pub record VisitState : Type 0 where
+  pub lines : LineReader
+  pub writer : Writer
+  pub events : Option (List Event)
+
 -- ERR 01 DENIED
 abbrev pub denied_line : List ℕ
 denied_line = ended_line (refusal_text DeniedRefusal)
@@ -54,32 +60,33 @@ events_denied Other = []
 events_denied (Asked name token) = denied name token ∷ []
 
 -- The first line was read, and DENIED was answered.
-pub record IsDenied (first last : LineReader) (old new : Writer) (before after : Option (List Event)) : Type 0 where
+pub record IsDenied (before after : VisitState) : Type 0 where
   pub hello : Hello
-  pub greets : Greets first last hello
-  pub tells : WritesLine denied_line old new
-  pub happens : Happens before after (events_denied hello)
+  pub greets : Greets before.lines after.lines hello
+  pub tells : WritesLine denied_line before.writer after.writer
+  pub happens : Happens before.events after.events (events_denied hello)
 
--- The first line was read, and a ticket was granted that did not enter.
-pub record IsShutOut (why : Shut) (first last : LineReader) (before after : Option (List Event)) : Type 0 where
+-- The first line was read, and a ticket was granted that did not enter. Nothing was written.
+pub record IsShutOut (why : Shut) (before after : VisitState) : Type 0 where
   pub name : List ℕ
   pub token : List ℕ
   pub ticket : Ticket
-  pub greets : Greets first last (Asked name token)
-  pub happens : Happens before after (granted name token ticket ∷ shut_out ticket why ∷ [])
+  pub greets : Greets before.lines after.lines (Asked name token)
+  pub unwritten : after.writer ≡ before.writer
+  pub happens : Happens before.events after.events (granted name token ticket ∷ shut_out ticket why ∷ [])
 
 -- The ticket entered, OK HELLO could not be written, and the state came home as it was lent.
-pub record IsNotWelcomed (first last : LineReader) (old new : Writer) (before after : Option (List Event)) : Type 0 where
+pub record IsNotWelcomed (before after : VisitState) : Type 0 where
   pub name : List ℕ
   pub token : List ℕ
   pub ticket : Ticket
   pub state : UserState
-  pub greets : Greets first last (Asked name token)
+  pub greets : Greets before.lines after.lines (Asked name token)
   pub bytes : ℕ
   pub within : bytes ≤ length (welcome_line name)
-  pub written : Appends old.contents new.contents (take bytes (welcome_line name))
-  pub fault : Rises old.faults new.faults
-  pub happens : Happens before after (granted name token ticket ∷ entered ticket state ∷ left ticket state ∷ [])
+  pub written : Appends before.writer.contents after.writer.contents (take bytes (welcome_line name))
+  pub fault : Rises before.writer.faults after.writer.faults
+  pub happens : Happens before.events after.events (granted name token ticket ∷ entered ticket state ∷ left ticket state ∷ [])
 
 -- the state that serving has handed back, if any, comes home
 abbrev pub events_leaving : Ticket → Option UserState → List Event
@@ -93,56 +100,62 @@ events_closing served = []
 
 -- A state that was lent is served over an end that was made for the ticket's user and asked for no other. Then what the pool has
 -- of the user is dropped, and after that the state that serving has handed back, if any, comes home.
-pub record IsServing (served : Served) (ticket : Ticket) (state : UserState) (first last : LineReader) (old new : Writer)
-    (before after : Option (List Event)) : Type 0 where
+pub record IsServing (served : Served) (ticket : Ticket) (state : UserState) (before after : VisitState) : Type 0 where
   pub seen : Seen
   pub next : Option UserState
-  pub serves : Serves served state first.left last.left old.contents new.contents nothing_seen seen next
-  pub cause : HasCause served last.left first.errors last.errors old.faults new.faults nothing_seen seen
-  pub all_read : served ≡ ReadFault → last.held ≡ []
-  pub flushed : Flushes served old.unflushed new.unflushed
+  pub serves : Serves served state before.lines.left after.lines.left before.writer.contents after.writer.contents
+      nothing_seen seen next
+  pub cause : HasCause served after.lines.left before.lines.errors after.lines.errors before.writer.faults after.writer.faults
+      nothing_seen seen
+  pub all_read : served ≡ ReadFault → after.lines.held ≡ []
+  pub flushed : Flushes served before.writer.unflushed after.writer.unflushed
   pub handed_back : IfSome next (ReturnsState state seen)
-  pub happens : Happens before after (opened ticket.user ∷ withdrawn ticket.user seen 0
+  pub happens : Happens before.events after.events (opened ticket.user ∷ withdrawn ticket.user seen 0
       ∷ (events_leaving ticket next ++ events_closing served))
 
+-- what a writer is once OK HELLO is written and flushed, where `contents` are its bytes then
+abbrev pub welcomed : Writer → Option (List ℕ) → Writer
+welcomed writer contents = record { contents = contents; faults = writer.faults; unflushed = false }
+
 -- The ticket entered, OK HELLO was written and flushed, and the lines that follow were served from the state that was lent.
-pub record IsAttended (served : Served) (first last : LineReader) (old new : Writer) (before after : Option (List Event)) :
-    Type 0 where
+pub record IsAttended (served : Served) (before after : VisitState) : Type 0 where
   pub name : List ℕ
   pub token : List ℕ
   pub ticket : Ticket
   pub state : UserState
   pub reached : Reached state
   pub lines : LineReader
-  pub greets : Greets first lines (Asked name token)
-  pub welcomed : Option (List ℕ)
-  pub welcomes : Appends old.contents welcomed (welcome_line name)
+  pub greets : Greets before.lines lines (Asked name token)
+  pub contents : Option (List ℕ)
+  pub welcomes : Appends before.writer.contents contents (welcome_line name)
   pub lent : Option (List Event)
-  pub enters : Happens before lent (granted name token ticket ∷ entered ticket state ∷ [])
-  pub serving : IsServing served ticket state lines last
-      (record { contents = welcomed; faults = old.faults; unflushed = false }) new lent after
+  pub enters : Happens before.events lent (granted name token ticket ∷ entered ticket state ∷ [])
+  pub serving : IsServing served ticket state
+      (record { lines = lines; writer = welcomed before.writer contents; events = lent }) after
 
 -- what a visit reads, writes and does, by how it ends
-abbrev pub IsVisit : Visited → LineReader → LineReader → Writer → Writer → Option (List Event) → Option (List Event) → Type 0
-IsVisit NoLine first last old new before after = IsUnasked first last × (new ≡ old) × (after ≡ before)
-IsVisit Denied first last old new before after = IsDenied first last old new before after
-IsVisit (ShutOut why) first last old new before after = IsShutOut why first last before after × (new ≡ old)
-IsVisit NotWelcomed first last old new before after = IsNotWelcomed first last old new before after
-IsVisit (Attended served) first last old new before after = IsAttended served first last old new before after
+abbrev pub IsVisit : Visited → (before after : VisitState) → Type 0
+IsVisit NoLine before after =
+    IsUnasked before.lines after.lines × (after.writer ≡ before.writer) × (after.events ≡ before.events)
+IsVisit Denied before after = IsDenied before after
+IsVisit (ShutOut why) before after = IsShutOut why before after
+IsVisit NotWelcomed before after = IsNotWelcomed before after
+IsVisit (Attended served) before after = IsAttended served before after
 
 -- What becomes of a ticket that was granted to a user of this name, by how the visit ends.
-abbrev pub IsAdmission : Visited → List ℕ → Ticket → LineReader → LineReader → Writer → Writer → Option (List Event)
-    → Option (List Event) → Type 0
-IsAdmission NoLine name ticket first last old new before after = ⊥
-IsAdmission Denied name ticket first last old new before after = ⊥
-IsAdmission (ShutOut why) name ticket first last old new before after =
-    (last ≡ first) × (new ≡ old) × Happens before after (shut_out ticket why ∷ [])
-IsAdmission NotWelcomed name ticket first last old new before after =
-    (last ≡ first) × (bytes : ℕ) × (bytes ≤ length (welcome_line name))
-    × Appends old.contents new.contents (take bytes (welcome_line name)) × Rises old.faults new.faults
-    × (state : UserState) × Happens before after (entered ticket state ∷ left ticket state ∷ [])
-IsAdmission (Attended served) name ticket first last old new before after =
-    (state : UserState) × (lent : Option (List Event)) × Reached state × Happens before lent (entered ticket state ∷ [])
-    × (welcomed : Option (List ℕ)) × Appends old.contents welcomed (welcome_line name)
-    × IsServing served ticket state first last
-    (record { contents = welcomed; faults = old.faults; unflushed = false }) new lent after
+abbrev pub IsAdmission : Visited → List ℕ → Ticket → (before after : VisitState) → Type 0
+IsAdmission NoLine name ticket before after = ⊥
+IsAdmission Denied name ticket before after = ⊥
+IsAdmission (ShutOut why) name ticket before after =
+    (after.lines ≡ before.lines) × (after.writer ≡ before.writer)
+    × Happens before.events after.events (shut_out ticket why ∷ [])
+IsAdmission NotWelcomed name ticket before after =
+    (after.lines ≡ before.lines) × (bytes : ℕ) × (bytes ≤ length (welcome_line name))
+    × Appends before.writer.contents after.writer.contents (take bytes (welcome_line name))
+    × Rises before.writer.faults after.writer.faults
+    × (state : UserState) × Happens before.events after.events (entered ticket state ∷ left ticket state ∷ [])
+IsAdmission (Attended served) name ticket before after =
+    (state : UserState) × (lent : Option (List Event)) × Reached state × Happens before.events lent (entered ticket state ∷ [])
+    × (contents : Option (List ℕ)) × Appends before.writer.contents contents (welcome_line name)
+    × IsServing served ticket state
+    (record { lines = before.lines; writer = welcomed before.writer contents; events = lent }) after

@@ -43,10 +43,17 @@ pub fn visit<B: Backend, S: Source, W: Sink>(
 ) -> Visited
     requires fresh { lines.old.items ≡ 0 }
     requires at_work { lines.old.phase ≡ Open }
-    ensures { IsVisit result lines.old lines.new
-        (record { contents = W.contents writer.old; faults = W.faults writer.old; unflushed = W.unflushed writer.old })
-        (record { contents = W.contents writer.new; faults = W.faults writer.new; unflushed = W.unflushed writer.new })
-        (B.events backend.old) (B.events backend.new) }
+    ensures { IsVisit result
+        (record {
+          lines = lines.old;
+          writer = record { contents = W.contents writer.old; faults = W.faults writer.old; unflushed = W.unflushed writer.old };
+          events = B.events backend.old;
+        })
+        (record {
+          lines = lines.new;
+          writer = record { contents = W.contents writer.new; faults = W.faults writer.new; unflushed = W.unflushed writer.new };
+          events = B.events backend.new;
+        }) }
 {
     let (name, token) = match lines.hello() {
         Ok(Some(Hello::Asked { name, token })) => (name, token),
@@ -69,10 +76,17 @@ fn admit<B: Backend, S: Source, W: Sink>(
 ) -> Visited
     requires fresh { lines.old.items ≡ 0 }
     requires at_work { lines.old.phase ≡ Open }
-    ensures { IsAdmission result name.now ticket.ticket lines.old lines.new
-        (record { contents = W.contents writer.old; faults = W.faults writer.old; unflushed = W.unflushed writer.old })
-        (record { contents = W.contents writer.new; faults = W.faults writer.new; unflushed = W.unflushed writer.new })
-        (B.events backend.old) (B.events backend.new) }
+    ensures { IsAdmission result name.now ticket.ticket
+        (record {
+          lines = lines.old;
+          writer = record { contents = W.contents writer.old; faults = W.faults writer.old; unflushed = W.unflushed writer.old };
+          events = B.events backend.old;
+        })
+        (record {
+          lines = lines.new;
+          writer = record { contents = W.contents writer.new; faults = W.faults writer.new; unflushed = W.unflushed writer.new };
+          events = B.events backend.new;
+        }) }
 {
     let lent = match backend.enter(ticket, lines.holds_bytes()) {
         Ok(lent) => lent,
@@ -94,10 +108,17 @@ fn serve_user<B: Backend, S: Source, W: Sink>(
 ) -> Served
     requires fresh { lines.old.items ≡ 0 }
     requires at_work { lines.old.phase ≡ Open }
-    ensures { IsServing result lent.ticket lent.state lines.old lines.new
-        (record { contents = W.contents writer.old; faults = W.faults writer.old; unflushed = W.unflushed writer.old })
-        (record { contents = W.contents writer.new; faults = W.faults writer.new; unflushed = W.unflushed writer.new })
-        (B.events backend.old) (B.events backend.new) }
+    ensures { IsServing result lent.ticket lent.state
+        (record {
+          lines = lines.old;
+          writer = record { contents = W.contents writer.old; faults = W.faults writer.old; unflushed = W.unflushed writer.old };
+          events = B.events backend.old;
+        })
+        (record {
+          lines = lines.new;
+          writer = record { contents = W.contents writer.new; faults = W.faults writer.new; unflushed = W.unflushed writer.new };
+          events = B.events backend.new;
+        }) }
 {
     let (ticket, state) = lent.take_out();
     let mut end = backend.open(ticket.ticket().user());

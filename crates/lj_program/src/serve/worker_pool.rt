@@ -41,9 +41,17 @@ pub trait WorkerPool: Drop {
     ) -> Visited
         requires fresh { lines.old.items ≡ 0 }
         requires at_work { lines.old.phase ≡ Open }
-        ensures { IsVisit result lines.old lines.new
-            (record { contents = W.contents writer.old; faults = W.faults writer.old; unflushed = W.unflushed writer.old })
-            (record { contents = W.contents writer.new; faults = W.faults writer.new; unflushed = W.unflushed writer.new }) None None };
+        ensures { IsVisit result
+            (record {
+              lines = lines.old;
+              writer = record { contents = W.contents writer.old; faults = W.faults writer.old; unflushed = W.unflushed writer.old };
+              events = None;
+            })
+            (record {
+              lines = lines.new;
+              writer = record { contents = W.contents writer.new; faults = W.faults writer.new; unflushed = W.unflushed writer.new };
+              events = None;
+            }) };
 
     /// Computes tasks until the pool is closed.
     fn work<R: Wait>(&self, rt: &R, state: Self::WorkerState, table: &Table) -> Self::WorkerState;
