@@ -1,29 +1,17 @@
 -- What is saved in a session has as many atoms as the session.
-use Rattle.std.proofs.Common.{◌≡◌, ℕ, List, [], ◌∷◌, length, Option, Some, None, Result, Ok, Err, refl, sym, ap, ◌∙◌}
-use Rattle.std.proofs.Common.{subst}
-use Rattle.std.proofs.lemmas.Bool.{false≢true}
-use Rattle.std.specs.Prelude.{◌↔◌, IsOk, IsSome, IfSome, OnOk, OnErr}
+use Rattle.std.proofs.Common.{◌≡◌, ℕ, List, [], ◌∷◌, length, Option, Some, None, Result, Ok, Err, sym, ap, ◌∙◌, subst}
+use Rattle.std.specs.Prelude.{OnOk, OnErr}
 use Rattle.std.specs.List.{AllByRecursion}
 use Rattle.std.specs.Str.{bytes_eq}
 use Rattle.std.proofs.lemmas.List.FromFn.{length-map-range_with_len}
 use Rattle.lj_task.specs.Species.{Composition}
 use Rattle.lj_step.specs.Motion.{Simulation, next_simulation, moved_place}
-use Rattle.lj_step.specs.Sim.{Sim}
-use Rattle.lj_step.specs.OpenSteps.{with_step_closed}
 use Rattle.lj_branch.specs.declared.branch_faults.NoBranch.{NoBranch}
-use Rattle.lj_branch.specs.Named.{value_named, with_value, without_value}
+use Rattle.lj_branch.specs.Named.{value_named, without_value}
 use Rattle.lj_session.specs.UserState.{HasCount}
 use Rattle.lj_session.proofs.Entries.{by_test}
 
 module _ (count : ℕ) (name : List ℕ) where
-  pub counts-put : (saved : List (List ℕ × Simulation)) (sim : Simulation)
-      → AllByRecursion (HasCount count) saved → length sim.cur ≡ count
-      → AllByRecursion (HasCount count) (with_value name sim saved)
-  counts-put [] sim all same = (same, tt)
-  counts-put (e ∷ es) sim all same = by_test (bytes_eq name e.0)
-      (λ t. rw t (same, all.1))
-      (λ t. rw t (all.0, counts-put es sim all.1 same))
-
   pub counts-taken : (saved : List (List ℕ × Simulation)) → AllByRecursion (HasCount count) saved
       → AllByRecursion (HasCount count) (without_value name saved)
   counts-taken [] all = tt
@@ -51,16 +39,6 @@ module _ (count : ℕ) (name : List ℕ) where
   counts-forgotten (Ok done) old new taken same all =
       subst (AllByRecursion (HasCount count)) (sym taken) (counts-taken old all)
   counts-forgotten (Err fault) old new taken same all = subst (AllByRecursion (HasCount count)) (sym same) all
-
--- a simulation put back to what is saved has as many atoms as before
-pub count-restored : (r : Result (Unit {0}) NoBranch) (o : Option Simulation) (old new : Sim) → (IsOk r ↔ IsSome o)
-    → OnOk r (IfSome o (λ sim. new ≡ with_step_closed old sim)) → OnErr r (new ≡ old)
-    → ((sim : Simulation) → o ≡ Some sim → length sim.cur ≡ length old.sim.cur)
-    → length new.sim.cur ≡ length old.sim.cur
-count-restored (Ok done) (Some sim) old new found restored same counts =
-    ap (λ (l : Sim). length l.sim.cur) restored ∙ counts sim refl
-count-restored (Ok done) None old new found restored same counts = absurd (false≢true (found.0 refl))
-count-restored (Err fault) o old new found restored same counts = ap (λ (l : Sim). length l.sim.cur) same
 
 -- a step leaves the count of atoms
 pub count-stepped : (u : Composition) (sim : Simulation) → length (next_simulation u sim).cur ≡ length sim.cur

@@ -75,23 +75,12 @@ meant-rest session = by_test (nat_lt 0 session.pending) (λ t. rw t refl) (λ t.
 pub meant-posted : (session : LiveSession) → settled_session (with_posted session) ≡ settled_session session
 meant-posted = posted-same settled_session (λ n session. refl)
 
--- what is pending and passed leaves the count of atoms, and what is saved
+-- more pending steps leave the count of atoms, and what is saved
 pub count-added : (n : ℕ) (session : LiveSession) → length (with_more_pending n session).live.sim.cur ≡ length session.live.sim.cur
 count-added n session = by_test (nat_lt 0 n && nat_le session.pending 0) (λ t. rw t refl) (λ t. rw t refl)
 
 pub saved-added : (n : ℕ) (session : LiveSession) → length (with_more_pending n session).saved ≡ length session.saved
 saved-added n session = by_test (nat_lt 0 n && nat_le session.pending 0) (λ t. rw t refl) (λ t. rw t refl)
-
-pub count-passed : (session : LiveSession) → length (with_step_finished session).live.sim.cur ≡ length session.live.sim.cur
-count-passed session =
-    let one = count-stepped session.live.composition session.live.sim in
-    by_test (nat_lt 0 (with_step_taken session).pending) (λ t. rw t one) (λ t. rw t one)
-
-pub saved-passed : (session : LiveSession) → length (with_step_finished session).saved ≡ length session.saved
-saved-passed session = by_test (nat_lt 0 (with_step_taken session).pending) (λ t. rw t refl) (λ t. rw t refl)
-
-pub count-rest : (session : LiveSession) → length (with_step_restarted session).live.sim.cur ≡ length session.live.sim.cur
-count-rest session = by_test (nat_lt 0 session.pending) (λ t. rw t refl) (λ t. rw t refl)
 
 pub pending-added : (n : ℕ) (session : LiveSession) → (with_more_pending n session).pending ≡ session.pending + n
 pending-added n session = by_test (nat_lt 0 n && nat_le session.pending 0) (λ t. rw t refl) (λ t. rw t refl)

@@ -63,11 +63,10 @@ performs-starved old new command fault is h =
     record { mark = true; performs = h ∙ ap Err (sym is); only_memory = λ marked. ap Err is; others = tt; steps = tt }
 
 -- what is saved under a name is found by its count of atoms
-pub is_some-counted : (name : List ℕ) (saved seen : List (List ℕ × Simulation)) (count : Option ℕ) → seen ≡ saved
-    → count ≡ option_map (λ (s : Simulation). length s.cur) (value_named name seen)
+pub is_some-counted : (name : List ℕ) (saved : List (List ℕ × Simulation)) (count : Option ℕ)
+    → count ≡ option_map (λ (s : Simulation). length s.cur) (value_named name saved)
     → is_some (value_named name saved) ≡ is_some count
-is_some-counted name saved seen count same is =
-    ap (λ l. is_some (value_named name l)) (sym same) ∙ sym (ap is_some is ∙ mapped (value_named name seen))
+is_some-counted name saved count is = sym (ap is_some is ∙ mapped (value_named name saved))
   where
     mapped : (o : Option Simulation) → is_some (option_map (λ (s : Simulation). length s.cur) o) ≡ is_some o
     mapped None = refl

@@ -1,7 +1,9 @@
 -- A session written through the map of names in the code: what is held then, its user, and the running totals.
-use Rattle.std.proofs.Common.{◌≡◌, ℕ, ◌+◌, ◌-◌, ◌<◌, ◌≤◌, ℤ, List, length, Option, Some, None, Ok, Err, false, sym, ap, subst, ◌∙◌, arith}
+use Rattle.std.proofs.Common.{◌≡◌, ℕ, ◌+◌, ◌-◌, ◌<◌, ◌≤◌, ℤ, List, length, Option, Some, None, Ok, Err, true, false, sym, ap, subst, ◌∙◌, arith}
+use Rattle.std.specs.Prelude.{IsSome}
 use Rattle.std.specs.Str.{bytes_eq}
 use Rattle.std.specs.Map.{set_value}
+use Rattle.lj_step.specs.Sim.{Sim}
 use Rattle.lj_branch.specs.Named.{value_named}
 use Rattle.lj_quota.specs.declared.Used.{Used}
 use Rattle.lj_session.specs.declared.command.Command.{Command}
@@ -12,11 +14,14 @@ use Rattle.lj_session.specs.UserState.{with_live_session, with_session_changed}
 use Rattle.lj_session.specs.Answers.{answer}
 use Rattle.lj_session.specs.Totals.{state_of_kept, IsState}
 use Rattle.lj_session.proofs.Entries.{put-same, set-put}
-use Rattle.lj_session.specs.declared.refusal.Refusal.TheVariants.{NoSession}
+use Rattle.lj_session.specs.declared.command.Command.TheVariants.{Restore, Forget}
+use Rattle.lj_session.specs.declared.refusal.Refusal.TheVariants.{NoSession, NoBranch}
+use Rattle.lj_session.proofs.Performing as performing
 use Rattle.lj_session.proofs.Performing.{IsAbsent, refused, none}
+use Rattle.lj_session.proofs.Results.{none-if}
 use Rattle.lj_session.proofs.Holding.{named-held, named-settled, named-absent, pending-of, changed-some, user_of-kept}
 use Rattle.lj_session.proofs.Reaching.{reached-answer, reached-performs, reached-same}
-use Rattle.lj_session.proofs.Totals.{same_used, used-same, sessions-changed, atoms-changed, branches-changed}
+use Rattle.lj_session.proofs.Totals.{same_used, user_used, used-same, sessions-changed, atoms-changed, branches-changed}
 
 -- in the map a name is looked up as among what is held
 pub looked_up : (a : Inside) (old : UserState) → state_of_kept a ≡ old → (name : List ℕ) (found : Option LiveSession)
@@ -35,39 +40,21 @@ pub absent : {a : Inside} {old : UserState} → IsState a → state_of_kept a �
 absent {a} {old} state view name h command new is =
     refused old new command NoSession (none (user_of old) command false (is (not_there a old view name h)))
 
--- what is in the map is one
-pub is_there : (a : Inside) (old : UserState) → state_of_kept a ≡ old → (name : List ℕ) (session : LiveSession)
-    → Some session ≡ value_named name a.sessions.entries
-    → value_named name (user_of old).sessions ≡ Some (settled_session session)
-is_there a old view name session h = named-held old name session (looked_up a old view name (Some session) h)
+-- the session with another simulation in the code, with its open step
+abbrev pub with_live : LiveSession → Sim → LiveSession
+with_live session live = record session { live = live }
 
--- with no pending steps, where there are none at its name
-pub none_pending : (a : Inside) (old : UserState) → state_of_kept a ≡ old → (name : List ℕ) (session : LiveSession)
-    → Some session ≡ value_named name a.sessions.entries → pending_in old name ≡ 0 → session.pending ≡ 0
-none_pending a old view name session h none = pending-of old name session (looked_up a old view name (Some session) h) none
-
--- with pending steps, where there are some at its name
-pub some_pending : (a : Inside) (old : UserState) → state_of_kept a ≡ old → (name : List ℕ) (session : LiveSession)
-    → Some session ≡ value_named name a.sessions.entries → 0 < pending_in old name → 0 < session.pending
-some_pending a old view name session h some = rw (looked_up a old view name (Some session) h) at some
-
-pub is_settled : (a : Inside) (old : UserState) → state_of_kept a ≡ old → (name : List ℕ) (session : LiveSession)
-    → Some session ≡ value_named name a.sessions.entries → pending_in old name ≡ 0
-    → value_named name (user_of old).sessions ≡ Some (as_session session)
-is_settled a old view name session h none =
-    let found = looked_up a old view name (Some session) h in named-settled old name session found (pending-of old name session found none)
-
--- The session that a name stands for becomes another one, and `next` is held then.
-pub record Writes (a : Inside) (old : UserState) (name : List ℕ) (session new : LiveSession) (next : UserState) : Type 0 where
+-- The session that a name stands for becomes another one, and these entries are in the map then.
+pub record Writes (a : Inside) (old : UserState) (name : List ℕ) (session new : LiveSession) (entries : List (List ℕ × LiveSession)) : Type 0 where
   pub found : live_session old name ≡ Some session
-  pub is : next ≡ with_live_session name new old
+  pub is : record { quota = a.quota; sessions = entries } ≡ with_live_session name new old
   pub counted : a.used ≡ used_by old
   pub reached : Reached old
 
 pub writes : {a : Inside} {old : UserState} {session new : LiveSession} {entries : List (List ℕ × LiveSession)} (name : List ℕ)
     → IsState a → state_of_kept a ≡ old → Some session ≡ value_named name a.sessions.entries
     → entries ≡ set_value (bytes_eq name) a.sessions.entries new
-    → Writes a old name session new (record { quota = a.quota; sessions = entries })
+    → Writes a old name session new entries
 writes {a} {old} {session} {new} name state view found set = record {
   found = looked_up a old view name (Some session) found;
   is = ap (λ (es : List (List ℕ × LiveSession)). record { quota = a.quota; sessions = es })
@@ -77,8 +64,25 @@ writes {a} {old} {session} {new} name state view found set = record {
   reached = subst Reached view state.reached;
 }
 
-module _ {a : Inside} {old : UserState} {name : List ℕ} {session new : LiveSession} {next : UserState}
-    (w : Writes a old name session new next) where
+module _ {a : Inside} {old : UserState} {name : List ℕ} {session new : LiveSession} {entries : List (List ℕ × LiveSession)}
+    (w : Writes a old name session new entries) where
+  -- what is held then
+  abbrev next : UserState
+  next = record { quota = a.quota; sessions = entries }
+
+  -- the session is one of the user, with no pending steps or some as there are at its name
+  pub is_there : value_named name (user_of old).sessions ≡ Some (settled_session session)
+  is_there = named-held old name session w.found
+
+  pub none_pending : pending_in old name ≡ 0 → session.pending ≡ 0
+  none_pending none = pending-of old name session w.found none
+
+  pub some_pending : 0 < pending_in old name → 0 < session.pending
+  some_pending some = rw w.found at some
+
+  pub is_settled : pending_in old name ≡ 0 → value_named name (user_of old).sessions ≡ Some (as_session session)
+  is_settled none = named-settled old name session w.found (none_pending none)
+
   -- the same session, written once more
   pub unchanged : new ≡ session → next ≡ old
   unchanged same = w.is ∙ ap (λ (h : LiveSession). with_live_session name h old) same
@@ -93,11 +97,15 @@ module _ {a : Inside} {old : UserState} {name : List ℕ} {session new : LiveSes
   user_kept same = ap user_of w.is ∙ user_of-kept old name session new w.found same
 
   -- commands lead to the same user
-  pub reached_kept : settled_session new ≡ settled_session session → Reached next
+  reached_kept : settled_session new ≡ settled_session session → Reached next
   reached_kept same = reached-same old next w.reached (user_kept same)
 
-  reached_unchanged : new ≡ session → Reached next
-  reached_unchanged same = reached_kept (ap settled_session same)
+  -- the totals are the same too, so the invariant stays
+  pub still : settled_session new ≡ settled_session session → (b : Inside) → b.used ≡ a.used → state_of_kept b ≡ next → IsState b
+  still same b used is = record {
+    counted = used ∙ w.counted ∙ sym (ap user_used (user_kept same)) ∙ ap used_by (sym is);
+    reached = subst Reached (sym is) (reached_kept same);
+  }
 
   same_quota : next.quota ≡ old.quota
   same_quota = ap (λ (o : UserState). o.quota) w.is
@@ -125,6 +133,14 @@ module _ {a : Inside} {old : UserState} {name : List ℕ} {session new : LiveSes
   done_at command made step read other performs same_step same =
       done_as command (made read) other (rw same_step performs) same
 
+  -- RESTORE and FORGET, where nothing is saved under the name
+  pub no_branch : (branch : List ℕ) → (IsSome (value_named branch session.saved) → false ≡ true)
+      → Performs old (Restore name branch) (Err NoBranch) next × Performs old (Forget name branch) (Err NoBranch) next
+  no_branch branch none =
+      let both = performing.no_branch (user_of old) name false (settled_session session) is_there branch
+      (none-if (value_named branch session.saved) none) in
+      (refused old next _ _ both.0, refused old next _ _ both.1)
+
   -- the totals, where the session has as many atoms and as many saved simulations as before
   pub totals_kept : length new.live.sim.cur ≡ length session.live.sim.cur
       → length new.saved ≡ length session.saved → a.used ≡ used_by next
@@ -134,16 +150,6 @@ module _ {a : Inside} {old : UserState} {name : List ℕ} {session new : LiveSes
       → length other.saved ≡ length session.saved → a.used ≡ used_by next
   totals_as other is atoms saved =
       totals_kept (ap (λ (h : LiveSession). length h.live.sim.cur) is ∙ atoms) (ap (λ (h : LiveSession). length h.saved) is ∙ saved)
-
-  totals_unchanged : new ≡ session → a.used ≡ used_by next
-  totals_unchanged same = w.counted ∙ ap used_by (sym (unchanged same))
-
-  -- so the invariant stays
-  pub still : new ≡ session → (b : Inside) → b.used ≡ a.used → state_of_kept b ≡ next → IsState b
-  still same b used is = record {
-    counted = used ∙ totals_unchanged same ∙ ap used_by (sym is);
-    reached = subst Reached (sym is) (reached_unchanged same);
-  }
 
   module _ (atoms : length new.live.sim.cur ≡ length session.live.sim.cur) where
     -- with other numbers of saved simulations

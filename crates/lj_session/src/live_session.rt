@@ -1,35 +1,31 @@
 //! A session in the code.
-ghost use Rattle.std.specs.Prelude.{◌≡◌, ◌↔◌, ◌<◌, ◌+◌, ◌^◌, [], length, slice_get, Some, None, IsOk, IsSome};
-ghost use Rattle.std.specs.Prelude.{IsErrOf};
-ghost use Rattle.std.specs.Prelude.{IfNone, IfSome, OnOk, OnErr, ◌≤◌, unsigned_abs, IfOk, true, false, is_some};
+ghost use Rattle.std.specs.Prelude.{◌≡◌, ◌<◌, ◌+◌, ◌^◌, [], length, slice_get, Some, None};
+ghost use Rattle.std.specs.Prelude.{IfNone, IfSome, ◌≤◌, unsigned_abs, true, false};
 ghost use Rattle.std.specs.Prelude.{nat_le, pos, ◌&&◌, ◌-◌, ◌+ℤ◌, ◌*ℤ◌};
 ghost use Rattle.lj_task.specs.declared.task_name.Kind.TheVariants.{Force};
-ghost use Rattle.lj_branch.specs.declared.branch_faults.SaveFault.TheVariants.{Exists};
-ghost use Rattle.lj_step.specs.Motion as motion;
 ghost use Rattle.lj_step.specs.OpenSteps as steps;
-ghost use Rattle.lj_branch.specs.Named.{value_named, with_value, without_value};
-ghost use Rattle.lj_session.specs.Users.{atoms_of};
 ghost use Rattle.lj_session.specs.Answers.{can_advance};
 ghost use Rattle.lj_session.specs.UserState as states;
-ghost use Rattle.lj_session.specs.UserState.{settled_session, with_simulation, with_saved, HasWholeStep};
+ghost use Rattle.lj_session.specs.UserState.{settled_session, HasWholeStep};
 
-use lj_base::{Label, Name};
-use lj_branch::{Branches, NoBranch, SaveFault};
-use lj_step::{Displacement, MAX_STEP, NotAwaited, Sim};
-use lj_task::{DoneRef, Kind, TaskRef};
+use lj_base::Label;
+use lj_branch::Branches;
+use lj_step::{MAX_STEP, Sim};
+use lj_task::{Kind, TaskRef};
 use lj_xyz::Symbol;
 use std::marker::Model;
 
 /// The most steps of one ADVANCE or START.
 const MAX_STEPS: u64 = 1_000_000;
 
-/// The symbols of some atoms, their simulation, its saved copies, and the number of pending steps.
+/// The symbols of some atoms, their simulation, its saved copies, and the number of pending steps. Callers use `sim` and
+/// `branches` directly, by the contracts of those, and owe the invariant after each change.
 #[derive(Drop)]
 pub(crate) struct LiveSession {
     symbols: Vec<Symbol>,
-    sim: Sim,
+    pub(crate) sim: Sim,
     passed: usize,
-    branches: Branches,
+    pub(crate) branches: Branches,
     pending: u64,
 }
 
@@ -60,20 +56,6 @@ impl LiveSession {
             branches,
             pending: 0,
         }
-    }
-
-    /// Returns the simulation.
-    pub(crate) fn sim(&self) -> &Sim
-        ensures { result.now ≡ self.now.live }
-    {
-        &self.sim
-    }
-
-    /// Returns the saved simulations.
-    pub(crate) fn branches(&self) -> &Branches
-        ensures { result.now ≡ self.now.saved }
-    {
-        &self.branches
     }
 
     /// Returns the symbol of an atom.
@@ -121,69 +103,6 @@ impl LiveSession {
             self.sim.open_step(Kind::Force);
             self.passed = 0;
         }
-    }
-
-    /// Reverses the motion. No step is open then.
-    pub(crate) fn reverse(&mut self)
-        requires { self.old.pending ≡ 0 }
-        ensures value { self.new ≡ with_simulation self.old (motion.reversal self.old.live.sim) }
-        ensures count { length self.new.live.sim.cur ≡ length self.old.live.sim.cur }
-    {
-        self.sim.reverse();
-        let _most = self.sim.step();
-    }
-
-    /// Adds a displacement per step to an atom. No step is open then.
-    pub(crate) fn tug(&mut self, atom: usize, by: Displacement)
-        requires { atom < length self.old.live.sim.cur }
-        ensures { let sim = motion.with_tug atom
-            (record { x = by.x; y = by.y; z = by.z }) self.old.live.sim in
-            self.new ≡ with_simulation self.old sim }
-    {
-        self.sim.tug(atom, by);
-    }
-
-    /// Saves a copy of the simulation under a new name.
-    ///
-    /// # Errors
-    /// `Exists` if the name is taken, else `Memory`. Nothing has changed then.
-    pub(crate) fn save(&mut self, branch: Name) -> Result<(), SaveFault>
-        ensures exists { IsErrOf result Exists ↔ IsSome (value_named branch self.old.saved) }
-        ensures saved { OnOk result
-            (self.new ≡ with_saved self.old (with_value branch self.old.live.sim self.old.saved)) }
-        ensures unchanged { OnErr result (self.new ≡ self.old) }
-    {
-        self.branches.save(branch, &self.sim)
-    }
-
-    /// Restores the simulation saved under a name, which stays saved. No step is open then.
-    ///
-    /// # Errors
-    /// `NoBranch` if nothing is saved under it. Nothing has changed then.
-    pub(crate) fn restore(&mut self, branch: &Name) -> Result<(), NoBranch>
-        requires { self.old.pending ≡ 0 }
-        ensures found { IsOk result ↔ IsSome (value_named branch.now self.old.saved) }
-        ensures restored { let saved = value_named branch.now self.old.saved in
-            OnOk result (IfSome saved (λ sim. self.new ≡ with_simulation self.old sim)) }
-        ensures count { length self.new.live.sim.cur ≡ length self.old.live.sim.cur }
-        ensures unchanged { OnErr result (self.new ≡ self.old) }
-    {
-        let restored = self.branches.restore_into(branch, &mut self.sim);
-        let _most = self.sim.step();
-        restored
-    }
-
-    /// Removes the simulation saved under a name.
-    ///
-    /// # Errors
-    /// `NoBranch` if nothing is saved under it. Nothing has changed then.
-    pub(crate) fn forget(&mut self, branch: &Name) -> Result<(), NoBranch>
-        ensures found { IsOk result ↔ IsSome (value_named branch.now self.old.saved) }
-        ensures taken { OnOk result
-            (self.new ≡ with_saved self.old (without_value branch.now self.old.saved)) }
-        ensures unchanged { OnErr result (self.new ≡ self.old) }
-    {
-        self.branches.forget(branch)
     }
 
     /// Opens a step of a kind. No tile of it is posted or in.
@@ -265,20 +184,6 @@ impl LiveSession {
         ensures { self.new ≡ states.with_passed to self.old }
     {
         self.passed = to;
-    }
-
-    /// Accepts the result of a tile that the open step awaits. Any other changes nothing.
-    pub(crate) fn accept_from(
-        &mut self,
-        label: &Label,
-        done: &DoneRef<'_>,
-    ) -> Result<(), NotAwaited>
-        ensures accepted { IsOk result ↔ steps.IsAwaitedTask self.old.live label.now done.now }
-        ensures taken { OnOk result
-            (self.new ≡ states.with_tile_in (steps.tile_number_of done.now) self.old) }
-        ensures unchanged { OnErr result (self.new ≡ self.old) }
-    {
-        self.sim.accept_from(label, done)
     }
 
     /// Turns a whole force step: the motion advances by one step, one fewer is pending, and the next one is open if

@@ -117,7 +117,7 @@ impl UserState {
         requires { i < length self.now.sessions }
         ensures { option_map (λ session. session.live) (live_session_at self.now i) ≡ Some result.now }
     {
-        self.at(i).sim()
+        &self.at(i).sim
     }
 
     /// Returns the edge of the i-th session's box.
@@ -144,7 +144,7 @@ impl UserState {
         requires { i < length self.now.sessions }
         ensures { option_map (λ session. session.saved) (live_session_at self.now i) ≡ Some result.now }
     {
-        self.at(i).branches()
+        &self.at(i).branches
     }
 
     /// Returns the step number of the i-th session after all its pending steps.

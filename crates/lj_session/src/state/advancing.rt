@@ -160,7 +160,8 @@ impl UserState {
         requires whole { ForSome (live_session self.now name) (HasWholeStep Energy) }
         ensures { Reads self.now (commands.Measure name) (Ok result) }
     {
-        let sim = self.session(&name).sim();
+        let session = self.session(&name);
+        let sim = &session.sim;
         Reply::Measured {
             step: sim.step(),
             atoms: sim.count(),

@@ -56,8 +56,8 @@ impl UserState {
             return Err(Refusal::NoSession);
         };
         self.used.sessions -= 1;
-        self.used.atoms -= session.sim().count() as u64;
-        self.used.branches -= session.branches().len() as u64;
+        self.used.atoms -= session.sim.count() as u64;
+        self.used.branches -= session.branches.len() as u64;
         Ok(Reply::Unloaded { name })
     }
 

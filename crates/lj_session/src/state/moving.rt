@@ -20,8 +20,8 @@ impl UserState {
         let Some(session) = self.sessions.get_mut(&name) else {
             return Err(Refusal::NoSession);
         };
-        session.reverse();
-        let step = session.sim().step();
+        session.sim.reverse();
+        let step = session.sim.step();
         Ok(Reply::Reversed { name, step })
     }
 
@@ -35,11 +35,11 @@ impl UserState {
         let Some(session) = self.sessions.get_mut(&name) else {
             return Err(Refusal::NoSession);
         };
-        if atom >= session.sim().count() as u64 {
+        if atom >= session.sim.count() as u64 {
             return Err(Refusal::NoAtom);
         }
-        session.tug(atom as usize, by);
-        let step = session.sim().step();
+        session.sim.tug(atom as usize, by);
+        let step = session.sim.step();
         Ok(Reply::Tugged { name, atom, step })
     }
 }

@@ -20,12 +20,12 @@ impl UserState {
         let Some(session) = self.sessions.get_mut(&name) else {
             return Err(Refusal::NoSession);
         };
-        if session.branches().count_of(&branch).is_some() {
+        if session.branches.count_of(&branch).is_some() {
             return Err(Refusal::BranchExists);
         }
         may_branch(&self.quota, &self.used)?;
-        session.save(branch.copy())?;
-        let step = session.sim().step();
+        session.branches.save(branch.copy(), &session.sim)?;
+        let step = session.sim.step();
         self.used.branches += 1;
         Ok(Reply::Branched { name, branch, step })
     }
@@ -40,8 +40,8 @@ impl UserState {
         let Some(session) = self.sessions.get_mut(&name) else {
             return Err(Refusal::NoSession);
         };
-        session.restore(&branch)?;
-        let step = session.sim().step();
+        session.branches.restore_into(&branch, &mut session.sim)?;
+        let step = session.sim.step();
         Ok(Reply::Restored { name, branch, step })
     }
 
@@ -54,7 +54,7 @@ impl UserState {
         let Some(session) = self.sessions.get_mut(&name) else {
             return Err(Refusal::NoSession);
         };
-        session.forget(&branch)?;
+        session.branches.forget(&branch)?;
         self.used.branches -= 1;
         Ok(Reply::Forgotten { name, branch })
     }

@@ -19,7 +19,7 @@ impl UserState {
         let Some(session) = self.found(&name, index) else {
             return Err(Refusal::NoSession);
         };
-        let sim = session.sim();
+        let sim = &session.sim;
         if atom >= sim.count() as u64 {
             return Err(Refusal::NoAtom);
         }

@@ -120,10 +120,8 @@ impl UserState {
         let Some(i) = self.index_of(&label.session) else {
             return Err(NotAwaited);
         };
-        self.sessions
-            .get_index_mut(i)
-            .unwrap()
-            .accept_from(label, done)
+        let session = self.sessions.get_index_mut(i).unwrap();
+        session.sim.accept_from(label, done)
     }
 
     /// Returns whether a step is open in a session and all its tiles are in.
@@ -131,7 +129,7 @@ impl UserState {
         ensures { result ≡ is_whole_in self.now name.now }
     {
         match self.find(name) {
-            Some(session) => session.sim().is_whole(),
+            Some(session) => session.sim.is_whole(),
             None => false,
         }
     }
@@ -143,7 +141,8 @@ impl UserState {
         ensures { (name : List ℕ) → slice_get (loaded_names self.now) i ≡ Some name
             → result ≡ is_whole_in self.now name }
     {
-        self.at(i).sim().is_whole()
+        let session = self.at(i);
+        session.sim.is_whole()
     }
 
     /// Returns the first session, in order of loading, that has an open step whose tiles are all in.

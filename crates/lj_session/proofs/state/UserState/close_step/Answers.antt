@@ -1,14 +1,11 @@
 use Rattle.std.proofs.Common.{refl, ap}
 use Rattle.lj_session.specs.UserState.{settled_session, with_no_step}
-use Rattle.lj_session.proofs.Writing.{writes, changed_by, user_kept, reached_kept, totals_as}
+use Rattle.lj_session.proofs.Writing.{writes, changed_by, user_kept, still}
 use Rattle.lj_session.proofs.state.UserState.close_step.Goals as goal
 
 pub invariant_of-self-2 : goal.invariant_of-self-2
 invariant_of-self-2 c =
-    let wrote = writes c.args.name.now c.self.invariant c.self.view_is c.in-Some.ensures.value (c.get_mut.follows.holds c.close_step.new.self).0 in record {
-      counted = totals_as wrote _ c.close_step.ensures refl refl;
-      reached = reached_kept wrote (ap settled_session c.close_step.ensures);
-    }
+    still (writes c.args.name.now c.self.invariant c.self.view_is c.in-Some.ensures.value (c.get_mut.follows.holds c.close_step.new.self).0) (ap settled_session c.close_step.ensures) _ refl refl
 
 pub returns-clause-closed : goal.returns-clause-closed
 returns-clause-closed c =

@@ -1,12 +1,12 @@
-use Rattle.std.proofs.Common.{length, slice_get, sym, ap, subst, ◌∙◌}
+use Rattle.std.proofs.Common.{slice_get, refl, sym, ap, subst, ◌∙◌}
 use Rattle.std.proofs.lemmas.Option.{same_Some, slice_get-map}
 use Rattle.std.specs.List.{IsDistinct}
 use Rattle.std.specs.Str.{bytes_eq}
 use Rattle.indexmap.specs.IndexMap.{set_value_at}
-use Rattle.lj_session.specs.UserState.{LiveSession, UserState, with_session_changed, live_session_at, live_session, loaded_names, settled_session, with_passed}
+use Rattle.lj_session.specs.UserState.{UserState, with_session_changed, live_session_at, live_session, loaded_names, settled_session, with_passed}
 use Rattle.lj_session.proofs.Entries.{set_at-name}
 use Rattle.lj_session.proofs.NextTiles.{Stands, stands}
-use Rattle.lj_session.proofs.Writing.{Writes, writes, changed_by, user_kept, totals_kept, reached_kept}
+use Rattle.lj_session.proofs.Writing.{Writes, writes, changed_by, user_kept, still}
 use Rattle.lj_session.proofs.state.UserState.post_to.Goals.{After-post_to}
 use Rattle.lj_session.proofs.state.UserState.post_to.Goals as goal
 
@@ -21,10 +21,7 @@ stood c =
 -- what is written in it
 written : (c : After-post_to)
     → Writes c.self.inside c.args.self.now (stood c).name c.in-Some.session.now c.post_to.new.self
-    (record {
-      quota = c.self.inside.quota;
-      sessions = set_value_at c.self.inside.sessions.entries c.args.i c.post_to.new.self;
-    })
+    (set_value_at c.self.inside.sessions.entries c.args.i c.post_to.new.self)
 written c = writes (stood c).name c.self.invariant c.self.view_is
     (sym (ap (λ (o : UserState). live_session o (stood c).name) c.self.view_is ∙ (stood c).there))
     (set_at-name c.self.inside.sessions.entries c.args.i (stood c).name c.post_to.new.self c.get_index_mut.ensures.unique
@@ -32,12 +29,7 @@ written c = writes (stood c).name c.self.invariant c.self.view_is
 
 pub invariant_of-self-2 : goal.invariant_of-self-2
 invariant_of-self-2 c =
-    let wrote = written (goal.at.invariant_of-self-2 c).After-post_to in
-    let same = c.post_to.ensures in record {
-      counted = totals_kept wrote (ap (λ (session : LiveSession). length session.live.sim.cur) same)
-          (ap (λ (session : LiveSession). length session.saved) same);
-      reached = reached_kept wrote (ap settled_session same);
-    }
+    still (written (goal.at.invariant_of-self-2 c).After-post_to) (ap settled_session c.post_to.ensures) _ refl refl
 
 pub returns-clause-posted : goal.returns-clause-posted
 returns-clause-posted c = λ name named.

@@ -1,12 +1,11 @@
 use Rattle.std.proofs.Common.{◌≡◌, Some, length, sym, ap, ◌∙◌, arith}
-use Rattle.lj_step.specs.Sim.{Sim}
 use Rattle.lj_step.specs.Motion.{place_at}
 use Rattle.lj_branch.specs.Named.{value_named}
 use Rattle.lj_session.proofs.Holding.{named-settled, named-absent, pending-of}
 use Rattle.lj_session.proofs.Performing as performing
 use Rattle.lj_session.proofs.Outcomes as outcomes
 use Rattle.lj_session.proofs.Outcomes.{read-step, shown}
-use Rattle.lj_session.specs.UserState.{as_session, user_of}
+use Rattle.lj_session.specs.UserState.{LiveSession, as_session, user_of}
 use Rattle.lj_session.proofs.state.UserState.show.Goals.{After-count}
 use Rattle.lj_session.proofs.state.UserState.show.Goals as goal
 
@@ -19,7 +18,7 @@ settled c =
 
 -- its count of atoms
 count : (c : After-count) → c.count.result ≡ length c.in-Some.session.now.live.sim.cur
-count c = c.count.ensures.value ∙ ap (λ (l : Sim). length l.sim.cur) c.sim-sim.ensures
+count c = c.count.ensures.value ∙ ap (λ (h : LiveSession). length h.live.sim.cur) c.session.view_is
 
 pub returns-in_default : goal.returns-in_default
 returns-in_default c = λ mark.
@@ -38,5 +37,5 @@ returns c = λ mark.
     (outcomes.there c.args.atom _ (let n = count at in let t = c.if-atom-count.false in omega (arith, n, t)))
     ∙ shown (user_of c.args.self.now) c.args.name c.args.atom _ _ _ _
     (read-step c.step.result c.step.ensures.most ∙ (c.step.ensures.value
-    ∙ ap (λ (l : Sim). l.sim.step) c.sim-sim.ensures))
-    (c.place.ensures ∙ ap (λ (l : Sim). place_at l.sim.cur c.args.atom) c.sim-sim.ensures)
+    ∙ ap (λ (h : LiveSession). h.live.sim.step) c.session.view_is))
+    (c.place.ensures ∙ ap (λ (h : LiveSession). place_at h.live.sim.cur c.args.atom) c.session.view_is)

@@ -5,34 +5,38 @@ use Rattle.lj_session.proofs.PendingSteps.{count-added, saved-added}
 use Rattle.lj_session.proofs.Performing as performing
 use Rattle.lj_session.proofs.Outcomes as outcomes
 use Rattle.lj_session.proofs.Outcomes.{read-step}
-use Rattle.lj_session.proofs.Writing.{writes, is_there, unchanged, absent, still, totals_as}
+use Rattle.lj_session.proofs.Writing.{Writes, writes, is_there, unchanged, absent, still, totals_as}
 use Rattle.lj_session.proofs.Writing.{reached_as, done_at}
+use Rattle.lj_session.proofs.state.UserState.start.Goals.{In-Some}
 use Rattle.lj_session.proofs.state.UserState.start.Goals as goal
 
+-- what is written
+wrote : (c : In-Some) (new : LiveSession)
+    → Writes c.self.inside c.args.self.now c.args.name c.in-Some.session.now new (c.get_mut.follows.lender new).entries
+wrote c new = writes c.args.name c.self.invariant c.self.view_is c.in-Some.ensures.value (c.get_mut.follows.holds new).0
+
 pub returns-in_default-clause-performs : goal.returns-in_default-clause-performs
-returns-in_default-clause-performs c =
-    absent c.self.invariant c.self.view_is c.args.name c.in_default.ensures.value _ _ (λ none. none)
+returns-in_default-clause-performs c = absent c.self.invariant c.self.view_is c.args.name c.in_default.ensures.value _ _ (λ none. none)
 
 pub invariant_of-self-then-not-can_advance : goal.invariant_of-self-then-not-can_advance
 invariant_of-self-then-not-can_advance c =
-    let wrote = writes c.args.name c.self.invariant c.self.view_is c.in-Some.ensures.value (c.get_mut.follows.holds c.in-Some.session.now).0 in
-    still wrote refl _ refl refl
+    still (wrote (goal.at.invariant_of-self-then-not-can_advance c).In-Some c.in-Some.session.now) refl _ refl refl
 
 pub returns-then-not-can_advance-clause-performs : goal.returns-then-not-can_advance-clause-performs
 returns-then-not-can_advance-clause-performs c =
     performing.refused c.args.self.now _ _ _ (performing.steps-far (user_of c.args.self.now)
     c.args.name false (settled_session c.in-Some.session.now)
-    (is_there c.self.inside c.args.self.now c.self.view_is c.args.name c.in-Some.session.now c.in-Some.ensures.value)
+    (is_there (wrote (goal.at.returns-then-not-can_advance-clause-performs c).In-Some c.in-Some.session.now))
     c.args.steps (sym c.can_advance.ensures ∙ c.if-not-can_advance.true)).1
 
 pub returns-then-not-can_advance-clause-unchanged : goal.returns-then-not-can_advance-clause-unchanged
 returns-then-not-can_advance-clause-unchanged c =
-    unchanged (writes c.args.name c.self.invariant c.self.view_is c.in-Some.ensures.value (c.get_mut.follows.holds c.in-Some.session.now).0) refl
+    unchanged (wrote (goal.at.returns-then-not-can_advance-clause-unchanged c).In-Some c.in-Some.session.now) refl
 
 pub invariant_of-self-2 : goal.invariant_of-self-2
 invariant_of-self-2 c =
     let session = c.in-Some.session.now in
-    let wrote = writes c.args.name c.self.invariant c.self.view_is c.in-Some.ensures.value (c.get_mut.follows.holds c.add_pending.new.self).0 in record {
+    let wrote = wrote (goal.at.invariant_of-self-2 c).In-Some c.add_pending.new.self in record {
       counted = totals_as wrote _ c.add_pending.ensures (count-added c.args.steps session) (saved-added c.args.steps session);
       reached = reached_as wrote _ _ _ (outcomes.start c.args.self.now c.args.name session wrote.found c.args.steps
           (sym c.can_advance.ensures ∙ c.if-not-can_advance.false)) c.add_pending.ensures;
@@ -41,7 +45,7 @@ invariant_of-self-2 c =
 pub returns-clause-performs : goal.returns-clause-performs
 returns-clause-performs c =
     let session = c.in-Some.session.now in
-    let wrote = writes c.args.name c.self.invariant c.self.view_is c.in-Some.ensures.value (c.get_mut.follows.holds c.add_pending.new.self).0 in
+    let wrote = wrote (goal.at.returns-clause-performs c).In-Some c.add_pending.new.self in
     done_at wrote _ (reply.Started c.args.name) _ _ _
     (outcomes.start c.args.self.now c.args.name session wrote.found c.args.steps
     (sym c.can_advance.ensures ∙ c.if-not-can_advance.false))

@@ -1,15 +1,14 @@
 use Rattle.std.proofs.Common.{◌≡◌, Some, None, Ok, length, refl, sym, ap, ◌∙◌, ◌≤◌, arith}
 use Rattle.lj_branch.specs.Named.{value_named, without_value}
-use Rattle.lj_step.specs.Sim.{Sim}
-use Rattle.lj_session.proofs.Holding.{taken-of}
-use Rattle.lj_session.proofs.Writing.{absent, looked_up, none_pending}
+use Rattle.lj_session.proofs.Holding.{pending-of, taken-of}
+use Rattle.lj_session.proofs.Writing.{absent, looked_up}
 use Rattle.lj_session.proofs.Outcomes as outcomes
 use Rattle.lj_session.proofs.Outcomes.{written-to}
 use Rattle.lj_session.proofs.Totals.{used-less, atoms-within, saved-within}
 use Rattle.lj_session.proofs.Reaching.{reached-done}
 use Rattle.lj_session.specs.declared.command.Command.TheVariants.{Unload}
 use Rattle.lj_session.specs.declared.reply.Reply.TheVariants.{Unloaded}
-use Rattle.lj_session.specs.UserState.{UserState, Performs, live_session}
+use Rattle.lj_session.specs.UserState.{LiveSession, UserState, Performs, live_session}
 use Rattle.lj_session.proofs.state.UserState.unload.Goals.{In-Some}
 use Rattle.lj_session.proofs.state.UserState.unload.Goals as goal
 
@@ -40,12 +39,12 @@ within c =
 pub overflow_sub-self-2 : goal.overflow_sub-self-2
 overflow_sub-self-2 c =
     let most = (within (goal.at.overflow_sub-self-2 c).In-Some).0 in
-    let n = c.count.ensures.value ∙ ap (λ (l : Sim). length l.sim.cur) c.sim.ensures in omega (arith, most, n)
+    let n = c.count.ensures.value ∙ ap (λ (h : LiveSession). length h.live.sim.cur) c.session.view_is in omega (arith, most, n)
 
 pub overflow_sub-self-3 : goal.overflow_sub-self-3
 overflow_sub-self-3 c =
     let most = (within (goal.at.overflow_sub-self-3 c).In-Some).1 in
-    let n = c.len.ensures.value ∙ ap length c.branches.ensures in omega (arith, most, n)
+    let n = c.len.ensures.value ∙ ap (λ (h : LiveSession). length h.saved) c.session.view_is in omega (arith, most, n)
 
 -- the session is given up
 unloaded : (c : In-Some) → Performs c.args.self.now (Unload c.args.name) (Ok (Unloaded c.args.name))
@@ -54,7 +53,7 @@ unloaded c =
     let old = c.args.self.now in
     let session = c.in-Some.session in
     written-to old _ _ _ _ (outcomes.unload old c.args.name session (found c)
-    (none_pending c.self.inside old c.self.view_is c.args.name session c.in-Some.ensures.value c.requires) (gone c))
+    (pending-of old c.args.name session (found c) c.requires) (gone c))
     (taken-of c.self.inside old c.self.view_is c.args.name _ c.in-Some.ensures.entries)
 
 pub invariant_of-self-2 : goal.invariant_of-self-2
@@ -65,8 +64,8 @@ invariant_of-self-2 c =
     let is_out = taken-of c.self.inside old c.self.view_is c.args.name _ c.in-Some.ensures.entries in record {
       counted = used-less c.self.inside old c.self.view_is c.self.invariant.counted c.args.name session there _ is_out
           1 c.count.result c.len.result refl
-          (c.count.ensures.value ∙ ap (λ (l : Sim). length l.sim.cur) c.sim.ensures)
-          (c.len.ensures.value ∙ ap length c.branches.ensures);
+          (c.count.ensures.value ∙ ap (λ (h : LiveSession). length h.live.sim.cur) c.session.view_is)
+          (c.len.ensures.value ∙ ap (λ (h : LiveSession). length h.saved) c.session.view_is);
       reached = reached-done c.self.inside old _ c.self.view_is c.self.invariant (Unload c.args.name) _
           (unloaded (goal.at.invariant_of-self-2 c).In-Some) (ap (λ (o : UserState). o.quota) is_out);
     }
