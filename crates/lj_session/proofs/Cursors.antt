@@ -16,20 +16,6 @@ use Rattle.lj_session.proofs.Firsts.{find-at}
 use Rattle.lj_session.proofs.Holding.{changed-none, changed-some}
 use Rattle.lj_session.proofs.Others.{loaded_names-changed, others-changed}
 
--- the session of the next tile has no task posted beyond those that it has passed
-pub first-cursor : (owner : Owner) (cursor : TileCursor) → IsAtFirst cursor owner → IsPostedTo cursor cursor.passed owner owner
-first-cursor owner cursor first = record {
-  name = first.next.name;
-  named = first.next.named;
-  label = first.label;
-  session = first.next.session;
-  at = first.next.at;
-  there = first.next.there ∙ ap (λ n. Some (record first.next.session { passed = n })) first.passed;
-  before = first.next.before;
-  same_names = refl;
-  number = refl;
-}
-
 -- and as many as it has passed are noted
 pub first-same : (owner : Owner) (cursor : TileCursor) → IsAtFirst cursor owner → owner ≡ owner_posted_to cursor cursor.passed owner
 first-same owner cursor first =

@@ -148,13 +148,6 @@ module _ {A : Type 0} (name : List ℕ) where
       (λ t. rw t (omega arith))
       (λ t. let below = length-taken es v (rw t at h) in rw t (omega (arith, below)))
 
-  -- a name that does not stand is not taken out
-  pub taken-none : (es : List (List ℕ × A)) → value_named name es ≡ None → without_value name es ≡ es
-  taken-none [] h = refl
-  taken-none (e ∷ es) h = by_test (bytes_eq name e.0)
-      (λ t. absurd (none-some e.1 (sym (rw t at h))))
-      (λ t. rw t (ap (λ l. e ∷ l) (taken-none es (rw t at h))))
-
   -- sums over the values
   module _ (f : A → ℕ) where
     abbrev value_of : List ℕ × A → ℕ

@@ -1,5 +1,5 @@
 -- The first tile that is awaited, looked for from a place of the cover on.
-use Rattle.std.proofs.Common.{◌≡◌, ℕ, suc, ◌+◌, ◌-◌, ◌<◌, ◌≤◌, Bool, true, false, cond, Option, Some, None, refl, sym}
+use Rattle.std.proofs.Common.{◌≡◌, ℕ, suc, ◌+◌, ◌-◌, ◌<◌, Bool, true, false, cond, Option, Some, None, refl, sym}
 use Rattle.std.proofs.Common.{ap, ◌∙◌, arith, List, [], ◌∷◌, slice_get}
 use Rattle.std.proofs.lemmas.Bool.{false≢true}
 use Rattle.std.specs.Prelude.{is_some}
@@ -13,9 +13,6 @@ use Rattle.lj_session.specs.UserState.{LiveSession, next_of, next_tile, with_pas
 pub find-step : (test : ℕ → Bool) (i n : ℕ) → i < n
     → find test (range_with_len i (n - i)) ≡ cond (test i) (Some i) (find test (range_with_len (i + 1) (n - (i + 1))))
 find-step test i n below = let e : n - i ≡ suc (n - (i + 1)) = omega arith in rw e refl
-
-pub find-end : (test : ℕ → Bool) (i n : ℕ) → n ≤ i → find test (range_with_len i (n - i)) ≡ None
-find-end test i n past = let e : n - i ≡ 0 = omega arith in rw e refl
 
 -- a tile that is not awaited is passed over
 pub find-on : (test : ℕ → Bool) (i n : ℕ) (o : Option ℕ) → i < n → test i ≡ false

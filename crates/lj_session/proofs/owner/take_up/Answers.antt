@@ -6,13 +6,13 @@ use Rattle.lj_session.specs.Turns.{turns, waits_for}
 use Rattle.std.specs.Prelude.{IsSome, true}
 use Rattle.lj_session.specs.Answers.{answer, can_advance, session_named}
 use Rattle.lj_session.specs.UserState.{LiveSession, UserState, IsAtWork, user_of, live_session, pending_in, with_more_pending, with_step, settled_session, steps_before, turns_before}
-use Rattle.lj_session.specs.Owner.{rest_of, state_taking_up}
+use Rattle.lj_session.specs.Owner.{rest_of, command_left, state_taking_up, state_begun}
 use Rattle.lj_session.proofs.AtWork.{at_work-changed, at_work-measured, at_work-waits, kind-added}
 use Rattle.lj_session.proofs.Holding.{pending-of}
 use Rattle.lj_session.proofs.Others.{others-changed}
 use Rattle.lj_session.proofs.Turning.{no-turns}
 use Rattle.lj_session.proofs.Waiting.{Goes, goes, taken_alike, taken_turns, measured_there, measured_turns, left-taken, begun-taken}
-use Rattle.lj_session.proofs.owner.take_up.Goals.{In_default}
+use Rattle.lj_session.proofs.owner.take_up.Goals.{In-Advance, In-Measure, In_default}
 use Rattle.lj_session.proofs.owner.take_up.Goals as goal
 
 pub returns-then-steps_before-gt0-clause-at_work :
@@ -51,33 +51,47 @@ near_of state name n g session e = subst (λ (h : LiveSession). can_advance (set
     same : (a b : LiveSession) → Some a ≡ Some b → a ≡ b
     same a b k = cc
 
+-- what is left of a command whose steps are taken up, and the state then
+left : (state : UserState) (command which : Command) → command ≡ which → steps_before state command ≡ 0
+    → rest_of which ≡ command_left command state
+left state command which is none = sym (ap rest_of is) ∙ sym (left-taken command state none)
+
+begun : (state : UserState) (command which : Command) → command ≡ which → steps_before state command ≡ 0
+    → state_taking_up which state ≡ state_begun command state
+begun state command which is none = sym (ap (λ k. state_taking_up k state) is) ∙ sym (begun-taken command state none)
+
+none_before : (c : In-Advance) → steps_before c.args.state.now c.args.command ≡ 0
+none_before c = none_of c.steps_before.result _ c.if-steps_before-gt0.false c.steps_before.ensures
+
+going : (c : In-Advance) → Goes c.args.state.now c.in-Advance.name c.in-Advance.steps
+going c = goes_of c.args.state.now c.args.command c.in-Advance.name c.in-Advance.steps c.requires.waits (none_before c) c.in-Advance.is
+
 pub add_pending-requires-clause-session : goal.add_pending-requires-clause-session
-add_pending-requires-clause-session c = is_there c.args.state.now c.in-Advance.name (goes_of c.args.state.now c.args.command c.in-Advance.name c.in-Advance.steps c.requires.waits
-    (none_of c.steps_before.result _ c.if-steps_before-gt0.false c.steps_before.ensures) c.in-Advance.is)
+add_pending-requires-clause-session c =
+    is_there c.args.state.now c.in-Advance.name (going (goal.at.add_pending-requires-clause-session c).In-Advance)
 
 pub add_pending-requires-clause-near : goal.add_pending-requires-clause-near
-add_pending-requires-clause-near c = λ session e. near_of c.args.state.now c.in-Advance.name c.in-Advance.steps (goes_of c.args.state.now c.args.command c.in-Advance.name c.in-Advance.steps c.requires.waits
-    (none_of c.steps_before.result _ c.if-steps_before-gt0.false c.steps_before.ensures) c.in-Advance.is) session e
+add_pending-requires-clause-near c =
+    near_of c.args.state.now c.in-Advance.name c.in-Advance.steps (going (goal.at.add_pending-requires-clause-near c).In-Advance)
 
 pub returns-in-Advance-clause-left : goal.returns-in-Advance-clause-left
 unfolding rest_of
 returns-in-Advance-clause-left c =
-    ap (λ n. Advance n 0) c.copy.ensures ∙ sym (ap rest_of c.in-Advance.is)
-    ∙ sym (left-taken c.args.command c.args.state.now (none_of c.steps_before.result _ c.if-steps_before-gt0.false c.steps_before.ensures))
+    ap (λ n. Advance n 0) c.copy.ensures
+    ∙ left c.args.state.now c.args.command _ c.in-Advance.is (none_before (goal.at.returns-in-Advance-clause-left c).In-Advance)
 
 pub returns-in-Advance-clause-begun : goal.returns-in-Advance-clause-begun
 unfolding state_taking_up
 returns-in-Advance-clause-begun c =
-    c.add_pending.ensures.pending ∙ sym (ap (λ k. state_taking_up k c.args.state.now) c.in-Advance.is)
-    ∙ sym (begun-taken c.args.command c.args.state.now (none_of c.steps_before.result _ c.if-steps_before-gt0.false c.steps_before.ensures))
+    c.add_pending.ensures.pending
+    ∙ begun c.args.state.now c.args.command _ c.in-Advance.is (none_before (goal.at.returns-in-Advance-clause-begun c).In-Advance)
 
 pub returns-in-Advance-clause-alike : goal.returns-in-Advance-clause-alike
 returns-in-Advance-clause-alike c = λ mark.
     let old = c.args.state.now in
     ap (λ n. answer (user_of c.add_pending.new.self) (Advance n 0) mark) c.copy.ensures
     ∙ ap (λ (o : UserState). answer (user_of o) (Advance c.in-Advance.name 0) mark) c.add_pending.ensures.pending
-    ∙ taken_alike old c.in-Advance.name c.in-Advance.steps (goes_of c.args.state.now c.args.command c.in-Advance.name c.in-Advance.steps c.requires.waits
-    (none_of c.steps_before.result _ c.if-steps_before-gt0.false c.steps_before.ensures) c.in-Advance.is) mark
+    ∙ taken_alike old c.in-Advance.name c.in-Advance.steps (going (goal.at.returns-in-Advance-clause-alike c).In-Advance) mark
     ∙ ap (λ k. answer (user_of old) k mark) (sym c.in-Advance.is)
 
 pub returns-in-Advance-clause-at_work : goal.returns-in-Advance-clause-at_work
@@ -91,12 +105,11 @@ returns-in-Advance-clause-at_work c =
 pub returns-in-Advance-clause-turns : goal.returns-in-Advance-clause-turns
 returns-in-Advance-clause-turns c =
     let old = c.args.state.now in
-    let none = none_of c.steps_before.result _ c.if-steps_before-gt0.false c.steps_before.ensures in
-    let pending = none-pending old c.args.command c.in-Advance.name c.in-Advance.steps c.in-Advance.is none in
+    let at = (goal.at.returns-in-Advance-clause-turns c).In-Advance in
     ap (λ n. turns_before c.add_pending.new.self (Advance n 0)) c.copy.ensures
     ∙ ap (λ (o : UserState). turns_before o (Advance c.in-Advance.name 0)) c.add_pending.ensures.pending
-    ∙ taken_turns old c.in-Advance.name c.in-Advance.steps (goes_of old c.args.command c.in-Advance.name c.in-Advance.steps
-    c.requires.waits none c.in-Advance.is) pending
+    ∙ taken_turns old c.in-Advance.name c.in-Advance.steps (going at)
+    (none-pending old c.args.command c.in-Advance.name c.in-Advance.steps c.in-Advance.is (none_before at))
     ∙ ap (turns_before old) (sym c.in-Advance.is)
 
 pub returns-in-Advance-clause-others : goal.returns-in-Advance-clause-others
@@ -115,23 +128,26 @@ none-measured : (state : UserState) (command : Command) (name : List ℕ) → co
 unfolding waits_for
 none-measured state command name is none = rw is at none
 
+measured : (c : In-Measure) → (session : LiveSession) × (live_session c.args.state.now c.in-Measure.name ≡ Some session)
+measured c = measured_of c.args.state.now c.args.command c.in-Measure.name c.requires.waits
+    (none_of c.steps_before.result _ c.if-steps_before-gt0.false c.steps_before.ensures) c.in-Measure.is
+
 pub returns-in-Measure-clause-left : goal.returns-in-Measure-clause-left
 unfolding rest_of
 returns-in-Measure-clause-left c =
-    ap Measure c.copy-in-Measure.ensures ∙ sym (ap rest_of c.in-Measure.is)
-    ∙ sym (left-taken c.args.command c.args.state.now (none_of c.steps_before.result _ c.if-steps_before-gt0.false c.steps_before.ensures))
+    ap Measure c.copy-in-Measure.ensures ∙ left c.args.state.now c.args.command _ c.in-Measure.is
+    (none_of c.steps_before.result _ c.if-steps_before-gt0.false c.steps_before.ensures)
 
 pub returns-in-Measure-clause-begun : goal.returns-in-Measure-clause-begun
 unfolding state_taking_up
 returns-in-Measure-clause-begun c =
-    c.open_step.ensures.opened ∙ sym (ap (λ k. state_taking_up k c.args.state.now) c.in-Measure.is)
-    ∙ sym (begun-taken c.args.command c.args.state.now (none_of c.steps_before.result _ c.if-steps_before-gt0.false c.steps_before.ensures))
+    c.open_step.ensures.opened ∙ begun c.args.state.now c.args.command _ c.in-Measure.is
+    (none_of c.steps_before.result _ c.if-steps_before-gt0.false c.steps_before.ensures)
 
 pub returns-in-Measure-clause-at_work : goal.returns-in-Measure-clause-at_work
 returns-in-Measure-clause-at_work c =
     let old = c.args.state.now in
-    let session = measured_of old c.args.command c.in-Measure.name c.requires.waits
-    (none_of c.steps_before.result _ c.if-steps_before-gt0.false c.steps_before.ensures) c.in-Measure.is in
+    let session = measured (goal.at.returns-in-Measure-clause-at_work c).In-Measure in
     let none = none_of c.steps_before.result _ c.if-steps_before-gt0.false c.steps_before.ensures in
     subst (λ n. IsAtWork (Some (Measure n)) c.open_step.new.self) (sym c.copy-in-Measure.ensures)
     (subst (λ (o : UserState). IsAtWork (Some (Measure c.in-Measure.name)) o) (sym c.open_step.ensures.opened)
@@ -142,8 +158,7 @@ returns-in-Measure-clause-at_work c =
 pub returns-in-Measure-clause-turns : goal.returns-in-Measure-clause-turns
 returns-in-Measure-clause-turns c =
     let old = c.args.state.now in
-    let session = measured_of old c.args.command c.in-Measure.name c.requires.waits
-    (none_of c.steps_before.result _ c.if-steps_before-gt0.false c.steps_before.ensures) c.in-Measure.is in
+    let session = measured (goal.at.returns-in-Measure-clause-turns c).In-Measure in
     ap (λ n. turns_before c.open_step.new.self (Measure n)) c.copy-in-Measure.ensures
     ∙ ap (λ (o : UserState). turns_before o (Measure c.in-Measure.name)) c.open_step.ensures.opened
     ∙ measured_turns old c.in-Measure.name session.0 session.1 ∙ ap (turns_before old) (sym c.in-Measure.is)
@@ -167,20 +182,5 @@ nothing c = default-turns c.args.state.now c.args.command c.requires.waits
     (none_of c.steps_before.result _ c.if-steps_before-gt0.false c.steps_before.ensures)
     c.in_default.not-Advance c.in_default.not-Measure
 
-pub returns-in_default-clause-left : goal.returns-in_default-clause-left
-returns-in_default-clause-left c = absurd (nothing (goal.at.returns-in_default-clause-left c).In_default)
-
-pub returns-in_default-clause-begun : goal.returns-in_default-clause-begun
-returns-in_default-clause-begun c = absurd (nothing (goal.at.returns-in_default-clause-begun c).In_default)
-
-pub returns-in_default-clause-alike : goal.returns-in_default-clause-alike
-returns-in_default-clause-alike c = absurd (nothing (goal.at.returns-in_default-clause-alike c).In_default)
-
-pub returns-in_default-clause-at_work : goal.returns-in_default-clause-at_work
-returns-in_default-clause-at_work c = absurd (nothing (goal.at.returns-in_default-clause-at_work c).In_default)
-
-pub returns-in_default-clause-turns : goal.returns-in_default-clause-turns
-returns-in_default-clause-turns c = absurd (nothing (goal.at.returns-in_default-clause-turns c).In_default)
-
-pub returns-in_default-clause-others : goal.returns-in_default-clause-others
-returns-in_default-clause-others c = absurd (nothing (goal.at.returns-in_default-clause-others c).In_default)
+pub returns-in_default : goal.returns-in_default
+returns-in_default c = absurd (nothing (goal.at.returns-in_default c).In_default)

@@ -4,6 +4,7 @@ use Rattle.std.specs.Prelude.{IfSome}
 use Rattle.lj_session.specs.declared.command.Command.{Command}
 use Rattle.lj_session.specs.KeptOwners.{owner_of_kept}
 use Rattle.lj_session.specs.Owner.{Owner, IsLastTurn, IsReplied, is_waited_for, state_turned}
+use Rattle.lj_session.specs.OwnerCalls.{KeptByTurn}
 use Rattle.lj_session.specs.UserState.{UserState, IsAtWork, IsIdleIn, OtherSessionsKept, is_whole_in, live_session, pending_in, with_step_finished, turns_before, user_of}
 use Rattle.lj_session.proofs.Others.{others-changed, settled-measured, measured-unrefused, on_refusal}
 use Rattle.lj_session.proofs.Passing.{forces, others-closed, rests-closed}
@@ -139,15 +140,18 @@ invariant_of-self-2 c =
           (sym c.take.ensures.after) tt;
     }
 
--- the other sessions stay
-others : (c : After-begin) → is_waited_for c.self.inside.waiting c.args.name.now ≡ true
+-- the other sessions stay, and so do the number of the user and the quota
+kept : (c : After-begin) → is_waited_for c.self.inside.waiting c.args.name.now ≡ true
     → is_whole_in c.self.inside.state c.args.name.now ≡ true
-    → OtherSessionsKept c.args.name.now c.args.self.now.state c.begin.new.self.state
-others c waited whole =
-    subst (λ (owner : Owner). OtherSessionsKept c.args.name.now owner.state c.begin.new.self.state) c.self.view_is
-    (passed-others (owner_of_kept c.self.inside) c.args.name.now c.in_ok-command.command c.in_ok-command.ensures.value
-    waited c.self.invariant.at_work whole (some_of _ _ c.if-pending-eq0.false c.pending.ensures)
-    c.finish_step-2.new.self c.finish_step-2.ensures.passed c.begin.new.self.state c.begin.ensures.kept.others)
+    → KeptByTurn c.args.name.now c.args.self.now c.begin.new.self
+kept c waited whole = record {
+  others = subst (λ (owner : Owner). OtherSessionsKept c.args.name.now owner.state c.begin.new.self.state) c.self.view_is
+      (passed-others (owner_of_kept c.self.inside) c.args.name.now c.in_ok-command.command c.in_ok-command.ensures.value
+      waited c.self.invariant.at_work whole (some_of _ _ c.if-pending-eq0.false c.pending.ensures)
+      c.finish_step-2.new.self c.finish_step-2.ensures.passed c.begin.new.self.state c.begin.ensures.kept.others);
+  number = search rules;
+  quota = search rules;
+}
 
 pub returns-in-Answered-clause-last : goal.returns-in-Answered-clause-last
 returns-in-Answered-clause-last c =
@@ -177,11 +181,8 @@ returns-in-Answered-clause-answered c =
 
 pub returns-in-Answered-clause-kept : goal.returns-in-Answered-clause-kept
 returns-in-Answered-clause-kept c =
-    let p = goal.at.returns-in-Answered-clause-kept c in record {
-      others = others p.After-begin (waited_for p.After-pending) (whole_for p.After-pending);
-      number = search rules;
-      quota = search rules;
-    }
+    let p = goal.at.returns-in-Answered-clause-kept c in
+    kept p.After-begin (waited_for p.After-pending) (whole_for p.After-pending)
 
 pub returns-in-Running-clause-last : goal.returns-in-Running-clause-last
 returns-in-Running-clause-last c =
@@ -196,8 +197,5 @@ returns-in-Running-clause-last c =
 
 pub returns-in-Running-clause-kept : goal.returns-in-Running-clause-kept
 returns-in-Running-clause-kept c =
-    let p = goal.at.returns-in-Running-clause-kept c in record {
-      others = others p.After-begin (waited_for p.After-pending) (whole_for p.After-pending);
-      number = search rules;
-      quota = search rules;
-    }
+    let p = goal.at.returns-in-Running-clause-kept c in
+    kept p.After-begin (waited_for p.After-pending) (whole_for p.After-pending)
