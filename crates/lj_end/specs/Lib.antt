@@ -1,5 +1,5 @@
 pub mod Seen
-pub mod Ends
+pub mod LinkedEnds
 pub mod RefusedPosts
 pub mod InlinePool
 pub mod Accounts

@@ -2,9 +2,9 @@
 #![tactic(auto)]
 
 mod account;
-mod end;
 mod gate;
 mod inline;
+mod linked_end;
 mod locking;
 mod pool;
 mod share;
@@ -12,9 +12,9 @@ mod task_list;
 mod waking;
 
 pub use account::Account;
-pub use end::{End, Finish, PoolLink};
 pub use gate::Gate;
 pub use inline::InlinePool;
+pub use linked_end::{Finish, LinkedEnd, PoolLink};
 pub use locking::lock_soon;
 pub use pool::{
     MAX_AHEAD, MAX_ENDS, MAX_OWED, MAX_POSTS, MAX_STRAYS, NotPosted, Pool, PoolEnd, Refused,

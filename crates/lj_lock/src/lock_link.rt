@@ -5,7 +5,7 @@ ghost use Rattle.lj_lock.specs.LockLinks.{ArePushed, IsPushed, IsTaken, IsUnpush
 use crate::end_boxes::EndBoxes;
 use crate::lock_pool::LockPool;
 use crate::pool_state::LockClosed;
-use lj_end::{End, Finish, NotPosted, PoolLink, TaskList};
+use lj_end::{Finish, LinkedEnd, NotPosted, PoolLink, TaskList};
 use lj_task::{DoneRef, TaskRef};
 use std::marker::Model;
 use std::sync::Wait;
@@ -13,7 +13,7 @@ use std::sync::ledger::Ledger;
 
 /// An end of a pool behind a lock. One for a single user hands out results of this user alone, whatever number it is given. With
 /// `finish`, and where it is dropped, its boxes go back to the pool, and all tasks and results of its single user leave it.
-pub type LockEnd<'p, L, R> = End<LockLink<'p, L, R>, LockClosed>;
+pub type LockEnd<'p, L, R> = LinkedEnd<LockLink<'p, L, R>, LockClosed>;
 
 /// The boxes of an end, with its pool, and its user if it is for one alone. Where it is dropped, the boxes go back to the pool, and
 /// what the pool has of that user is withdrawn.
@@ -119,7 +119,7 @@ impl<'p, L: Ledger, R: Wait> PoolLink<LockClosed> for LockLink<'p, L, R> {
 }
 
 impl<'p, L: Ledger, R: Wait> Finish for LockLink<'p, L, R> {
-    type Left = ();
+    type Remains = ();
 
     ghost leaves = { λ _ _. ⊤ };
 

@@ -5,7 +5,7 @@ ghost use Rattle.std.specs.Option.{ForSome};
 ghost use Rattle.lj_lock.specs.EndBoxes.{IsNext, SameResults, TakesInHand};
 ghost use Rattle.lj_lock.specs.Copies.{AreCopies, HandsOver};
 ghost use Rattle.lj_end.specs.RefusedPosts.{IsPoolClosed};
-ghost use Rattle.lj_end.specs.Ends.{end_over};
+ghost use Rattle.lj_end.specs.LinkedEnds.{end_over};
 ghost use Rattle.lj_lock.specs.LockLinks.{link_without_boxes};
 ghost use Rattle.lj_task.specs.Blank.{blank_task};
 
@@ -14,7 +14,7 @@ use crate::lock_link::{LockEnd, LockLink};
 use crate::pool_state::{LockClosed, PoolState};
 use lj_book::{BoxBook, Counts, LentDone, LentTask, MAX_ENTRIES, TaskBox};
 use lj_end::{
-    End, LOOKS, MAX_ENDS, NotPosted, Share, TASKS_AT_ONCE, TaskList, WAIT_QUEUES, lock_soon,
+    LOOKS, LinkedEnd, MAX_ENDS, NotPosted, Share, TASKS_AT_ONCE, TaskList, WAIT_QUEUES, lock_soon,
     shares_of, wait_queue_of, wake,
 };
 use lj_task::{Done, TaskRef};
@@ -80,7 +80,7 @@ impl<L: Ledger> LockPool<L> {
     pub fn end<'p, R: Wait>(&'p self, rt: &'p R) -> LockEnd<'p, L, R>
         ensures { result ≡ end_over (link_without_boxes None) }
     {
-        End::new(LockLink::new(rt, self, None))
+        LinkedEnd::new(LockLink::new(rt, self, None))
     }
 
     /// Makes an end of the pool, to which nothing is owed, for tasks of one user. Once it is finished or dropped, the pool has no
@@ -88,7 +88,7 @@ impl<L: Ledger> LockPool<L> {
     pub fn end_of<'p, R: Wait>(&'p self, rt: &'p R, user: u8) -> LockEnd<'p, L, R>
         ensures { result ≡ end_over (link_without_boxes (Some user)) }
     {
-        End::new(LockLink::new(rt, self, Some(user)))
+        LinkedEnd::new(LockLink::new(rt, self, Some(user)))
     }
 
     /// Closes the pool: from now on no task is posted or taken and no result fetched.

@@ -107,7 +107,7 @@ pub record HasPushedNothing (old new : QueueLink) : Type 0 where
 
 -- The next result of its user was taken, the first in hand if there was one. The box of the result before it is one for tasks, unless
 -- there are enough.
-pub record IsTaken (old new : QueueLink) : Type 0 where
+pub record HasTaken (old new : QueueLink) : Type 0 where
   pub pass : new.pass ≡ old.pass
   pub same_link : IsSameLink old new
   pub whose : new.last.name.label.user ≡ old.user
@@ -116,7 +116,7 @@ pub record IsTaken (old new : QueueLink) : Type 0 where
   pub boxes : old.boxes ≤ new.boxes
 
 -- No result was taken, and no box has gone.
-pub record IsUntaken (old new : QueueLink) : Type 0 where
+pub record HasTakenNothing (old new : QueueLink) : Type 0 where
   pub pass : new.pass ≡ old.pass
   pub same_link : IsSameLink old new
   pub boxes : old.boxes ≤ new.boxes

@@ -1,7 +1,7 @@
 //! What an end of a pool with a queue has of the pool.
 ghost use Rattle.std.specs.Prelude.{◌≡◌, ◌+◌, ◌<◌, ◌≤◌, ◌↔◌, [], ◌∷◌, true, false, length, IfErr, IfNone, IsTrue, OnErr, OnOk, OnSome};
 ghost use Rattle.lj_queue.specs.NoRoom.{IsCauseOf, SaysClosed};
-ghost use Rattle.lj_queue.specs.PoolPass.{HasPushed, HasPushedNothing, IsSameLink, IsTaken, IsUntaken};
+ghost use Rattle.lj_queue.specs.PoolPass.{HasPushed, HasPushedNothing, HasTaken, HasTakenNothing, IsSameLink};
 
 use crate::free_passes::FreePasses;
 use crate::kept_boxes::MAX_SPARE_BOXES;
@@ -11,7 +11,7 @@ use crate::pass::{PassBoxes, PoolIdentity, PoolPass};
 use crate::poster::Poster;
 use crate::queue_pool::QueuePool;
 use lj_book::TaskBox;
-use lj_end::{End, Finish, NotPosted, PoolLink, TASKS_AT_ONCE, TaskList, UnsignalledPosts};
+use lj_end::{Finish, LinkedEnd, NotPosted, PoolLink, TASKS_AT_ONCE, TaskList, UnsignalledPosts};
 use lj_task::{DoneRef, SharedFrame, TaskRef};
 use std::marker::Model;
 use std::mem;
@@ -20,7 +20,7 @@ use std::sync::Wait;
 /// An end of a pool for one user, with a pass. It hands out results of its user's tasks alone; the result of another user's task
 /// that it posted is dropped. `finish` returns its pass. Where one with a free pass is dropped, the pass is free again, and its
 /// user's results leave the pool.
-pub type QueueEnd<'p, L, R> = End<QueueLink<'p, L, R>, QueueClosed>;
+pub type QueueEnd<'p, L, R> = LinkedEnd<QueueLink<'p, L, R>, QueueClosed>;
 
 /// The pass of an end, with its pool, its number, its user and its boxes. Where it is dropped and its pass was a free one, the pass is
 /// free again, and the results of its user leave the pool.
@@ -134,9 +134,9 @@ impl<'p, L: PoolIdentity, R: Wait> PoolLink<QueueClosed> for QueueLink<'p, L, R>
 
     ghost some_pushed = { λ _. IsSameLink };
 
-    ghost taken = { λ _. IsTaken };
+    ghost taken = { λ _. HasTaken };
 
-    ghost none_taken = { IsUntaken };
+    ghost none_taken = { HasTakenNothing };
 
     fn push(&mut self, task: &TaskRef<'_>, wait: bool) -> Result<(), NotPosted<QueueClosed>> {
         let posted = self.post(task, wait).map_err(NotPosted::from);
@@ -180,7 +180,7 @@ impl<'p, L: PoolIdentity, R: Wait> PoolLink<QueueClosed> for QueueLink<'p, L, R>
 }
 
 impl<'p, L: PoolIdentity, R: Wait> Finish for QueueLink<'p, L, R> {
-    type Left = PoolPass<L>;
+    type Remains = PoolPass<L>;
 
     ghost leaves = { λ link pass. pass ≡ link.pass };
 

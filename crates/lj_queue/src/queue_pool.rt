@@ -1,7 +1,7 @@
 //! A pool whose open tasks lie in a queue that no lock guards, and whose results lie under a lock.
 ghost use Rattle.std.specs.Prelude.{◌≡◌, ◌+◌, ◌≤◌, ◌<◌, [], None, Some, true, false, length, vec_len, IfErr, IfNone, IfOk, IfSome, IsSomeAnd, OnErr, OnOk};
 ghost use Rattle.std.specs.List.{All};
-ghost use Rattle.lj_end.specs.Ends.{end_over};
+ghost use Rattle.lj_end.specs.LinkedEnds.{end_over};
 ghost use Rattle.lj_queue.specs.NoRoom.{IsCause, IsCauseOf, SaysClosed, boxes_in};
 ghost use Rattle.lj_queue.specs.ResultList.{FetchesResults, empty_list};
 ghost use Rattle.lj_queue.specs.PoolPass.{AreUntouched, IsRootPass, with_post, with_push, with_pop};
@@ -19,8 +19,8 @@ use crate::rule::{OpenTasks, TaskPass};
 use crate::spares::Spares;
 use lj_book::{DoneBox, MAX_ENTRIES, TaskBox};
 use lj_end::{
-    End, IdleWorkers, LOOKS, MAX_ENDS, Share, WAIT_QUEUES, lock_soon, shares_of, wait_queue_of,
-    wake,
+    IdleWorkers, LOOKS, LinkedEnd, MAX_ENDS, Share, WAIT_QUEUES, lock_soon, shares_of,
+    wait_queue_of, wake,
 };
 use lj_task::TaskRef;
 use std::alloc::{AllocError, Global};
@@ -159,7 +159,7 @@ impl<L: PoolIdentity> QueuePool<L> {
         ensures empty_handed { result.link.hand ≡ [] }
     {
         let number = self.enter(rt, user);
-        End::new(QueueLink::new(rt, self, None, pass, number, user))
+        LinkedEnd::new(QueueLink::new(rt, self, None, pass, number, user))
     }
 
     /// Makes an end of the pool as `end` does, with a free pass, and waits until one is free. Once it is dropped, the pool has no
@@ -176,7 +176,7 @@ impl<L: PoolIdentity> QueuePool<L> {
     {
         let pass = free.take(rt);
         let number = self.enter(rt, user);
-        End::new(QueueLink::new(rt, self, Some(free), pass, number, user))
+        LinkedEnd::new(QueueLink::new(rt, self, Some(free), pass, number, user))
     }
 
     /// Gives the user's next end a number. After 2^64 - 1 ends it closes the pool, and the number is 0.

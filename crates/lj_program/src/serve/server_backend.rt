@@ -82,9 +82,17 @@ pub fn visit_over<'s, P: PoolEnds<'s, R>, R: Wait + Clock + Log, S: Source, W: S
 ) -> Visited
     requires fresh { lines.old.items ≡ 0 }
     requires at_work { lines.old.phase ≡ Open }
-    ensures { IsVisit result lines.old lines.new
-        (record { contents = W.contents writer.old; faults = W.faults writer.old; unflushed = W.unflushed writer.old })
-        (record { contents = W.contents writer.new; faults = W.faults writer.new; unflushed = W.unflushed writer.new }) None None }
+    ensures { IsVisit result
+        (record {
+          lines = lines.old;
+          writer = record { contents = W.contents writer.old; faults = W.faults writer.old; unflushed = W.unflushed writer.old };
+          events = None;
+        })
+        (record {
+          lines = lines.new;
+          writer = record { contents = W.contents writer.new; faults = W.faults writer.new; unflushed = W.unflushed writer.new };
+          events = None;
+        }) }
 {
     let mut backend = ServerBackend { visitor, pool };
     visit(&mut backend, lines, writer)

@@ -1,7 +1,7 @@
 //! One connection's end of a pool.
 ghost use Rattle.std.specs.Prelude.{◌≡◌, ◌+◌, ◌<◌, ◌≤◌, ◌↔◌, ℕ, false, length, true, IfErr, OnErr, OnOk};
 ghost use Rattle.lj_end.specs.Accounts.{IsKnownByName};
-ghost use Rattle.lj_end.specs.Ends.{end_over};
+ghost use Rattle.lj_end.specs.LinkedEnds.{end_over};
 ghost use Rattle.lj_end.specs.RefusedPosts.{IsPoolClosed};
 ghost use Rattle.lj_task.specs.Task.{Task};
 
@@ -73,13 +73,13 @@ pub trait PoolLink<C>: Drop {
 /// A link of which something is left once its end is finished.
 pub trait Finish {
     /// What is left.
-    type Left;
+    type Remains;
 
     // this is left of it
-    ghost leaves: { Self → Self.Left → Type 0 };
+    ghost leaves: { Self → Self.Remains → Type 0 };
 
     /// Takes it apart.
-    fn finish(self) -> Self::Left
+    fn finish(self) -> Self::Remains
         ensures { leaves self result };
 }
 
@@ -87,27 +87,27 @@ pub trait Finish {
 ///
 /// Promise: it is a `PoolEnd`, for every number of workers, so what is served over it is the same dialogue.
 #[derive(Drop)]
-pub struct End<X, C> {
+pub struct LinkedEnd<X, C> {
     link: X,
     account: Account<C>,
     /// Whether the result that is shown was taken, and is not counted yet.
     is_uncounted: bool,
 }
 
-impl<X, C> Model for End<X, C> {
-    ghost use Rattle.lj_end.specs.Ends.{End};
+impl<X, C> Model for LinkedEnd<X, C> {
+    ghost use Rattle.lj_end.specs.LinkedEnds.{LinkedEnd};
 
-    ghost Value = { End X };
+    ghost Value = { LinkedEnd X };
 
     ghost view = { λ end. record { link = end.link; seen = end.account; uncounted = end.is_uncounted } };
 }
 
-impl<C: Copy + Drop, X: PoolLink<C>> End<X, C> {
+impl<C: Copy + Drop, X: PoolLink<C>> LinkedEnd<X, C> {
     /// Returns an end to which nothing is owed.
-    pub fn new(link: X) -> End<X, C>
+    pub fn new(link: X) -> LinkedEnd<X, C>
         ensures { result ≡ end_over link }
     {
-        End {
+        LinkedEnd {
             link,
             account: Account::new(),
             is_uncounted: false,
@@ -115,12 +115,12 @@ impl<C: Copy + Drop, X: PoolLink<C>> End<X, C> {
     }
 }
 
-impl<C: Drop, X: Finish> End<X, C> {
+impl<C: Drop, X: Finish> LinkedEnd<X, C> {
     /// Finishes the end, and returns what is left of its link. Results that were owed to it may still come.
-    pub fn finish(self) -> X::Left
+    pub fn finish(self) -> X::Remains
         ensures { X.leaves self.link result }
     {
-        let End {
+        let LinkedEnd {
             link,
             account: _account,
             is_uncounted: _is_uncounted,
@@ -129,7 +129,7 @@ impl<C: Drop, X: Finish> End<X, C> {
     }
 }
 
-impl<C: Copy + Send + Drop, X: PoolLink<C>> PoolEnd for End<X, C> {
+impl<C: Copy + Send + Drop, X: PoolLink<C>> PoolEnd for LinkedEnd<X, C> {
     type Closed = C;
 
     ghost use Rattle.lj_end.specs.declared.pool.TheConstants.{MAX_OWED};

@@ -1,8 +1,8 @@
 use Rattle.std.proofs.Common.{ap, sym, ◌∙◌, subst}
 use Rattle.lj_end.specs.Accounts.{IsKnownByName}
-use Rattle.lj_end.specs.Ends.{End}
+use Rattle.lj_end.specs.LinkedEnds.{LinkedEnd}
 use Rattle.lj_end.specs.Seen.{Seen}
-use Rattle.lj_end.proofs.end.EndPoolEnd.count.Goals as goal
+use Rattle.lj_end.proofs.linked_end.LinkedEndPoolEnd.count.Goals as goal
 
 pub count-requires : goal.count-requires
 count-requires g c by_name =
