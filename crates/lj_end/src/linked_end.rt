@@ -1,8 +1,9 @@
 //! One connection's end of a pool.
-ghost use Rattle.std.specs.Prelude.{◌≡◌, ◌+◌, ◌<◌, ◌≤◌, ◌↔◌, ℕ, false, length, true, IfErr, OnErr, OnOk};
+ghost use Rattle.std.specs.Prelude.{◌≡◌, ◌+◌, ◌<◌, ◌≤◌, ◌↔◌, ℕ, false, length, take, true, IfErr, OnErr, OnOk};
 ghost use Rattle.lj_end.specs.Accounts.{IsKnownByName};
 ghost use Rattle.lj_end.specs.LinkedEnds.{end_over};
 ghost use Rattle.lj_end.specs.RefusedPosts.{IsPoolClosed};
+ghost use Rattle.lj_end.specs.Seen.{ArePosted, IsHandedOut, IsPosted, SameOwed, StaysClosed};
 ghost use Rattle.lj_task.specs.Task.{Task};
 
 use crate::account::Account;
@@ -149,6 +150,12 @@ impl<C: Copy + Send + Drop, X: PoolLink<C>> PoolEnd for LinkedEnd<X, C> {
         ensures pushed { OnOk result (X.pushed task.now self.old.link self.new.link) }
         ensures none { OnErr result (X.none_pushed self.old.link self.new.link) }
         ensures shown { X.shown self.new.link ≡ X.shown self.old.link }
+        ensures kept { self.new.uncounted ≡ self.old.uncounted }
+        ensures posted { OnOk result (IsPosted task.now self.old.seen self.new.seen) }
+        ensures unchanged { OnErr result (SameOwed self.old.seen self.new.seen) }
+        ensures full { wait ≡ true → IfErr result IsPoolClosed }
+        ensures closed { IfErr result (λ why. IsPoolClosed why → self.new.seen.closed ≡ true) }
+        ensures stays_closed { StaysClosed self.old.seen self.new.seen }
     {
         let posted = self.link.push(task, wait);
         self.account.note_post(task, posted);
@@ -159,6 +166,10 @@ impl<C: Copy + Send + Drop, X: PoolLink<C>> PoolEnd for LinkedEnd<X, C> {
         requires room { length self.old.seen.owed + length tasks.now ≤ MAX_OWED }
         ensures pushed { X.some_pushed result self.old.link self.new.link }
         ensures shown { X.shown self.new.link ≡ X.shown self.old.link }
+        ensures kept { self.new.uncounted ≡ self.old.uncounted }
+        ensures most { result ≤ length tasks.now }
+        ensures posted { ArePosted (take result tasks.now) self.old.seen self.new.seen }
+        ensures stays_closed { StaysClosed self.old.seen self.new.seen }
     {
         let posted = self.link.push_some(tasks);
         self.account.note_posts(tasks, posted);
@@ -175,6 +186,13 @@ impl<C: Copy + Send + Drop, X: PoolLink<C>> PoolEnd for LinkedEnd<X, C> {
         ensures taken { self.old.uncounted ≡ false → OnOk result (X.taken user self.old.link self.new.link) }
         ensures none { OnErr result (X.none_taken self.old.link self.new.link) }
         ensures same { self.old.uncounted ≡ true → self.new ≡ self.old }
+        ensures uncounted { OnOk result (self.new.uncounted ≡ true) }
+        ensures again { self.old.uncounted ≡ true → X.shown self.new.link ≡ X.shown self.old.link }
+        ensures as_before { OnErr result (self.new.uncounted ≡ self.old.uncounted) }
+        ensures last { OnErr result (X.shown self.new.link ≡ X.shown self.old.link) }
+        ensures unchanged { SameOwed self.old.seen self.new.seen }
+        ensures closed { OnErr result (self.new.seen.closed ≡ true) }
+        ensures stays_closed { StaysClosed self.old.seen self.new.seen }
     {
         if self.is_uncounted {
             return Ok(());
@@ -191,7 +209,13 @@ impl<C: Copy + Send + Drop, X: PoolLink<C>> PoolEnd for LinkedEnd<X, C> {
         ensures taken { self.old.uncounted ≡ false → result ≡ true → X.taken user self.old.link self.new.link }
         ensures none { result ≡ false → X.none_taken self.old.link self.new.link }
         ensures same { self.old.uncounted ≡ true → self.new ≡ self.old }
+        ensures uncounted { result ≡ true → self.new.uncounted ≡ true }
+        ensures as_before { result ≡ false → self.new.uncounted ≡ self.old.uncounted }
+        ensures again { self.old.uncounted ≡ true → X.shown self.new.link ≡ X.shown self.old.link }
+        ensures last { result ≡ false → X.shown self.new.link ≡ X.shown self.old.link }
         ensures seen { self.new.seen ≡ self.old.seen }
+        ensures unchanged { SameOwed self.old.seen self.new.seen }
+        ensures stays_closed { StaysClosed self.old.seen self.new.seen }
     {
         self.is_uncounted = self.is_uncounted || self.link.take_now(user);
         self.is_uncounted
@@ -200,7 +224,9 @@ impl<C: Copy + Send + Drop, X: PoolLink<C>> PoolEnd for LinkedEnd<X, C> {
     fn count(&mut self, by_name: bool)
         requires { by_name ≡ true → IsKnownByName self.old.seen.owed (X.shown self.old.link) }
         ensures link { self.new ≡ record self.old { seen = self.new.seen; uncounted = false } }
+        ensures handed_out { IsHandedOut (X.shown self.old.link) self.old.seen self.new.seen }
         ensures closed { self.new.seen.closed ≡ self.old.seen.closed }
+        ensures stays_closed { StaysClosed self.old.seen self.new.seen }
     {
         self.is_uncounted = false;
         self.account.count(self.link.shown().task(), by_name);
@@ -216,6 +242,9 @@ impl<C: Copy + Send + Drop, X: PoolLink<C>> PoolEnd for LinkedEnd<X, C> {
 
     fn room(&self) -> usize
         ensures all { length self.now.seen.owed + result ≡ MAX_OWED }
+        ensures none { result ≡ 0 ↔ (length self.now.seen.owed ≡ MAX_OWED) }
+        ensures owes { result ≡ 0 → 0 < length self.now.seen.owed }
+        ensures within { 0 < result → length self.now.seen.owed + result ≤ MAX_OWED }
     {
         self.account.room()
     }
