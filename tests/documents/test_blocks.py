@@ -240,7 +240,7 @@ def first_server(block: Any, folder: Any) -> None:
     hello, told = first_user(users)
     with begun(command.replace("${STATE_DIRECTORY}", str(folder.path / "kept")), folder) as connection:
         assert is_told(connection, f"{hello}LIST\n") == f"{told}OK LIST 0\n"
-    assert len([*(folder.path / "kept").glob("student*.journal")]) == 20
+    assert (folder.path / "kept" / "kept.sqlite").exists()
     assert (users.stat().st_mode & 0o777, len(re.findall(r"^student\d+ ", users.read_text(), re.M))) == (0o600, 20)
 
 

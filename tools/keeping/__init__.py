@@ -1,1 +1,1 @@
-"""A server that is kept: its users' commands stand in journals, and a server that ended is begun again with them."""
+"""A server that is kept: what its users do stands in a store, and a server that ended is begun again with it."""

@@ -6,17 +6,18 @@ import pathlib
 import signal
 import socket
 import time
-from typing import Dict, NamedTuple, Optional, Set
+from typing import Dict, List, NamedTuple, Optional, Set
 
 from keeping.accounts import Accounts, accounts_at, user_of
-from keeping.disk import Disk
 from keeping.ends import Client, Link
-from keeping.items import words_of
-from keeping.journal import Damaged, Journal
+from keeping.items import Told, words_of
+from keeping.journal import take_over_all
 from keeping.script import Otherwise, Script
 from keeping.server import Server, Words, begin, how_it_ended, version_of
 from keeping.status import Folder
+from keeping.store import Damaged, SqliteStore
 from keeping.user import User
+from keeping.writer import Writer
 from user_files import Fault
 from watching import Board, Connection
 
@@ -40,14 +41,15 @@ class Options(NamedTuple):
 
 
 class Front:
-    """Lets users in, each to its own journal and its own connection to the server."""
+    """Lets users in, each to its own records and its own connection to the server."""
 
     def __init__(self, options: Options, board: Board):
-        """Raises Fault if the users or the folder cannot be used."""
+        """Raises Fault if the users cannot be read, or StoreFault."""
         self.has_header = options.has_header
         self._options, self._board = options, board
         self._folder = options.folder
-        self._disk = Disk(options.sync, self.fail)
+        self._store = SqliteStore(options.folder.path, options.sync == "group")
+        self._writer = Writer(self._store, options.sync, self.fail)
         self._accounts: Accounts = {}
         self._users: Dict[str, User] = {}
         self._refused: Dict[str, str] = {}
@@ -66,29 +68,27 @@ class Front:
         self._accounts = accounts
         for user in [*self._users.values()]:
             self._give_up(user)
-        for name in [each for each in accounts if each not in self._users]:
+        for name in take_over_all(self._folder.path, self._store, self._refuse):
+            self._note("journal taken over", user=name)
+        for name in [each for each in accounts if each not in self._users and each not in self._refused]:
             self._open(name)
 
     def _give_up(self, user: User) -> None:
-        """Lets go of a user that is none any more, or was stopped."""
-        if user.name in self._accounts and (not user.stopped or user.is_busy()):
-            return
-        if not user.stopped:
+        """Lets go of a user that is none any more, or was stopped, unless something of it is being written."""
+        if user.name not in self._accounts and not user.stopped:
             user.stop("it is no user any more")
-        del self._users[user.name]
-        user.close()
+        if user.stopped and not user.is_busy():
+            del self._users[user.name]
 
     def _open(self, name: str) -> None:
-        """Reads the journal of a user. One that cannot be read stops that user alone."""
+        """Reads what is kept of a user. Where that is damaged it stops that user alone."""
         try:
-            journal = Journal(self._folder.path, name)
-            script = script_of(journal)
+            records = self._store.read(name)
+            script = script_of(records)
         except (Damaged, Otherwise) as error:
-            self._refuse(name, f"its journal is damaged: {error}")
-        except OSError as error:
-            self._refuse(name, f"its journal cannot be used: {error.strerror}")
+            self._refuse(name, f"what is kept is damaged: {error}")
         else:
-            self._users[name] = User(name, journal, script, self._disk, self._note, self._renew)
+            self._users[name] = User(name, script, len(records), self._writer, self._note, self._renew)
 
     def _refuse(self, name: str, why: str) -> None:
         self._refused[name] = why
@@ -126,7 +126,7 @@ class Front:
         loop.add_signal_handler(signal.SIGTERM, self._end)
         loop.add_signal_handler(signal.SIGINT, self._end)
         listening = await loop.create_server(lambda: Client(self), sock=self._options.listener, backlog=128)
-        tasks = [asyncio.create_task(work) for work in (self._own_servers(), self._disk.sync_on())]
+        tasks = [asyncio.create_task(work) for work in (self._own_servers(), self._writer.sync_on())]
         await self._is_ending.wait()
         listening.close()
         for task in tasks:
@@ -142,7 +142,8 @@ class Front:
             self._server = None
         for client in [*self._clients]:
             client.abort()
-        self._disk.close()
+        self._writer.close()
+        self._store.close()
         self._put_status()
 
     async def _own_servers(self) -> None:
@@ -224,9 +225,9 @@ class Front:
         self._known["end"] = "it was told to end"
         self._is_ending.set()
 
-    def fail(self, error: OSError) -> None:
+    def fail(self, why: str) -> None:
         """Ends all, since something cannot be written: nobody is told what is not kept."""
-        self._fail(f"cannot write a journal: {error.strerror}", 1)
+        self._fail(why, 1)
 
     def _fail(self, why: str, status: int) -> None:
         self._status = status
@@ -243,16 +244,15 @@ class Front:
         self._put_status()
 
     def _put_status(self) -> None:
-        users: Dict[str, Dict[str, object]] = {name: each.known() for name, each in self._users.items()}
-        users |= {name: {"state": "stopped", "why": why} for name, why in self._refused.items()}
+        users = {name: each.known() for name, each in self._users.items() if name in self._accounts}
+        users |= {name: {"state": "stopped", "why": why} for name, why in self._refused.items() if name in self._accounts}
         server = self._server.process.pid if self._server else None
         self._folder.put_status({**self._known, "server": server, "users": users})
 
 
-def script_of(journal: Journal) -> Script:
-    """What is left of the commands of a journal. Raises `Otherwise` if a reply does not follow from them."""
+def script_of(records: List[Told]) -> Script:
+    """What is left of some commands. Raises `Otherwise` if a reply does not follow from them."""
     script = Script()
-    for record in journal.records:
+    for record in records:
         script.take(record.item, words_of(record.item.partition(b"\n")[0]), record.reply)
-    journal.records.clear()
     return script

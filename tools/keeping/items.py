@@ -21,6 +21,13 @@ class Item(NamedTuple):
     last_reply: bytes = b""
 
 
+class Told(NamedTuple):
+    """An item that was answered, and its reply."""
+
+    item: bytes
+    reply: bytes
+
+
 def words_of(line: bytes) -> Words:
     """The words of a line without its line feed."""
     line = line[:-1] if line.endswith(b"\r") else line

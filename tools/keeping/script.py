@@ -16,7 +16,7 @@ from dataclasses import dataclass, field
 from itertools import chain
 from typing import Callable, Dict, Iterator, List, NamedTuple, Tuple, Type, Union
 
-from keeping.items import LOADS, Words
+from keeping.items import LOADS, Told, Words
 
 MAX_STEPS = 1_000_000
 RING, HALF = 2**32, 2**31
@@ -243,13 +243,6 @@ def entry_of(at: int, words: Words) -> Entry:
         return Tugs(at, {int(others[0]): (x, y, z)})
     kinds: Dict[bytes, Callable[[int, bytes], Entry]] = {b"BRANCH": Branch, b"RESTORE": Restore, b"FORGET": Forget}
     return kinds[verb](at, others[0])
-
-
-class Told(NamedTuple):
-    """An item that is told to a new server, and what it is to reply."""
-
-    item: bytes
-    reply: bytes
 
 
 class Script:

@@ -30,6 +30,10 @@ class Folder:
         if not is_taken(self._lock):
             raise Fault(f"{path} is in use")
 
+    def close(self) -> None:
+        """Lets another one use the folder."""
+        os.close(self._lock)
+
     def put(self, name: str, text: str) -> None:
         """Writes a file anew, whole or not at all. Raises OSError if it cannot be written."""
         path = self.path / f"{name}.new"
@@ -37,7 +41,7 @@ class Folder:
         path.replace(self.path / name)
 
     def put_status(self, known: Known) -> None:
-        """Writes the status. A disk that is full stops nothing here: what was told is in the journals."""
+        """Writes the status. A disk that is full stops nothing here: what was told is in the store."""
         with contextlib.suppress(OSError):
             self.put(STATUS, json.dumps(known) + "\n")
 
@@ -84,9 +88,4 @@ def lines_of(path: pathlib.Path, known: Known, runs: bool) -> Iterator[str]:
     users = known["users"]
     assert isinstance(users, dict)
     for name, each in users.items():
-        yield f"{name:<16} {each['state']}" + (f": {each['why']}" if each["why"] else f", {size_of(path / f'{name}.journal')} bytes")
-
-
-def size_of(journal: pathlib.Path) -> int:
-    """How many bytes a journal has now: the status is written when something happens to users or servers, and not with each."""
-    return journal.stat().st_size if journal.exists() else 0
+        yield f"{name:<16} {each['state']}" + (f": {each['why']}" if each["why"] else f", {each['records']} records")

@@ -1,19 +1,20 @@
 """One user: whose turn it is, which items are on their way, what was replied, and what is written before it is told.
 
-It does no reading and writing of its own, and knows ends (`ends`) and the disk by the methods that it calls.
+It does no reading and writing of its own, and knows ends (`ends`) and the writer by the methods that it calls.
 """
 from collections import deque
 from functools import partial
 from typing import Callable, Deque, Dict, Iterator, List, NamedTuple, Optional
 
-from keeping.disk import Disk
 from keeping.ends import Client, Link
-from keeping.items import Item
-from keeping.journal import Journal
-from keeping.script import KEPT, Otherwise, Script, Told, shown
+from keeping.items import Item, Told
+from keeping.script import KEPT, Otherwise, Script, shown
+from keeping.store import Change
+from keeping.writer import Writer
 
 MAX_SENT = 1000
 MAX_BYTES = 1 << 20
+LEAST_TO_REWRITE = 1000
 Note = Callable[..., None]
 
 
@@ -26,16 +27,16 @@ class Sent(NamedTuple):
 
 
 class User:
-    """A user, with its journal and what is left of its commands."""
+    """A user, with what is left of its commands, of which there are so many records."""
 
-    def __init__(self, name: str, journal: Journal, script: Script, disk: Disk, note: Note, renew: Callable[["User"], None]):
-        self.name, self.journal, self.script = name, journal, script
+    def __init__(self, name: str, script: Script, records: int, writer: Writer, note: Note, renew: Callable[["User"], None]):
+        self.name, self.script, self.records = name, script, records
         self.stopped = ""
         self.waiting: Deque[Client] = deque()
         self.client: Optional[Client] = None
         self.link: Optional[Link] = None
         self.is_ready = False
-        self._disk, self._note, self._renew = disk, note, renew
+        self._writer, self._note, self._renew = writer, note, renew
         self._replay: Optional[Iterator[Told]] = None
         self._again: Deque[Sent] = deque()
         self._sent: Deque[Sent] = deque()
@@ -43,7 +44,8 @@ class User:
         self._records: List[Told] = []
         self._held: List[bytes] = []
         self._bytes_held = 0
-        self._is_writing = self._is_closed = False
+        self._is_writing = False
+        self._look_at = LEAST_TO_REWRITE
 
     # What happens.
 
@@ -183,18 +185,23 @@ class User:
         records, held = self._records, self._held
         self._records, self._held = [], []
         self._is_writing = True
-        if not records:
+        if not records or self._writer.write(self._change(records), partial(self._is_written, held)):
             self._tell(held)
-        elif self.journal.is_to_rewrite(self.script.told):
-            self._disk.rewrite(self.journal, list(self.script.told()), partial(self._is_written, held))
-        elif self._disk.keep(self.journal, records, partial(self._is_written, held)):
-            self._tell(held)
+
+    def _change(self, records: List[Told]) -> Change:
+        """What is written: these records, or what is left of all, if that is less than half. It is looked at when they doubled."""
+        self.records += len(records)
+        if self.records >= self._look_at:
+            left = list(self.script.told())
+            self._look_at = max(LEAST_TO_REWRITE, 2 * len(left) + 1)
+            if 2 * len(left) < self.records:
+                self.records = len(left)
+                return Change(self.name, left, in_place=True)
+        return Change(self.name, records)
 
     def _is_written(self, held: List[bytes]) -> None:
         self._tell(held)
         self.go_on()
-        if self._is_closed:
-            self.journal.close()
 
     def _tell(self, held: List[bytes]) -> None:
         """Tells replies, before which all is written that they are about."""
@@ -244,14 +251,8 @@ class User:
     def known(self) -> Dict[str, object]:
         """What the status has of it."""
         state = "stopped" if self.stopped else "ready" if self.is_ready else "waits for its replay"
-        return {"state": state, "why": self.stopped or None}
+        return {"state": state, "why": self.stopped or None, "records": self.records}
 
     def is_busy(self) -> bool:
-        """Whether its journal is being written."""
+        """Whether something of it is being written."""
         return self._is_writing
-
-    def close(self) -> None:
-        """Closes the journal, as soon as it is written."""
-        self._is_closed = True
-        if not self._is_writing:
-            self.journal.close()

@@ -1,7 +1,8 @@
 """A server that is kept by `tools/keep`, for its tests: that of bench/keep, with the program of the tests."""
 import contextlib
+import sqlite3
 import sys
-from typing import Any
+from typing import Any, List
 
 from ljclient import connect
 from support import DIMER, PROGRAM, SECONDS, TOP
@@ -31,6 +32,16 @@ class Keeper(keeper.Keeper):
         """Why a user is not let in, when the status says so."""
         why: Any = until(lambda: self.known()["users"].get(name, {}).get("why"))
         return why
+
+    def kept(self, name: str) -> List[Any]:
+        """Number, item and reply of each record of a user."""
+        with contextlib.closing(sqlite3.connect(self.folder / "kept.sqlite")) as base:
+            return base.execute("select seq, item, reply from record where name = ? order by seq", (name,)).fetchall()
+
+    def change(self, words: str, *values: Any) -> None:
+        """Changes what is kept, as no program does it."""
+        with contextlib.closing(sqlite3.connect(self.folder / "kept.sqlite", isolation_level=None)) as base:
+            assert base.execute(words, values).rowcount > 0
 
     def everything(self) -> bytes:
         """The bytes of all files that it has written, and of what it has said."""

@@ -21,7 +21,7 @@ from test_watch import reset
 # Of the two atoms after two steps: docs/PROTOCOL.md, "A step in half a page".
 SHOW, SHOWN = b"SHOW a 0\n", b"OK SHOW a 2 0 1774 0 0\n"
 DENIED = b"ERR 01 DENIED\n"
-SYNCS = ("group", "second", "always")
+SYNCS = ("group", "second")
 
 
 def test_a_user_goes_on_when_the_server_was_killed(tmp_path: pathlib.Path) -> None:
@@ -34,15 +34,6 @@ def test_a_user_goes_on_when_the_server_was_killed(tmp_path: pathlib.Path) -> No
         status, text = keeper.status()
         assert status == 0 and "last end of the server: it was ended by signal 9" in text
         assert [each["why"] for each in keeper.events("server ended")] == ["it was ended by signal 9"]
-
-
-def test_the_status_tells_how_long_journals_are_now(tmp_path: pathlib.Path) -> None:
-    with Keeper(tmp_path) as keeper:
-        until(keeper.is_ready)
-        with keeper.connected() as user:
-            dimer(user).advance(2)
-            size = (keeper.folder / "ann.journal").stat().st_size
-            assert size > 100 and f"ann              ready, {size} bytes\n" in keeper.status()[1]
 
 
 @pytest.mark.parametrize("sync", SYNCS)
@@ -75,27 +66,31 @@ def test_what_is_in_flight_is_done_once(tmp_path: pathlib.Path) -> None:
         ]  # fmt: skip
 
 
-# A front whose fdatasync notes its calls, and waits for a file.
+def patched(words: Any) -> List[Any]:
+    """The tool after some words of Python."""
+    run = f"import runpy, sys; sys.path.insert(0, {str(TOP / 'tools')!r})\n{words}\n"
+    return [sys.executable, "-c", f"{run}runpy.run_path({str(TOP / 'tools' / 'keep')!r}, None, '__main__')"]
+
+
+# A front whose store waits for a file when it writes, and one that waits for it when it has written things on the disk.
 WAITING = """
-import os, pathlib, runpy, sys, time
-go, calls, keep = map(pathlib.Path, sys.argv[1:4])
-def wait(descriptor):
-    with calls.open("a") as file:
-        file.write("called\\n")
-    while not go.exists():
+import os, pathlib, time, keeping.store
+def wait(*words, write=keeping.store.SqliteStore.{function}):
+    pathlib.Path({noted!r}).touch()
+    while not os.path.exists({go!r}):
         time.sleep(0.01)
-os.fdatasync = wait
-sys.path.insert(0, str(keep.parent))
-sys.argv[:4] = [str(keep)]
-runpy.run_path(str(keep), None, "__main__")
+    return write(*words)
+keeping.store.SqliteStore.{function} = wait
 """
 
 
-@pytest.mark.parametrize("sync, calls", [("group", 1), ("always", 3)])
-def test_what_is_told_is_on_the_disk(tmp_path: pathlib.Path, sync: Any, calls: Any) -> None:
-    go, noted = tmp_path / "go", tmp_path / "calls"
-    tool = [sys.executable, "-c", WAITING, str(go), str(noted), str(TOP / "tools" / "keep")]
-    with Keeper(tmp_path, "--sync", sync, tool=tool) as keeper, keeper.raw("ann") as stream:
+def waiting(folder: Any, function: str) -> List[Any]:
+    return patched(WAITING.format(function=function, noted=str(folder / "noted"), go=str(folder / "go")))
+
+
+def test_what_is_told_is_written_in_one_transaction_before(tmp_path: pathlib.Path) -> None:
+    go, noted = tmp_path / "go", tmp_path / "noted"
+    with Keeper(tmp_path, tool=waiting(tmp_path, "write")) as keeper, keeper.raw("ann") as stream:
         stream.sendall(b"LIST\n")
         assert (first_line(stream), first_line(stream)) == (HELLO, b"OK LIST 0\n")
         stream.sendall(LOAD + b"REVERSE a\nREVERSE a\nLIST a\n")
@@ -106,20 +101,25 @@ def test_what_is_told_is_on_the_disk(tmp_path: pathlib.Path, sync: Any, calls: A
         stream.settimeout(SECONDS)
         go.touch()
         assert [first_line(stream) for _ in range(4)] == [LOADED, b"OK REVERSE a -1\n", b"OK REVERSE a 0\n", b"OK LIST a 0\n"]
-        assert noted.read_text() == "called\n" * calls
 
 
 def test_what_is_told_is_written_where_it_is_on_the_disk_within_a_second(tmp_path: pathlib.Path) -> None:
-    go, noted = tmp_path / "go", tmp_path / "calls"
-    tool = [sys.executable, "-c", WAITING, str(go), str(noted), str(TOP / "tools" / "keep")]
-    with Keeper(tmp_path, "--sync", "second", tool=tool) as keeper, keeper.raw("ann") as stream:
+    go, noted = tmp_path / "go", tmp_path / "noted"
+    with Keeper(tmp_path, "--sync", "second", tool=waiting(tmp_path, "sync")) as keeper, keeper.raw("ann") as stream:
         stream.sendall(LOAD)
         assert (first_line(stream), first_line(stream)) == (HELLO, LOADED)
-        assert LOAD in (keeper.folder / "ann.journal").read_bytes()
+        assert keeper.kept("ann") == [(1, LOAD, LOADED)]
         until(noted.exists)
         stream.sendall(b"REVERSE a\n")
         assert first_line(stream) == b"OK REVERSE a -1\n"
         go.touch()
+
+
+def test_always_is_taken_as_group(tmp_path: pathlib.Path) -> None:
+    with Keeper(tmp_path, "--sync", "always") as keeper:
+        assert keeper.told(LOAD, "ann") == HELLO + LOADED
+        told = "keep: --sync always is taken as group: a command is on the disk before it is told\n"
+        assert keeper.errors.read_text() == told
 
 
 def test_nothing_is_seen_of_the_tokens_and_its_owner_alone_may_look(tmp_path: pathlib.Path) -> None:
@@ -146,36 +146,23 @@ def test_a_server_lets_nobody_in_but_through_the_front(tmp_path: pathlib.Path) -
             assert first_line(stream) == DENIED
 
 
-def test_a_damaged_journal_stops_its_user_alone(tmp_path: pathlib.Path) -> None:
+def test_a_changed_record_stops_its_user_alone(tmp_path: pathlib.Path) -> None:
     with Keeper(tmp_path, users=("ann", "ben")) as keeper:
         for name in ("ann", "ben"):
             keeper.told(LOAD + b"ADVANCE a 1\n", name)
         keeper.kill()
-        path = keeper.folder / "ann.journal"
-        data = path.read_bytes()
-        path.write_bytes(data.replace(b"1.5", b"1.4"))
+        keeper.change("update record set item = ? where name = 'ann' and seq = 1", LOAD.replace(b"1.5", b"1.4"))
         keeper.begin()
         assert keeper.told(LOAD, "ann") == DENIED
         assert keeper.told(b"ADVANCE a 1\n" + SHOW, "ben") == b"OK HELLO ben\nOK ADVANCE a 2\n" + SHOWN
-        assert keeper.stopped("ann") == "its journal is damaged: the record at byte 22 was changed"
+        assert keeper.stopped("ann") == "what is kept is damaged: record 1 was changed or is missing"
         status, text = keeper.status()
-        assert status == 1 and "ann              stopped: its journal is damaged" in text
+        assert status == 1 and "ann              stopped: what is kept is damaged" in text
         assert [(each["user"], each["why"]) for each in keeper.events("stopped")] == [("ann", keeper.stopped("ann"))]
-        path.write_bytes(data)
+        keeper.change("update record set item = ? where name = 'ann' and seq = 1", LOAD)
         keeper.child.send_signal(signal.SIGHUP)
         until(lambda: keeper.known()["users"]["ann"]["state"] == "ready")
         assert keeper.told(b"ADVANCE a 1\n" + SHOW, "ann") == HELLO + b"OK ADVANCE a 2\n" + SHOWN
-
-
-def test_a_journal_that_cannot_be_read_stops_its_user_alone(tmp_path: pathlib.Path) -> None:
-    with Keeper(tmp_path, users=("ann", "ben")) as keeper:
-        keeper.kill()
-        (keeper.folder / "ann.journal").unlink()
-        (keeper.folder / "ann.journal").mkdir()
-        keeper.begin()
-        assert keeper.told(LOAD, "ann") == DENIED
-        assert keeper.told(LOAD, "ben") == b"OK HELLO ben\n" + LOADED
-        assert keeper.stopped("ann") == "its journal cannot be used: Is a directory"
 
 
 def test_a_quota_that_was_lowered_stops_its_user_alone_until_it_is_raised(tmp_path: pathlib.Path) -> None:
@@ -246,7 +233,7 @@ def test_a_program_that_answers_otherwise_stops_who_has_a_session(tmp_path: path
     with Keeper(tmp_path, users=("ann", "ben"), program=str(program)) as keeper:
         assert keeper.told(LOAD + b"ADVANCE a 2\n" + SHOW, "ann") == HELLO + LOADED + b"OK ADVANCE a 2\n" + SHOWN
         # Each session that has changed is measured when its user is gone.
-        until(lambda: b"MEASURE a\n" in (keeper.folder / "ann.journal").read_bytes())
+        until(lambda: keeper.kept("ann")[-1][1] == b"MEASURE a\n")
         wrapped(program, before, after)
         keeper.child.send_signal(signal.SIGHUP)
         assert verb in keeper.stopped("ann") and "in place of" in keeper.stopped("ann")
@@ -281,8 +268,8 @@ def test_a_file_names_the_version_of_the_program(tmp_path: pathlib.Path) -> None
 
 
 def test_a_disk_that_is_full_ends_front_and_server_before_anyone_is_told(tmp_path: pathlib.Path) -> None:
-    """No file may have more than 20,000 bytes, as on a disk that is full."""
-    limit = 20_000
+    """No file may have more than 200,000 bytes, as on a disk that is full."""
+    limit = 200_000
 
     def prepare() -> None:
         resource.setrlimit(resource.RLIMIT_FSIZE, (limit, limit))
@@ -298,7 +285,7 @@ def test_a_disk_that_is_full_ends_front_and_server_before_anyone_is_told(tmp_pat
                     break
         assert keeper.child.wait(SECONDS) == 1
         assert not os.path.exists(f"/proc/{server}")
-        assert b"cannot write a journal: File too large" in keeper.everything()
+        assert b"kept.sqlite: disk I/O error" in keeper.everything()
         assert 51 < step < 299
         assert keeper.status()[0] == 1 and "does not run" in keeper.status()[1]
         keeper.prepare = None
@@ -308,13 +295,12 @@ def test_a_disk_that_is_full_ends_front_and_server_before_anyone_is_told(tmp_pat
         assert now in (step - 1, step)
 
 
-def test_a_journal_is_rewritten_when_less_than_half_is_left(tmp_path: pathlib.Path) -> None:
+def test_records_are_fewer_when_less_than_half_is_left(tmp_path: pathlib.Path) -> None:
     with Keeper(tmp_path) as keeper:
         told = keeper.told(LOAD + b"ADVANCE a 1\nREVERSE a\n" * 700 + b"ADVANCE a 2\n", "ann")
         assert told.endswith(b"OK ADVANCE a 2\n")
         assert keeper.told(b"ADVANCE a 0\n", "ann") == HELLO + b"OK ADVANCE a 2\n"
-        # 1,402 records have 53 bytes and more each.
-        assert (keeper.folder / "ann.journal").stat().st_size < 65_536 < 1402 * 53
+        assert len(keeper.kept("ann")) < 1000 < 1402
         keeper.killed_server()
         assert keeper.told(SHOW, "ann") == HELLO + SHOWN
         keeper.kill()
@@ -439,7 +425,10 @@ def test_behind_a_balancer(tmp_path: pathlib.Path) -> None:
 
 WORDS = {
     "nothing": [],
-    "no folder": ["127.0.0.1:0", "--", PROGRAM, "serve", "--users", "x"],
+    "no store": ["127.0.0.1:0", "--", PROGRAM, "serve", "--users", "x"],
+    "a store that is no folder": ["127.0.0.1:0", "postgresql://x", "--", PROGRAM, "serve", "--users", "x"],
+    "two commands": ["kept", "--repair", "ann", "--export", "ann"],
+    "no store of a command": ["--export", "ann"],
     "no server": ["127.0.0.1:0", "kept"],
     "no address": ["x", "kept", "--", PROGRAM, "serve", "--users", "x"],
     "no users": ["127.0.0.1:0", "kept", "--", PROGRAM, "serve"],
@@ -482,12 +471,6 @@ def test_words_of_the_server_that_are_none(tmp_path: pathlib.Path, kept: Any) ->
     status, err = ended(tmp_path, words)
     assert status == 2 and "--workers" in err
     assert "the server cannot be begun: it ended with status 2" in (tmp_path / "kept" / "status.json").read_text()
-
-
-def patched(words: Any) -> List[Any]:
-    """The tool after some words of Python."""
-    run = f"import runpy, sys; sys.path.insert(0, {str(TOP / 'tools')!r}); {words}; "
-    return [sys.executable, "-c", f"{run}runpy.run_path({str(TOP / 'tools' / 'keep')!r}, None, '__main__')"]
 
 
 def test_who_says_nothing_and_who_is_one_too_many(tmp_path: pathlib.Path) -> None:

@@ -1,4 +1,4 @@
-"""What one user of `tools/keep` does at each event, with ends and a disk that only note what is asked of them."""
+"""What one user of `tools/keep` does at each event, with ends and a writer that only note what is asked of them."""
 import pathlib
 import sys
 from typing import Any, List
@@ -11,7 +11,6 @@ from support import TOP
 sys.path.append(str(TOP / "tools"))
 from keeping.accounts import accounts_at, server_text, user_of  # noqa: E402
 from keeping.items import ItemReader  # noqa: E402
-from keeping.journal import Journal  # noqa: E402
 from keeping.script import Script  # noqa: E402
 from keeping.server import Words  # noqa: E402
 from keeping.user import MAX_SENT, User  # noqa: E402
@@ -69,27 +68,28 @@ class Link:
         self.is_closed = True
 
 
-class Disk:
-    """A disk that has written what it was given when `done` is called."""
+class Writer:
+    """A writer that has written what it was given when `done` is called."""
 
     def __init__(self) -> None:
         self.given: List[Any] = []
 
-    def keep(self, journal: Any, records: Any, then: Any) -> bool:
-        self.given.append((records, then))
+    def write(self, change: Any, then: Any) -> bool:
+        self.given.append((change, then))
         return False
 
-    def done(self) -> None:
-        (_, then) = self.given.pop(0)
+    def done(self) -> Any:
+        (change, then) = self.given.pop(0)
         then()
+        return change
 
 
 @pytest.fixture
-def user(tmp_path: pathlib.Path) -> Any:
+def user() -> Any:
     renewed: List[Any] = []
-    disk: Any = Disk()
-    user: Any = User("ann", Journal(tmp_path, "ann"), Script(), disk, lambda *_, **known: renewed.append(known), renewed.append)
-    user.disk, user.noted = user._disk, renewed
+    writer: Any = Writer()
+    user: Any = User("ann", Script(), 0, writer, lambda *_, **known: renewed.append(known), renewed.append)
+    user.writer, user.noted = user._writer, renewed
     return user
 
 
@@ -108,11 +108,11 @@ def test_nothing_is_told_before_it_is_written(user: Any) -> None:
     user.hear([LOADED, b"OK LIST 1\na 0 2 0\n"])
     assert client.told == HELLO
     user.hear([b"OK REVERSE a -1\n"])
-    assert [each.reply for each in user.disk.given[0][0]] == [LOADED] and len(user.disk.given) == 1
-    user.disk.done()
+    assert [each.reply for each in user.writer.given[0][0].records] == [LOADED] and len(user.writer.given) == 1
+    user.writer.done()
     assert client.told == HELLO + LOADED + b"OK LIST 1\na 0 2 0\n"
-    assert [each.item for each in user.disk.given[0][0]] == [b"REVERSE a\n"]
-    user.disk.done()
+    assert [each.item for each in user.writer.given[0][0].records] == [b"REVERSE a\n"]
+    user.writer.done()
     assert client.told.endswith(b"OK REVERSE a -1\n")
 
 
@@ -120,7 +120,7 @@ def test_what_changes_nothing_is_told_at_once(user: Any) -> None:
     client = Client(b"LIST\nREVERSE a\n")
     let_in(user, client)
     user.hear([b"OK LIST 0\n", b"ERR 10 NO_SESSION\n"])
-    assert client.told == HELLO + b"OK LIST 0\nERR 10 NO_SESSION\n" and not user.disk.given
+    assert client.told == HELLO + b"OK LIST 0\nERR 10 NO_SESSION\n" and not user.writer.given
 
 
 def test_a_new_server_is_told_what_was_kept_and_then_what_was_not_replied(user: Any) -> None:
@@ -135,7 +135,7 @@ def test_a_new_server_is_told_what_was_kept_and_then_what_was_not_replied(user: 
     assert link.sent == LOAD + b"START a 2\n"
     user.hear([b"OK START a 2\n"])
     assert link.sent == LOAD + b"START a 2\nREVERSE a\nLIST\n"
-    user.disk.done()
+    user.writer.done()
     assert client.told == HELLO + LOADED + b"OK ADVANCE a 2\n"
 
 
@@ -160,12 +160,12 @@ def test_one_client_after_the_other_with_a_measure_between(user: Any) -> None:
     user.enter(second)
     user.hear([LOADED])
     assert (first.is_over, second.told) == ("", b"")
-    user.disk.done()
+    user.writer.done()
     assert (first.is_over, second.told) == ("finished", b"")
     assert link.sent == LOAD + b"MEASURE a\n"
     user.hear([b"OK MEASURE a 0 2 0 0 0 0 -5349132\n"])
     assert second.told == b""
-    user.disk.done()
+    user.writer.done()
     assert second.told == HELLO and link.sent.endswith(b"MEASURE a\nLIST\n")
 
 
@@ -173,7 +173,7 @@ def test_what_has_pending_steps_is_not_measured(user: Any) -> None:
     first = Client(LOAD + b"START a 9\n", has_sent_all=True)
     link = let_in(user, first)
     user.hear([LOADED, b"OK START a 9\n"])
-    user.disk.done()
+    user.writer.done()
     assert first.is_over == "finished" and link.sent == LOAD + b"START a 9\n"
 
 
@@ -213,6 +213,15 @@ def test_another_connection_to_the_server_is_asked_for_when_one_is_used_up(user:
     another = Link()
     user.begin(another, False)
     assert another.sent == b"LIST\n"
+
+
+def test_what_comes_to_less_than_half_is_written_in_place_of_all(user: Any) -> None:
+    let_in(user, Client(LOAD + b"TUG a 0 1 0 0\n" * 999))
+    user.hear([LOADED] + [b"OK TUG a 0 0\n"] * 998)
+    assert not user.writer.done().in_place
+    user.hear([b"OK TUG a 0 0\n"])
+    change = user.writer.done()
+    assert change.in_place and [each.item for each in change.records] == [LOAD, b"TUG a 0 999 0 0\n"] and user.records == 2
 
 
 def test_who_is_a_user(tmp_path: pathlib.Path) -> None:

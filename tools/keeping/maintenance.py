@@ -1,0 +1,117 @@
+"""What an operator does with a store: copies it, cuts off what was changed, and moves a user from one to another."""
+import contextlib
+import json
+import pathlib
+import sys
+from typing import Callable, Dict, Iterable, Iterator, List, Tuple
+
+from keeping.items import Told
+from keeping.journal import names_in, path_of, put_in, whole_records
+from keeping.script import shown
+from keeping.status import Folder
+from keeping.store import FILE, Change, Damaged, SqliteStore, chain_of
+from user_files import Fault
+
+FORMAT = "ljserve user 1"
+MOST_SHOWN = 20
+
+
+@contextlib.contextmanager
+def opened(path: pathlib.Path) -> Iterator[SqliteStore]:
+    """The store of a folder, which a front may have at the same time. Raises Fault if there is none."""
+    if not (path / FILE).exists():
+        raise Fault(f"{path} has no store: begin the front once, which makes it of journals too")
+    with contextlib.closing(SqliteStore(path)) as store:
+        yield store
+
+
+@contextlib.contextmanager
+def alone(path: pathlib.Path) -> Iterator[SqliteStore]:
+    """The store of a folder which no front has meanwhile. It is made if it is not there."""
+    with contextlib.closing(Folder(path)), contextlib.closing(SqliteStore(path)) as store:
+        yield store
+
+
+def back_up(path: pathlib.Path, to: str) -> None:
+    """Writes a copy of a store to a file, which is there when it is whole. A front may go on meanwhile."""
+    copy = pathlib.Path(f"{to}.new")
+    if pathlib.Path(to).exists():
+        raise Fault(f"{to} is there already: name another file")
+    copy.unlink(missing_ok=True)
+    with opened(path) as store:
+        store.back_up(copy)
+    copy.replace(to)
+    print(f"{to} has all that is kept in {path}. To go back to it, put it into an empty folder as {FILE}, and begin with that")
+
+
+def repair(path: pathlib.Path, name: str) -> None:
+    """Cuts what is kept of a user at the last whole record, also in a journal of before. What goes is told first."""
+    with alone(path) as store:
+        if name in names_in(path):
+            whole, fault = whole_of(whole_records(path_of(path, name).read_bytes(), name))
+            tell_loss(name, whole, fault, [])
+            put_in(path, name, store, whole)
+            return
+        whole, fault = whole_of(store.records(name))
+        tell_loss(name, whole, fault, [Told(item, reply) for _, item, reply, _ in store.rows(name)[len(whole) :]])
+        store.cut(name, len(whole))
+
+
+def whole_of(records: Iterable[Told]) -> Tuple[List[Told], str]:
+    """The records before one that is damaged, and what is wrong with that."""
+    whole: List[Told] = []
+    try:
+        whole.extend(records)
+    except Damaged as damage:
+        return whole, str(damage)
+    return whole, ""
+
+
+def tell_loss(name: str, whole: List[Told], fault: str, lost: List[Told]) -> None:
+    """Says what of a user stays, and what goes."""
+    print(f"{name}: {fault or 'nothing is damaged'}. What stays: {len(whole)} records")
+    for record in lost[:MOST_SHOWN]:
+        print(f"  goes: {shown(record.item)}: {shown(record.reply)}")
+    if len(lost) > MOST_SHOWN:
+        print(f"  .. and {len(lost) - MOST_SHOWN} more")
+    sys.stdout.flush()
+
+
+def export(path: pathlib.Path, name: str) -> None:
+    """Prints what is kept of a user as JSON, each byte of items and replies as a character. A front may go on meanwhile."""
+    with opened(path) as store:
+        try:
+            records = store.read(name)
+        except Damaged as damage:
+            raise Fault(f"what is kept of {name} is damaged: {damage}") from damage
+    if not records:
+        raise Fault(f"{path} has nothing of {name}")
+    texts = [[part.decode("latin-1") for part in record] for record in records]
+    json.dump({"format": FORMAT, "name": name, "records": texts, "check": chain_of(name, records).hex()}, sys.stdout, indent=0)
+    print()
+
+
+def import_user(path: pathlib.Path, file: str) -> None:
+    """Puts a user that was printed by `export` into a store, which has nothing of that user."""
+    try:
+        told = json.loads(pathlib.Path(file).read_text())
+        name, format = str(told["name"]), told["format"]
+        records = [Told(*(part.encode("latin-1") for part in texts)) for texts in told["records"]]
+        is_whole = format == FORMAT and told["check"] == chain_of(name, records).hex()
+    except OSError as error:
+        raise Fault(f"cannot read {file}: {error.strerror}") from error
+    except (ValueError, KeyError, TypeError, AttributeError) as error:
+        raise Fault(f"{file} is not what --export prints") from error
+    if not is_whole:
+        raise Fault(f"{file} was changed, or is of another format than {FORMAT!r}")
+    with alone(path) as store:
+        if name in store.names() or name in names_in(path):
+            raise Fault(f"{path} has something of {name} already")
+        store.read(name)
+        store.write([Change(name, records)])
+    print(f"{path} has {len(records)} records of {name} now")
+
+
+COMMANDS: Dict[str, Callable[[pathlib.Path, str], None]] = {
+    "backup": back_up, "repair": repair, "export": export, "import_user": import_user,
+}  # fmt: skip
