@@ -19,6 +19,12 @@ Quota = Tuple[int, int, int]
 Kept = TypeVar("Kept", bound="Keeper")
 
 
+def patched(words: str) -> List[str]:
+    """The tool after some words of Python."""
+    run = f"import runpy, sys; sys.path.insert(0, {str(TOP / 'tools')!r})\n{words}\n"
+    return [sys.executable, "-c", f"{run}runpy.run_path({str(TOP / 'tools' / 'keep')!r}, None, '__main__')"]
+
+
 def until(holds: Callable[[], Any]) -> Any:
     """Waits until something holds, and returns what it is."""
     end = time.monotonic() + SECONDS

@@ -2,14 +2,15 @@
 from __future__ import annotations
 
 import asyncio
-from typing import TYPE_CHECKING, Optional, Protocol
+from typing import TYPE_CHECKING, Optional
 
 from keeping.accounts import DENIED
 from keeping.items import MAX_BODY, MAX_ITEMS, MAX_LINE, Item, ItemReader, ReplyReader
 from proxy_header import NotWhole, source_of_bytes
-from watching import Connection, prepare, written
+from watching import prepare, written
 
 if TYPE_CHECKING:
+    from keeping.front import Front
     from keeping.user import User
 
 SECONDS_FOR_HELLO = 30.0
@@ -17,42 +18,20 @@ SECONDS_AFTER_END = 1.0
 MAX_BYTES_WAITING = MAX_BODY + MAX_LINE + 1
 
 
-class Acceptor(Protocol):
-    """What accepts the connections of clients."""
-
-    has_header: bool
-
-    def begins(self, client: Client) -> None:
-        """A connection was accepted."""
-
-    def ends(self, client: Client) -> None:
-        """A connection has ended."""
-
-    def user_of(self, line: bytes) -> Optional[User]:
-        """The user that a first line asks for, if it may be let in."""
-
-    def is_let_in(self, client: Client) -> None:
-        """A user is told so."""
-
-    def new_connection(self, origin: str) -> Connection:
-        """What is shown of a connection."""
-
-
 class Client(asyncio.Protocol):
     """The connection of a client, from its first line on."""
 
-    def __init__(self, acceptor: Acceptor):
-        self._acceptor = acceptor
+    def __init__(self, front: Front):
+        self._front = front
         self._transport: asyncio.Transport
         self._reader = ItemReader()
         self._next: Optional[Item] = None
         self._first = b""
-        self._has_header = acceptor.has_header
+        self._has_header = front.has_header
         self._is_over = self._is_lost = self._has_sent_all = False
         self._is_paused = False
         self.user: Optional[User] = None
         self.is_full = False
-        self.seen: Connection
 
     # What happens.
 
@@ -60,9 +39,9 @@ class Client(asyncio.Protocol):
         assert isinstance(transport, asyncio.Transport)
         self._transport = transport
         prepare(transport.get_extra_info("socket"))
-        self.seen = self._acceptor.new_connection(written(transport.get_extra_info("peername")))
+        self.seen = self._front.new_connection(written(transport.get_extra_info("peername")))
         self._timer = asyncio.get_running_loop().call_later(SECONDS_FOR_HELLO, self.abort)
-        self._acceptor.begins(self)
+        self._front.begins(self)
 
     def data_received(self, data: bytes) -> None:
         if self._is_over:
@@ -90,7 +69,7 @@ class Client(asyncio.Protocol):
             return
         self._timer.cancel()
         self.seen.hear_client(line + b"\n")
-        self.user = self._acceptor.user_of(line) if end else None
+        self.user = self._front.user_of(line) if end else None
         if self.user is None:
             self.deny()
             return
@@ -128,7 +107,7 @@ class Client(asyncio.Protocol):
         self._next = None
         if self.user is not None:
             self.user.leave(self)
-        self._acceptor.ends(self)
+        self._front.ends(self)
 
     def pause_writing(self) -> None:
         self.is_full = True
@@ -162,7 +141,7 @@ class Client(asyncio.Protocol):
 
     def let_in(self) -> None:
         self.tell(b"OK HELLO %s\n" % self.user.name.encode() if self.user else b"")
-        self._acceptor.is_let_in(self)
+        self._front.is_let_in(self)
 
     def tell(self, replies: bytes) -> None:
         if not self._is_lost:
@@ -192,21 +171,14 @@ class Client(asyncio.Protocol):
         self._transport.abort()
 
 
-class Owner(Protocol):
-    """What has begun the server."""
-
-    def link_is_lost(self, link: Link) -> None:
-        """A connection to the server has ended by itself, or the server does not let a user in."""
-
-
 class Link(asyncio.Protocol):
     """The connection of a user to the server, from its first line on. `left` is how many items it still may have: with the last one
     of those that a connection may have the server would end it."""
 
     most_items = MAX_ITEMS - 1
 
-    def __init__(self, user: User, token: str, is_new: bool, owner: Owner):
-        self.user, self._is_new, self._owner = user, is_new, owner
+    def __init__(self, user: User, token: str, is_new: bool, front: Front):
+        self.user, self._is_new, self._front = user, is_new, front
         self.left = self.most_items
         self._hello = f"HELLO {user.name} {token}\n".encode()
         self._reader = ReplyReader()
@@ -229,7 +201,7 @@ class Link(asyncio.Protocol):
 
     def _begin(self, reply: bytes) -> None:
         if reply != b"OK HELLO %s\n" % self.user.name.encode():
-            self._owner.link_is_lost(self)
+            self._front.link_is_lost(self)
             return
         self._is_in = True
         self.user.begin(self, self._is_new)
@@ -237,7 +209,7 @@ class Link(asyncio.Protocol):
     def connection_lost(self, error: Optional[Exception]) -> None:
         if not self._is_closed:
             self._is_closed = True
-            self._owner.link_is_lost(self)
+            self._front.link_is_lost(self)
 
     def send(self, items: bytes) -> None:
         self._transport.write(items)

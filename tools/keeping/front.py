@@ -1,20 +1,18 @@
 """A front: it owns a server, keeps what its users do, and begins another server when one has ended."""
 import asyncio
-import contextlib
+import json
 import os
 import pathlib
 import signal
 import socket
 import time
-from typing import Dict, List, NamedTuple, Optional, Set
+from typing import Dict, NamedTuple, Optional, Set
 
 from keeping.accounts import Accounts, accounts_at, user_of
 from keeping.ends import Client, Link
-from keeping.items import Told, words_of
 from keeping.journal import take_over_all
-from keeping.script import Otherwise, Script
-from keeping.server import Server, Words, begin, how_it_ended, version_of
-from keeping.status import Folder
+from keeping.server import Server, Words, begin, how_it_ended, trial_of, version_of
+from keeping.status import STATUS, Folder
 from keeping.store import Damaged, SqliteStore
 from keeping.user import User
 from keeping.writer import Writer
@@ -24,7 +22,8 @@ from watching import Board, Connection
 MAX_OPEN = 1000
 SECONDS_BETWEEN_TRIES = 0.01
 SECONDS_OF_A_START = 1.0
-VERSION = "version"
+SECONDS_TO_SETTLE = 10.0
+VERSION, TRIAL = "version", "trial"
 # The status of a server whose words or users are none.
 BAD_WORDS = 2
 HAS_BAD_WORDS = how_it_ended(BAD_WORDS)
@@ -83,12 +82,11 @@ class Front:
     def _open(self, name: str) -> None:
         """Reads what is kept of a user. Where that is damaged it stops that user alone."""
         try:
-            records = self._store.read(name)
-            script = script_of(records)
-        except (Damaged, Otherwise) as error:
+            kept = self._store.read(name)
+        except Damaged as error:
             self._refuse(name, f"what is kept is damaged: {error}")
         else:
-            self._users[name] = User(name, script, len(records), self._writer, self._note, self._renew)
+            self._users[name] = User(name, kept, self._store, self._writer, self._note, self._renew)
 
     def _refuse(self, name: str, why: str) -> None:
         self._refused[name] = why
@@ -129,11 +127,21 @@ class Front:
         tasks = [asyncio.create_task(work) for work in (self._own_servers(), self._writer.sync_on())]
         await self._is_ending.wait()
         listening.close()
+        if not self._status:
+            await self._settle()
         for task in tasks:
             task.cancel()
         await asyncio.gather(*tasks, return_exceptions=True)
         await self._close()
         return self._status
+
+    async def _settle(self) -> None:
+        """Has what was taken answered, and snapshots of all users, so that they are soon put back. Not all may come to it in time."""
+        for user in [*self._users.values()]:
+            user.settle()
+        end = time.monotonic() + SECONDS_TO_SETTLE
+        while time.monotonic() < end and not self._status and not all(user.is_settled() for user in self._users.values()):
+            await asyncio.sleep(SECONDS_BETWEEN_TRIES)
 
     async def _close(self) -> None:
         if self._server is not None:
@@ -163,6 +171,7 @@ class Front:
 
     async def _own_server(self) -> str:
         """Begins a server, connects all users to it, and returns how it has ended."""
+        await self._unless_otherwise()
         accounts = self._accounts
         self._server = server = await begin(self._options.words, accounts)
         if accounts is not self._accounts:
@@ -200,26 +209,39 @@ class Front:
 
     async def _note_version(self) -> None:
         """Has a file name the version of the program, and notes if that is another."""
-        version = "\n".join(await version_of(self._options.words.program)) or "unknown"
-        path = self._folder.path / VERSION
-        before = path.read_text().rstrip("\n") if path.exists() else version
+        version = await version_of(self._options.words.program)
+        before = self._folder.text(VERSION)
         if before != version:
-            self._note("program", version=version, before=before)
-        with contextlib.suppress(OSError):
-            self._folder.put(VERSION, f"{version}\n")
+            if before:
+                self._note("program", version=version, before=before)
+            self._folder.put(VERSION, version)
+
+    async def _unless_otherwise(self) -> None:
+        """Tries the program. Raises Fault if it computes otherwise than the first one did whose sessions are kept here."""
+        trial = await trial_of(self._options.words.program)
+        if not self._folder.text(TRIAL):
+            self._folder.put(TRIAL, trial)
+        elif self._folder.text(TRIAL) != trial:
+            raise Fault(f"{self._options.words.program} computes otherwise than the program before: begin that one, or another folder")
 
     # What it is told from outside.
 
     def _begin_anew(self) -> None:
-        """Reads the users again, and begins a new server, whose program may be another."""
+        self._anew = asyncio.get_running_loop().create_task(self._begin_another())
+
+    async def _begin_another(self) -> None:
+        """Reads the users again, and ends the server when all have settled, so that another one is begun. Its program may be new."""
         try:
+            await self._unless_otherwise()
             self._take_users(accounts_at(pathlib.Path(self._options.words.users)))
         except Fault as fault:
             self._note("not begun anew", why=str(fault))
             return
+        server = self._server
         self._note("begins anew")
-        if self._server is not None:
-            self._server.kill()
+        await self._settle()
+        if server is not None:
+            server.kill()
 
     def _end(self) -> None:
         self._known["end"] = "it was told to end"
@@ -247,12 +269,4 @@ class Front:
         users = {name: each.known() for name, each in self._users.items() if name in self._accounts}
         users |= {name: {"state": "stopped", "why": why} for name, why in self._refused.items() if name in self._accounts}
         server = self._server.process.pid if self._server else None
-        self._folder.put_status({**self._known, "server": server, "users": users})
-
-
-def script_of(records: List[Told]) -> Script:
-    """What is left of some commands. Raises `Otherwise` if a reply does not follow from them."""
-    script = Script()
-    for record in records:
-        script.take(record.item, words_of(record.item.partition(b"\n")[0]), record.reply)
-    return script
+        self._folder.put(STATUS, json.dumps({**self._known, "server": server, "users": users}))

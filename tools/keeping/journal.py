@@ -67,10 +67,10 @@ def put_in(folder: pathlib.Path, name: str, store: SqliteStore, records: List[To
     """Has these records of a journal in a store, and then the journal in the folder of those that were taken over. Where that was
     broken off in between, they are there already."""
     found = store.read(name)
-    if not found:
+    if not found.seq and not found.records:
         store.write([Change(name, records)])
         store.sync()
-    elif found != records:
+    elif found.seq or found.records != records:
         raise Damaged(f"the store has other records: move {path_of(folder, name)} away, or begin with another folder")
     (folder / BEFORE).mkdir(mode=0o700, exist_ok=True)
     path_of(folder, name).rename(path_of(folder / BEFORE, name))

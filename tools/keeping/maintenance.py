@@ -7,12 +7,12 @@ from typing import Callable, Dict, Iterable, Iterator, List, Tuple
 
 from keeping.items import Told
 from keeping.journal import names_in, path_of, put_in, whole_records
-from keeping.script import shown
+from keeping.sessions import shown
 from keeping.status import Folder
-from keeping.store import FILE, Change, Damaged, SqliteStore, chain_of
+from keeping.store import FILE, Change, Damaged, Kept, Part, Snapshot, SqliteStore, SNAPSHOT_FAULT, check_of
 from user_files import Fault
 
-FORMAT = "ljserve user 1"
+FORMAT = "ljserve user 2"
 MOST_SHOWN = 20
 
 
@@ -53,8 +53,17 @@ def repair(path: pathlib.Path, name: str) -> None:
             put_in(path, name, store, whole)
             return
         whole, fault = whole_of(store.records(name))
-        tell_loss(name, whole, fault, [Told(item, reply) for _, item, reply, _ in store.rows(name)[len(whole) :]])
-        store.cut(name, len(whole))
+        rows, (parts, gone) = store.rows(name), store.whole_parts(name)
+        is_changed = bool(gone) or fault == SNAPSHOT_FAULT
+        if is_changed:
+            # What was done since a snapshot means nothing without it.
+            whole, fault = [], fault or "nothing else is damaged"
+            print(f"{name}: {len(parts)} sessions and branches stay, and {len(gone)} go: those of records {gone}")
+        tell_loss(name, whole, fault, [Told(item, reply) for _, item, reply, _ in rows[len(whole) :]])
+        store.cut(name, rows[len(whole) - 1][0] if whole else 0)
+        if is_changed:
+            ids = [part.id for part in parts]
+            store.write([Change(name, (), Snapshot(max([0, *ids, *gone, *(row[0] for row in rows)]), parts, ids))])
 
 
 def whole_of(records: Iterable[Told]) -> Tuple[List[Told], str]:
@@ -81,23 +90,39 @@ def export(path: pathlib.Path, name: str) -> None:
     """Prints what is kept of a user as JSON, each byte of items and replies as a character. A front may go on meanwhile."""
     with opened(path) as store:
         try:
-            records = store.read(name)
+            kept = store.read_whole(name)
         except Damaged as damage:
             raise Fault(f"what is kept of {name} is damaged: {damage}") from damage
-    if not records:
+    if not kept.seq and not kept.records:
         raise Fault(f"{path} has nothing of {name}")
-    texts = [[part.decode("latin-1") for part in record] for record in records]
-    json.dump({"format": FORMAT, "name": name, "records": texts, "check": chain_of(name, records).hex()}, sys.stdout, indent=0)
+    parts, records = [[texted(each) for each in part] for part in kept.parts], [[texted(each) for each in told] for told in kept.records]
+    known = {
+        "format": FORMAT,
+        "name": name,
+        "seq": kept.seq,
+        "running": texted(kept.running),
+        "parts": parts,
+        "records": records,
+        "check": check_of(name, kept).hex(),
+    }
+    json.dump(known, sys.stdout, indent=0)
     print()
+
+
+def texted(value: object) -> object:
+    """A value for JSON, where each byte is a character."""
+    return value.decode("latin-1") if isinstance(value, bytes) else value
 
 
 def import_user(path: pathlib.Path, file: str) -> None:
     """Puts a user that was printed by `export` into a store, which has nothing of that user."""
     try:
         told = json.loads(pathlib.Path(file).read_text())
-        name, format = str(told["name"]), told["format"]
-        records = [Told(*(part.encode("latin-1") for part in texts)) for texts in told["records"]]
-        is_whole = format == FORMAT and told["check"] == chain_of(name, records).hex()
+        name, format, seq = str(told["name"]), told["format"], int(told["seq"])
+        parts = [Part(*(value if isinstance(value, int) else value.encode("latin-1") for value in row)) for row in told["parts"]]
+        records = [Told(*(text.encode("latin-1") for text in row)) for row in told["records"]]
+        kept = Kept(seq, parts, records, told["running"].encode("latin-1"))
+        is_whole = format == FORMAT and told["check"] == check_of(name, kept).hex()
     except OSError as error:
         raise Fault(f"cannot read {file}: {error.strerror}") from error
     except (ValueError, KeyError, TypeError, AttributeError) as error:
@@ -108,8 +133,8 @@ def import_user(path: pathlib.Path, file: str) -> None:
         if name in store.names() or name in names_in(path):
             raise Fault(f"{path} has something of {name} already")
         store.read(name)
-        store.write([Change(name, records)])
-    print(f"{path} has {len(records)} records of {name} now")
+        store.write([Change(name, kept.records, Snapshot(seq, parts, [part.id for part in parts], kept.running) if seq else None)])
+    print(f"{path} has {name} now")
 
 
 COMMANDS: Dict[str, Callable[[pathlib.Path, str], None]] = {

@@ -2,12 +2,13 @@
 import asyncio
 import contextlib
 import ctypes
+import hashlib
 import os
 import shutil
 import signal
 import socket
 import subprocess
-from typing import Callable, Dict, List, Sequence, Tuple
+from typing import Callable, Dict, List, Sequence
 
 from children import environment
 from keeping.accounts import Accounts, new_tokens, server_text
@@ -16,6 +17,8 @@ from user_files import Fault
 MAX_CONNECTIONS = 1_000_000
 SET_PDEATHSIG = 1
 SECONDS_FOR_VERSION = 30.0
+# The program of a repository is built first.
+SECONDS_FOR_TRIAL = 7200.0
 OWN = ("--listen", "--connections")
 
 
@@ -101,22 +104,44 @@ def dying_with_parent() -> Callable[[], None]:
     return prepare
 
 
-async def version_of(program: str) -> Tuple[str, ...]:
-    """The lines in which a program tells its version, none if it does not."""
+async def output_of(program: str, word: str, sent: bytes, seconds: float) -> bytes:
+    """What a program prints that is called with a word, or nothing if it does not end in time."""
     try:
         process = await asyncio.create_subprocess_exec(
-            program, "--version", stdin=subprocess.DEVNULL, stdout=subprocess.PIPE, stderr=subprocess.DEVNULL,
+            program, word, stdin=subprocess.PIPE, stdout=subprocess.PIPE, stderr=subprocess.DEVNULL,
             preexec_fn=dying_with_parent(), start_new_session=True, env=environment(),
         )  # fmt: skip
     except OSError:
-        return ()
+        return b""
     try:
-        out, _ = await asyncio.wait_for(process.communicate(), SECONDS_FOR_VERSION)
+        out, _ = await asyncio.wait_for(process.communicate(sent), seconds)
     except asyncio.TimeoutError:
-        return ()
+        return b""
     finally:
         kill_group(process)
-    return tuple(out.decode(errors="replace").splitlines())
+    return out
+
+
+async def version_of(program: str) -> str:
+    """The lines in which a program tells its version."""
+    told = await output_of(program, "--version", b"", SECONDS_FOR_VERSION)
+    return "\n".join(told.decode(errors="replace").splitlines()) or "unknown"
+
+
+async def trial_of(program: str) -> str:
+    """The hash of what a program replies in a short run. Raises Fault if it has no such run."""
+    told = await output_of(program, "run", trial_run(), SECONDS_FOR_TRIAL)
+    if b"OK ADVANCE t 200\n" not in told:
+        raise Fault(f"{program} does not do a trial run")
+    return hashlib.sha256(told).hexdigest()
+
+
+def trial_run() -> bytes:
+    """200 steps of atoms of two species, at whose end another arithmetic has led elsewhere."""
+    rows = [f"{'XY'[n % 2]} {n % 3 * 1100 + n * 13}e-3 {n // 3 % 3 * 1100 - n * 7}e-3 {n // 9 * 1100}e-3\n" for n in range(27)]
+    body = "27\nc\n" + "".join(rows)
+    load = f"LOADMIX t 6 X Y 1 70000 256 0.9 60000 300 1.1 50000 200 rest {len(body)}\n{body}"
+    return f"{load}ADVANCE t 200\nMEASURE t\nDUMP t\nREVERSE t\nMEASURE t\n".encode()
 
 
 def kill_group(process: asyncio.subprocess.Process) -> None:

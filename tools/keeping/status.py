@@ -34,16 +34,18 @@ class Folder:
         """Lets another one use the folder."""
         os.close(self._lock)
 
-    def put(self, name: str, text: str) -> None:
-        """Writes a file anew, whole or not at all. Raises OSError if it cannot be written."""
-        path = self.path / f"{name}.new"
-        path.write_text(text)
-        path.replace(self.path / name)
-
-    def put_status(self, known: Known) -> None:
-        """Writes the status. A disk that is full stops nothing here: what was told is in the store."""
+    def text(self, name: str) -> str:
+        """The text of a file, without the last line feed; none if it is not there."""
         with contextlib.suppress(OSError):
-            self.put(STATUS, json.dumps(known) + "\n")
+            return (self.path / name).read_text().rstrip("\n")
+        return ""
+
+    def put(self, name: str, text: str) -> None:
+        """Writes a file anew, whole or not at all. A disk that is full stops nothing here: what was told is in the store."""
+        path = self.path / f"{name}.new"
+        with contextlib.suppress(OSError):
+            path.write_text(f"{text}\n")
+            path.replace(self.path / name)
 
 
 def is_taken(lock: int) -> bool:

@@ -1,51 +1,62 @@
-"""One user: whose turn it is, which items are on their way, what was replied, and what is written before it is told.
+"""One user: whose turn it is, which items are on their way, what was replied, what is written before it is told, and when a snapshot
+of its sessions is taken.
 
-It does no reading and writing of its own, and knows ends (`ends`) and the writer by the methods that it calls.
+It does no reading and writing of its own, and knows ends (`ends`), the store and its writer by the methods that it calls.
 """
+import time
 from collections import deque
 from functools import partial
-from typing import Callable, Deque, Dict, Iterator, List, NamedTuple, Optional
+from typing import Callable, Deque, Dict, List, Optional
 
 from keeping.ends import Client, Link
-from keeping.items import Item, Told
-from keeping.script import KEPT, Otherwise, Script, shown
-from keeping.store import Change
+from keeping.items import Item, Told, words_of
+from keeping.sessions import KEPT, Long, Otherwise, Sessions, Task, put_back, read_all, shown, tell_again
+from keeping.store import Change, Damaged, Kept, Snapshot, Store, StoreFault
 from keeping.writer import Writer
 
-MAX_SENT = 1000
+# What may be on its way: so much is answered within a few milliseconds.
+MAX_SENT = 250
 MAX_BYTES = 1 << 20
-LEAST_TO_REWRITE = 1000
+# A snapshot is taken when so many seconds, records or bytes have come since the last one.
+SECONDS_OF_BUDGET = 10.0
+MAX_RECORDS = 4000
+MAX_RECORD_BYTES = 2 << 20
+# It waits for pending steps until there are so many budgets.
+BUDGETS_TO_WAIT = 4
 Note = Callable[..., None]
 
 
-class Sent(NamedTuple):
-    """An item that is on its way: a client's, a check of a session, or one that is told again, whose reply is known."""
-
-    item: Item
-    is_check: bool = False
-    reply: Optional[bytes] = None
-
-
 class User:
-    """A user, with what is left of its commands, of which there are so many records."""
+    """A user, with what is kept of it: a snapshot, and the records since."""
 
-    def __init__(self, name: str, script: Script, records: int, writer: Writer, note: Note, renew: Callable[["User"], None]):
-        self.name, self.script, self.records = name, script, records
+    def __init__(self, name: str, kept: Kept, store: Store, writer: Writer, note: Note, renew: Callable[["User"], None]):
+        self.name, self.records, self.number = name, kept.records, kept.seq + len(kept.records)
         self.stopped = ""
         self.waiting: Deque[Client] = deque()
         self.client: Optional[Client] = None
         self.link: Optional[Link] = None
-        self.is_ready = False
-        self._writer, self._note, self._renew = writer, note, renew
-        self._replay: Optional[Iterator[Told]] = None
-        self._again: Deque[Sent] = deque()
-        self._sent: Deque[Sent] = deque()
+        self.is_ready = self.is_settling = False
+        self.sessions = Sessions()
+        self._seq, self._parts = kept.seq, {part.id: part for part in kept.parts}
+        self._store, self._writer, self._note, self._renew = store, writer, note, renew
+        self._task: Optional[Task[None]] = None
+        self._burst: List[bytes] = []
+        self._heard: List[bytes] = []
+        self._burst_sent = 0
+        running = [Item(kept.running, words_of(kept.running[:-1]))] if kept.running else []
+        self._again: Deque[Item] = deque(running)
+        self._long: Optional[Long] = None
+        self._sent: Deque[Item] = deque()
         self._bytes_sent = 0
-        self._records: List[Told] = []
+        self._written: List[Told] = []
         self._held: List[bytes] = []
         self._bytes_held = 0
-        self._is_writing = False
-        self._look_at = LEAST_TO_REWRITE
+        self._snapshot: Optional[Snapshot] = None
+        self._is_writing = self._is_wanted = self._is_near_an_end = False
+        self._since = 0.0
+        # What was computed since the snapshot: at first as much as may be, so that there soon is one.
+        self._seconds = SECONDS_OF_BUDGET if kept.records else 0.0
+        self._bytes = sum(len(record.item) for record in kept.records)
 
     # What happens.
 
@@ -64,28 +75,36 @@ class User:
         self.go_on()
 
     def begin(self, link: Link, is_new: bool) -> None:
-        """There is a connection to the server: to a new one, which is told all again, or to the same."""
+        """There is a connection to the server: to a new one, where all is put back, or to the same."""
         self.link = link
         if is_new:
-            self.is_ready = False
-            self._replay = self.script.told()
+            self.is_ready = self.is_settling = False
         self.go_on()
 
     def lose_link(self) -> None:
         """The connection to the server has ended. What was not replied is sent again."""
         if self.link is not None:
             self.link.close()
-        self.link, self.is_ready, self._replay = None, False, None
-        self._again.extendleft(reversed([each for each in self._sent if each.reply is None]))
+        self.link, self.is_ready, self._task = None, False, None
+        again = [*self._sent]
+        if self._long is not None:
+            again = [item for item in again if item is not self._long.piece] + [self._long.item(self._long.left_at_snapshot)]
+        self._again.extendleft(reversed(again))
         self._sent.clear()
+        self._long = None
         self._bytes_sent = 0
 
     def hear(self, replies: List[bytes]) -> None:
         """The server has replied."""
         try:
-            for reply in replies:
-                self._take(reply)
-        except Otherwise as fault:
+            if self._task is not None:
+                self._heard += replies
+                self._hear_task()
+            else:
+                self._count_time()
+                for reply in replies:
+                    self._take(reply)
+        except (Otherwise, ValueError, IndexError) as fault:
             self.stop(f"the program replied {fault}")
         else:
             self.go_on()
@@ -111,9 +130,9 @@ class User:
             self._send()
             self._answer_last()
             self._keep()
-            if self.link is None or not (self._end_replay() or self._end_client() or self._admit()):
+            if self.link is None or not (self._begin_task() or self._end_client() or self._admit()):
                 break
-        if self.link is not None and not self.link.left and not self._sent:
+        if self.link is not None and not self.link.left and not self._sent and len(self._heard) == self._burst_sent:
             self._renew_link()
         if self.link is not None:
             self.link.hold(self._bytes_held > MAX_BYTES or self.client is not None and self.client.is_full)
@@ -122,82 +141,83 @@ class User:
         """Sends items, as many as may be on their way."""
         if self.link is None:
             return
+        if self._task is not None:
+            self._send_burst(self.link)
+            return
         items = []
-        while len(self._sent) < MAX_SENT and self._bytes_sent < MAX_BYTES and self.link.left and (sent := self._next()):
-            self._sent.append(sent)
-            if not sent.item.last_reply:
-                items.append(sent.item.raw)
-                self._bytes_sent += len(sent.item.raw)
+        most = 1 if self._is_near_an_end else MAX_SENT
+        while len(self._sent) < most and self._bytes_sent < MAX_BYTES and self.link.left and (item := self._next()):
+            if not self._sent:
+                self._since = time.monotonic()
+            self._sent.append(item)
+            if not item.last_reply:
+                items.append(item.raw)
+                self._bytes_sent += len(item.raw)
                 self.link.left -= 1
         if items:
             self.link.send(b"".join(items))
 
-    def _next(self) -> Optional[Sent]:
-        if not self.is_ready:
-            told = next(self._replay, None) if self._replay is not None else None
-            if told is None:
-                self._replay = None
-                return None
-            return Sent(Item(told.item, ()), reply=told.reply)
-        if self._again:
-            return self._again.popleft()
-        item = self.client.next_item() if self.client is not None else None
-        return Sent(item) if item else None
+    def _next(self) -> Optional[Item]:
+        if not self.is_ready or self.is_settling or self._is_due():
+            return None
+        if self._long is not None:
+            return None if self._sent else self._long.next_piece(self.sessions, time.monotonic())
+        item = self._again.popleft() if self._again else self.client.next_item() if self.client is not None else None
+        if not item:
+            return None
+        if self._is_near_an_end:
+            return item._replace(last_reply=self.sessions.refusal(item.words) or item.last_reply)
+        self._long = Long.of(item, self.sessions)
+        return self._long.next_piece(self.sessions, time.monotonic()) if self._long else item
+
+    def _count_time(self) -> None:
+        """Counts for how long replies were owed."""
+        now = time.monotonic()
+        if self._sent:
+            self._seconds += now - self._since
+        self._since = now
 
     def _take(self, reply: bytes) -> None:
         """Takes the reply to the first item that is on its way. Raises `Otherwise` if it cannot be that."""
         if not self._sent:
             raise Otherwise(f"{shown(reply)} to nothing")
-        sent = self._sent.popleft()
-        item = sent.item
+        item = self._sent.popleft()
         self._bytes_sent -= len(item.raw)
-        if sent.reply is not None:
-            if reply != sent.reply:
-                raise Otherwise(f"{shown(reply)} in place of {shown(sent.reply)}, when told again")
-            return
-        if reply.startswith(b"OK ") and item.words:
-            self._note_done(item, reply, sent.is_check)
-        if not sent.is_check:
-            self._hold(reply)
+        reply = self.sessions.hear(item.words, reply, self.number + 1)
+        if self._long is not None and item is self._long.piece:
+            if reply.startswith(b"OK ") and not self._long.hear(self.sessions.by_name[item.words[1]], time.monotonic()):
+                return
+            item, self._long = self._long.item(self._long.left_at_snapshot), None
+        if item.words and item.words[0] in KEPT and reply.startswith(b"OK "):
+            record = Told(item.raw, reply)
+            self.number += 1
+            self._bytes += len(item.raw)
+            self.records.append(record)
+            self._written.append(record)
+            if self._is_near_an_end or item.words[0] == b"RESTORE":
+                self._is_near_an_end = self.sessions.are_near_an_end()
+        self._hold(reply)
         self._answer_last()
-
-    def _note_done(self, item: Item, reply: bytes, is_check: bool) -> None:
-        """Notes a command that was replied OK."""
-        if item.words[0] in KEPT or is_check:
-            self.script.take(item.raw, item.words, reply)
-            self._records.append(Told(item.raw, reply))
-        else:
-            self.script.is_answered(item.words)
 
     def _hold(self, reply: bytes) -> None:
         self._held.append(reply)
         self._bytes_held += len(reply)
 
     def _answer_last(self) -> None:
-        """Replies to the item that ends a connection, when its turn has come."""
-        if self._sent and self._sent[0].item.last_reply:
-            self._hold(self._sent.popleft().item.last_reply)
+        """Replies to items that do not go to the server, when their turn has come."""
+        while self._sent and self._sent[0].last_reply:
+            self._hold(self._sent.popleft().last_reply)
 
     def _keep(self) -> None:
         """Has what was replied written, and tells it then."""
-        if self._is_writing or not (self._records or self._held):
+        if self._is_writing or not (self._written or self._held or self._snapshot):
             return
-        records, held = self._records, self._held
-        self._records, self._held = [], []
+        change, held = Change(self.name, self._written, self._snapshot), self._held
+        self._written, self._held, self._snapshot = [], [], None
         self._is_writing = True
-        if not records or self._writer.write(self._change(records), partial(self._is_written, held)):
+        is_nothing = not change.records and change.snapshot is None
+        if is_nothing or self._writer.write(change, partial(self._is_written, held)):
             self._tell(held)
-
-    def _change(self, records: List[Told]) -> Change:
-        """What is written: these records, or what is left of all, if that is less than half. It is looked at when they doubled."""
-        self.records += len(records)
-        if self.records >= self._look_at:
-            left = list(self.script.told())
-            self._look_at = max(LEAST_TO_REWRITE, 2 * len(left) + 1)
-            if 2 * len(left) < self.records:
-                self.records = len(left)
-                return Change(self.name, left, in_place=True)
-        return Change(self.name, records)
 
     def _is_written(self, held: List[bytes]) -> None:
         self._tell(held)
@@ -210,32 +230,26 @@ class User:
         if self.client is not None and held:
             self.client.tell(b"".join(held))
 
-    def _is_idle(self) -> bool:
+    def _is_quiet(self) -> bool:
         """Whether nothing is on its way, nothing is being written, and nothing waits to be told."""
-        return not (self._sent or self._again or self._is_writing or self._records or self._held)
+        return not (self._sent or self._task or self._is_writing or self._written or self._held or self._snapshot)
 
-    def _end_replay(self) -> bool:
-        """Lets the user go on when all that was told again was replied."""
-        if self.is_ready or self._sent or self._replay is not None:
-            return False
-        self.is_ready = True
-        self.script.is_told()
-        self._note("ready", user=self.name)
-        return True
+    def _is_idle(self) -> bool:
+        """Whether nothing more is to be done of what was taken."""
+        return self._is_quiet() and not self._again and self._long is None
 
     def _end_client(self) -> bool:
-        """Ends the connection of a client that has no more items. Then sessions are measured that have changed."""
+        """Ends the connection of a client that has no more items. Then a snapshot is wanted."""
         if self.client is None or not self.is_ready or not self.client.has_ended() or not self._is_idle():
             return False
         self.client.finish()
         self.client = None
-        lines = [b"MEASURE %s\n" % name for name in self.script.unchecked()]
-        self._again.extend(Sent(Item(line, tuple(line.split())), is_check=True) for line in lines)
+        self._is_wanted = self.number != self._seq
         return True
 
     def _admit(self) -> bool:
         """Lets the next client in."""
-        if self.client is not None or not self.is_ready or not self.waiting or not self._is_idle():
+        if self.client is not None or not self.is_ready or not self.waiting or not self._is_idle() or self.is_settling:
             return False
         self.client = self.waiting.popleft()
         self.client.let_in()
@@ -248,10 +262,89 @@ class User:
             self.link = None
             self._renew(self)
 
+    # What is put back, and snapshots.
+
+    def _begin_task(self) -> bool:
+        """Begins to put all back, or to take a snapshot, if that is due and nothing is on its way."""
+        if self._task is not None or self._sent or self.is_ready and not self._is_due() or not self.is_ready and self._is_writing:
+            return False
+        self._task = self._take_snapshot() if self.is_ready else self._put_back()
+        self._step(None)
+        return True
+
+    def _step(self, replies: Optional[List[bytes]]) -> None:
+        """Has the task go on to what it asks next, or to its end."""
+        assert self._task is not None
+        self._burst, self._heard, self._burst_sent = [], [], 0
+        try:
+            self._burst = self._task.send(replies)  # type: ignore[arg-type]
+        except StopIteration:
+            self._task = None
+        except Damaged as damage:
+            self.stop(f"what is kept is damaged: {damage}")
+        except StoreFault as fault:
+            self.stop(str(fault))
+        except (Otherwise, ValueError, IndexError) as fault:
+            self.stop(f"the program replied {fault}")
+
+    def _send_burst(self, link: Link) -> None:
+        """Sends what the task asks, or as much of it as this connection may have."""
+        items = self._burst[self._burst_sent : self._burst_sent + link.left]
+        if items:
+            link.send(b"".join(items))
+            link.left -= len(items)
+            self._burst_sent += len(items)
+
+    def _hear_task(self) -> None:
+        if len(self._heard) > self._burst_sent:
+            raise Otherwise(f"{shown(self._heard[-1])} to nothing")
+        if len(self._heard) == len(self._burst):
+            self._step(self._heard)
+
+    def _put_back(self) -> Task[None]:
+        """Has a new server have all sessions as they are."""
+        self.sessions = Sessions(self._parts.values())
+        for session in self.sessions.by_name.values():
+            yield from put_back(session, partial(self._store.part, self.name))
+        yield from tell_again(self.sessions, self.records, self._seq)
+        self.is_ready = True
+        self._is_near_an_end = self.sessions.are_near_an_end()
+        self._note("ready", user=self.name)
+
+    def _is_due(self) -> bool:
+        """Whether a snapshot is to be taken as soon as nothing is on its way."""
+        if self.number == self._seq and (self._long is None or self._long.left == self._long.left_at_snapshot):
+            return False
+        most = max(self._seconds / SECONDS_OF_BUDGET, len(self.records) / MAX_RECORDS, self._bytes / MAX_RECORD_BYTES)
+        return (most >= 1 or self._is_wanted) and (most >= BUDGETS_TO_WAIT or not self.sessions.have_pending())
+
+    def _take_snapshot(self) -> Task[None]:
+        """Reads what has changed, and has it written in place of the records since the snapshot before."""
+        changed = yield from read_all(self.sessions, self._seq)
+        ids = self.sessions.ids()
+        self._parts.update((part.id, part._replace(symbols=b"", frames=b"")) for part in changed)
+        self._parts = {id: self._parts[id] for id in sorted(ids)}
+        running = self._long.item(self._long.left).raw if self._long is not None else b""
+        self._snapshot = Snapshot(self.number, changed, ids, running)
+        if self._long is not None:
+            self._long.left_at_snapshot = self._long.left
+        self._seq, self.records, self._written = self.number, [], []
+        self._seconds, self._bytes, self._is_wanted = 0.0, 0, False
+        self._is_near_an_end = self.sessions.are_near_an_end()
+
+    def settle(self) -> None:
+        """Takes no more items, and a snapshot as soon as nothing is on its way."""
+        self.is_settling = self._is_wanted = True
+        self.go_on()
+
+    def is_settled(self) -> bool:
+        """Whether a server may end without that anything is lost but time."""
+        return bool(self.stopped) or self.link is None or self._is_quiet() and not self._is_due()
+
     def known(self) -> Dict[str, object]:
         """What the status has of it."""
-        state = "stopped" if self.stopped else "ready" if self.is_ready else "waits for its replay"
-        return {"state": state, "why": self.stopped or None, "records": self.records}
+        state = "stopped" if self.stopped else "ready" if self.is_ready else "is put back"
+        return {"state": state, "why": self.stopped or None, "records": len(self.records)}
 
     def is_busy(self) -> bool:
         """Whether something of it is being written."""

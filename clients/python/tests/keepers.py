@@ -9,12 +9,12 @@ from support import DIMER, PROGRAM, SECONDS, TOP
 
 sys.path += [str(TOP / "bench"), str(TOP / "tools")]
 from keep_trials import keeper  # noqa: E402
-from keep_trials.keeper import TOKEN, USUAL, until  # noqa: E402
+from keep_trials.keeper import TOKEN, USUAL, patched, until  # noqa: E402
 
 LOAD = f"LOAD a 256 1 131072 rest {len(DIMER)}\n{DIMER}".encode()
 LOADED = b"OK LOAD a 0 2\n"
 HELLO = b"OK HELLO ann\n"
-__all__ = ["HELLO", "LOAD", "LOADED", "TOKEN", "TOP", "USUAL", "Keeper", "first_line", "until"]
+__all__ = ["HELLO", "LOAD", "LOADED", "TOKEN", "TOP", "USUAL", "Keeper", "first_line", "patched", "until"]
 
 
 class Keeper(keeper.Keeper):
@@ -37,6 +37,12 @@ class Keeper(keeper.Keeper):
         """Number, item and reply of each record of a user."""
         with contextlib.closing(sqlite3.connect(self.folder / "kept.sqlite")) as base:
             return base.execute("select seq, item, reply from record where name = ? order by seq", (name,)).fetchall()
+
+    def running(self, name: str) -> bytes:
+        """What is left of an ADVANCE of a user, as it is kept."""
+        with contextlib.closing(sqlite3.connect(self.folder / "kept.sqlite")) as base:
+            (found,) = base.execute("select running from snapshot where name = ?", (name,)).fetchone() or (b"",)
+            return bytes(found)
 
     def change(self, words: str, *values: Any) -> None:
         """Changes what is kept, as no program does it."""

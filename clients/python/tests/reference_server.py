@@ -1,6 +1,7 @@
 """The reference of conformance/ as a server, with something in it replaced: a program that answers otherwise.
 
 usage: reference_server.py BEFORE AFTER serve --listen HOST:PORT --users FILE ..
+       reference_server.py BEFORE AFTER run
        reference_server.py BEFORE AFTER --version
 """
 import pathlib
@@ -20,6 +21,9 @@ assert before in text
 reference = types.ModuleType("reference")
 sys.modules["reference"] = reference
 exec(compile(text.replace(before, after) if before else text, str(REFERENCE), "exec"), reference.__dict__)
+if words == ["run"]:
+    sys.stdout.buffer.writelines(reference.replies_to(sys.stdin.buffer, reference.User((8, 16384, 16))))
+    sys.exit()
 
 
 def option(name: Any) -> Any:

@@ -14,7 +14,7 @@ from support import DIMER, SECONDS, TOKEN, TOP, joined, peer, read_line, says, s
 from terminals import PROMPT, Terminal, environment
 
 sys.path.append(str(TOP / "tools"))
-from keeping import script  # noqa: E402
+from keeping import sessions  # noqa: E402
 
 # What sets the title of a terminal; what it answers by keys that are typed by nobody begins alike.
 TITLE = b"\x1b]0;owned\x07"
@@ -184,7 +184,7 @@ def test_commands_of_messages_are_printable() -> None:
 
 
 def test_a_reply_that_a_kept_server_cannot_give_is_shown() -> None:
-    assert script.shown(b"OK " + TITLE + b"\x9b31m\r\nmore\n") == r"OK \x1b]0;owned\x07\x9b31m\x0d"
+    assert sessions.shown(b"OK " + TITLE + b"\x9b31m\r\nmore\n") == r"OK \x1b]0;owned\x07\x9b31m\x0d"
 
 
 def test_the_small_client_prints_no_such_bytes(tmp_path: pathlib.Path) -> None:

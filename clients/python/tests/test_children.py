@@ -116,7 +116,7 @@ def test_the_server_that_is_kept(program: Program, tmp_path: pathlib.Path) -> No
     words = server.Words([str(program.path), "serve", "--users", "users"])
 
     async def begun() -> None:
-        assert await server.version_of(str(program.path)) == ("ljserve 1.1.0",)
+        assert await server.version_of(str(program.path)) == "ljserve 1.1.0"
         assert program.has_no_token()
         program.path.with_suffix(".told").unlink()
         one = await server.begin(words, {"ann": accounts.Account(TOKEN.encode(), "8 16384 16")})

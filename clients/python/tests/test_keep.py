@@ -14,7 +14,7 @@ from typing import Any, Iterator, List, Tuple
 
 import pytest
 
-from keepers import HELLO, LOAD, LOADED, TOKEN, USUAL, Keeper, first_line, until
+from keepers import HELLO, LOAD, LOADED, TOKEN, USUAL, Keeper, first_line, patched, until
 from support import PROGRAM, SECONDS, TOP, dimer
 from test_watch import reset
 
@@ -64,12 +64,6 @@ def test_what_is_in_flight_is_done_once(tmp_path: pathlib.Path) -> None:
         assert [first_line(stream) for _ in range(5)] == [
             b"OK REVERSE a 500\n", b"OK ADVANCE a 0\n", b"OK REVERSE a 1\n", b"OK ADVANCE a 2\n", SHOWN
         ]  # fmt: skip
-
-
-def patched(words: Any) -> List[Any]:
-    """The tool after some words of Python."""
-    run = f"import runpy, sys; sys.path.insert(0, {str(TOP / 'tools')!r})\n{words}\n"
-    return [sys.executable, "-c", f"{run}runpy.run_path({str(TOP / 'tools' / 'keep')!r}, None, '__main__')"]
 
 
 # A front whose store waits for a file when it writes, and one that waits for it when it has written things on the disk.
@@ -147,9 +141,10 @@ def test_a_server_lets_nobody_in_but_through_the_front(tmp_path: pathlib.Path) -
 
 
 def test_a_changed_record_stops_its_user_alone(tmp_path: pathlib.Path) -> None:
-    with Keeper(tmp_path, users=("ann", "ben")) as keeper:
-        for name in ("ann", "ben"):
-            keeper.told(LOAD + b"ADVANCE a 1\n", name)
+    with Keeper(tmp_path, users=("ann", "ben")) as keeper, keeper.raw("ann") as ann, keeper.raw("ben") as ben:
+        for stream in (ann, ben):
+            stream.sendall(LOAD + b"ADVANCE a 1\n")
+            assert [first_line(stream) for _ in range(3)][-1] == b"OK ADVANCE a 1\n"
         keeper.kill()
         keeper.change("update record set item = ? where name = 'ann' and seq = 1", LOAD.replace(b"1.5", b"1.4"))
         keeper.begin()
@@ -171,7 +166,7 @@ def test_a_quota_that_was_lowered_stops_its_user_alone_until_it_is_raised(tmp_pa
         b = dimer(ben)
         keeper.put_users({"ann": (1, 1, 1), "ben": USUAL})
         keeper.child.send_signal(signal.SIGHUP)
-        assert keeper.stopped("ann") == "the program replied ERR 21 QUOTA_ATOMS in place of OK LOAD a 0 2, when told again"
+        assert keeper.stopped("ann").startswith("the program replied ERR 21 QUOTA_ATOMS to LOAD a 256000000000e-9 ")
         assert keeper.told(b"", "ann") == DENIED
         b.advance(2)
         assert b.place(0) == (1774, 0, 0)
@@ -218,30 +213,25 @@ def wrapped(path: Any, before: Any, after: Any) -> str:
     return str(path)
 
 
-# What another program does otherwise: it pushes twice as hard, or gives another number to the second step.
-OTHERWISE = {
-    "a changed push": ("PUSHES = [", "PUSHES = [2 * ", "MEASURE"),
-    "another reply": ('    return f"{target}"', '    return f"{target + (target == 2)}"', "START"),
-}
-
-
-@pytest.mark.parametrize("before, after, verb", OTHERWISE.values(), ids=OTHERWISE)
-def test_a_program_that_answers_otherwise_stops_who_has_a_session(tmp_path: pathlib.Path, before: Any, after: Any, verb: Any) -> None:
+def test_a_program_that_computes_otherwise_is_not_begun(tmp_path: pathlib.Path) -> None:
+    """It pushes twice as hard."""
     program = tmp_path / "program"
-    before, after = ("PUSHES = [int_div(24", "PUSHES = [int_div(48") if verb == "MEASURE" else (before, after)
     wrapped(program, "", "")
-    with Keeper(tmp_path, users=("ann", "ben"), program=str(program)) as keeper:
-        assert keeper.told(LOAD + b"ADVANCE a 2\n" + SHOW, "ann") == HELLO + LOADED + b"OK ADVANCE a 2\n" + SHOWN
-        # Each session that has changed is measured when its user is gone.
-        until(lambda: keeper.kept("ann")[-1][1] == b"MEASURE a\n")
-        wrapped(program, before, after)
+    with Keeper(tmp_path, program=str(program)) as keeper, keeper.raw("ann") as stream:
+        stream.sendall(LOAD + b"ADVANCE a 1\n")
+        assert [first_line(stream) for _ in range(3)] == [HELLO, LOADED, b"OK ADVANCE a 1\n"]
+        server = keeper.server()
+        wrapped(program, "PUSHES = [int_div(24", "PUSHES = [int_div(48")
         keeper.child.send_signal(signal.SIGHUP)
-        assert verb in keeper.stopped("ann") and "in place of" in keeper.stopped("ann")
-        assert keeper.told(b"", "ann") == DENIED
-        assert keeper.told(b"LIST\n", "ben") == b"OK HELLO ben\nOK LIST 0\n"
+        (told,) = until(lambda: keeper.events("not begun anew"))
+        assert told["why"] == f"{program} computes otherwise than the program before: begin that one, or another folder"
+        stream.sendall(b"ADVANCE a 1\n" + SHOW)
+        assert (first_line(stream), first_line(stream)) == (b"OK ADVANCE a 2\n", SHOWN)
+        assert keeper.server() == server
+        keeper.kill()
+        keeper.begin()
+        assert until(lambda: keeper.known()["last_end"]) == told["why"]
         wrapped(program, "", "")
-        keeper.child.send_signal(signal.SIGHUP)
-        until(lambda: keeper.known()["users"]["ann"]["state"] == "ready")
         assert keeper.told(SHOW, "ann") == HELLO + SHOWN
 
 
@@ -295,17 +285,60 @@ def test_a_disk_that_is_full_ends_front_and_server_before_anyone_is_told(tmp_pat
         assert now in (step - 1, step)
 
 
-def test_records_are_fewer_when_less_than_half_is_left(tmp_path: pathlib.Path) -> None:
+def test_a_snapshot_is_in_place_of_records_when_a_client_has_left(tmp_path: pathlib.Path) -> None:
     with Keeper(tmp_path) as keeper:
         told = keeper.told(LOAD + b"ADVANCE a 1\nREVERSE a\n" * 700 + b"ADVANCE a 2\n", "ann")
         assert told.endswith(b"OK ADVANCE a 2\n")
-        assert keeper.told(b"ADVANCE a 0\n", "ann") == HELLO + b"OK ADVANCE a 2\n"
-        assert len(keeper.kept("ann")) < 1000 < 1402
+        until(lambda: keeper.kept("ann") == [])
         keeper.killed_server()
         assert keeper.told(SHOW, "ann") == HELLO + SHOWN
         keeper.kill()
         keeper.begin()
         assert keeper.told(SHOW, "ann") == HELLO + SHOWN
+
+
+# A front that takes a snapshot after so many records, and after each moment of computing.
+OFTEN = "import keeping.user; keeping.user.MAX_RECORDS = {}; keeping.user.SECONDS_OF_BUDGET = {}"
+
+
+def test_snapshots_while_a_client_goes_on(tmp_path: pathlib.Path) -> None:
+    items = LOAD + b"TUG a 0 1 0 0\nADVANCE a 1\nBRANCH a k\nREVERSE a\nRESTORE a k\nFORGET a k\nLIST\nDUMP a\n" * 100
+    with Keeper(tmp_path, tool=patched(OFTEN.format(20, 10))) as keeper:
+        told = keeper.told(items, "ann")
+    (tmp_path / "other").mkdir()
+    with Keeper(tmp_path / "other", tool=patched(OFTEN.format(10**9, 10**9))) as other:
+        assert told == other.told(items, "ann") and told.count(b"OK ") == 802
+
+
+@pytest.mark.parametrize("ends", ["server", "both"])
+def test_an_advance_that_takes_long_is_done_in_pieces_with_snapshots_between(tmp_path: pathlib.Path, ends: Any) -> None:
+    """Its client is there when it is done, or another one waits until it is."""
+    slow = f"{OFTEN.format(4000, 0.02)}; import keeping.sessions; keeping.sessions.MAX_PIECE = 100"
+    with Keeper(tmp_path, tool=patched(slow)) as keeper, keeper.raw("ann") as stream:
+        stream.sendall(LOAD + b"ADVANCE a 6000\nREVERSE a\nADVANCE a 5998\nREVERSE a\n")
+        assert [first_line(stream) for _ in range(2)] == [HELLO, LOADED]
+        until(lambda: keeper.running("ann").startswith(b"ADVANCE a "))
+        if ends == "server":
+            keeper.killed_server()
+            assert [first_line(stream) for _ in range(2)] == [b"OK ADVANCE a 6000\n", b"OK REVERSE a 5999\n"]
+            assert [first_line(stream) for _ in range(2)] == [b"OK ADVANCE a 1\n", b"OK REVERSE a 2\n"]
+            stream.sendall(SHOW)
+            assert first_line(stream) == SHOWN
+        else:
+            keeper.kill()
+            keeper.begin()
+            told = HELLO + b"OK LIST 1\na 6000 2 0\nOK REVERSE a 5999\nOK ADVANCE a 1\nOK REVERSE a 2\n" + SHOWN
+            assert keeper.told(b"LIST\nREVERSE a\nADVANCE a 5998\nREVERSE a\n" + SHOW, "ann") == told
+
+
+def test_term_takes_a_snapshot_of_what_was_taken(tmp_path: pathlib.Path) -> None:
+    with Keeper(tmp_path) as keeper, keeper.raw("ann") as stream:
+        stream.sendall(LOAD + b"ADVANCE a 2\n")
+        assert [first_line(stream) for _ in range(3)] == [HELLO, LOADED, b"OK ADVANCE a 2\n"]
+        assert keeper.end() == 0 and first_line(stream) == b""
+        assert keeper.kept("ann") == []
+        keeper.begin()
+        assert keeper.told(b"LIST\n" + SHOW, "ann") == HELLO + b"OK LIST 1\na 2 2 0\n" + SHOWN
 
 
 def test_other_connections_of_a_user_wait_at_the_front(tmp_path: pathlib.Path) -> None:

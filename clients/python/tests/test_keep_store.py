@@ -17,13 +17,25 @@ from support import SECONDS, TOP
 sys.path.append(str(TOP / "tools"))
 from keeping.items import Told  # noqa: E402
 from keeping.journal import take_over_all, whole_records  # noqa: E402
-from keeping.store import FILE, Change, Damaged, SqliteStore, StoreFault  # noqa: E402
+from keeping.store import FILE, Change, Damaged, Kept, Part, Snapshot, SqliteStore, StoreFault  # noqa: E402
 
 RECORDS = [
     Told(b"LOAD a 256 1 1 rest 12\n1\nc\nX 0 0 \xff\n", b"OK LOAD a 0 1\n"),
     Told(b"REVERSE a\n", b"OK REVERSE a -1\n"),
     Told(b"TUG a 0 1 0 0\n", b"OK TUG a 0 -1\n"),
 ]
+
+
+PARTS = [
+    Part(1, 0, b"LOAD a 256000000000e-9 1000000000e-9 1 pair", -7, 1, b"1 0 0 0 0 0", b"X", bytes(range(24))),
+    Part(3, 1, b"k", 5, -1, frames=bytes(24)),
+    Part(4, 0, b"LOAD b 256000000000e-9 1000000000e-9 1 pair", 2, 1, b"1 0 0 0 0 0", b"\xff", bytes(24)),
+]
+SNAPSHOT = Change("ann", RECORDS[1:], Snapshot(9, PARTS, [1, 3, 4]))
+
+
+def heads(parts: Any) -> List[Any]:
+    return [part._replace(symbols=b"", frames=b"") for part in parts]
 
 
 @pytest.fixture(params=[True, False], ids=["group", "second"])
@@ -33,7 +45,7 @@ def store(request: Any, tmp_path: pathlib.Path) -> Iterator[Any]:
 
 
 def written(store: Any, name: str = "ann", records: Any = RECORDS) -> None:
-    assert store.read(name) == []
+    assert store.read(name) == Kept(0, [], [])
     for record in records:
         store.write([Change(name, [record])])
 
@@ -41,7 +53,12 @@ def written(store: Any, name: str = "ann", records: Any = RECORDS) -> None:
 def again(folder: Any, name: str = "ann") -> Any:
     """What another one reads of a user."""
     with contextlib.closing(SqliteStore(folder)) as other:
-        return other.read(name)
+        return other.read(name).records
+
+
+def whole(folder: Any, name: str = "ann") -> Any:
+    with contextlib.closing(SqliteStore(folder)) as other:
+        return other.read_whole(name)
 
 
 def change(folder: Any, words: str, *values: Any) -> None:
@@ -57,10 +74,39 @@ def test_what_was_written_is_read(store: Any, tmp_path: pathlib.Path) -> None:
     assert store._base.execute("pragma synchronous").fetchone() == (1 if store._wal else 2,)
 
 
-def test_records_in_place_of_all(store: Any, tmp_path: pathlib.Path) -> None:
+def test_a_snapshot_is_in_place_of_the_records_that_it_counts_for(store: Any, tmp_path: pathlib.Path) -> None:
     written(store)
-    store.write([Change("ann", RECORDS[1:], in_place=True), Change("ann", RECORDS[:1])])
-    assert again(tmp_path) == [*RECORDS[1:], RECORDS[0]]
+    written(store, "ben")
+    store.write([SNAPSHOT])
+    assert store.read("ann") == Kept(9, heads(PARTS), RECORDS[1:]) and whole(tmp_path) == Kept(9, PARTS, RECORDS[1:])
+    assert store.part("ann", 3) == PARTS[1] and again(tmp_path, "ben") == RECORDS
+    # What is left, with one part anew.
+    anew = PARTS[0]._replace(step=8, frames=bytes(24))
+    store.write([Change("ann", RECORDS[:1], Snapshot(11, [anew], [1, 3]))])
+    assert whole(tmp_path) == Kept(11, [anew, PARTS[1]], RECORDS[:1])
+    store.write([Change("ann", (), Snapshot(12, [], []))])
+    assert whole(tmp_path) == Kept(12, [], []) and store.names() == ["ann", "ben"]
+
+
+PART_CHANGES = {
+    "places": ("update part set frames = zeroblob(24) where id = 1", "what record 1 made was changed"),
+    "a step": ("update part set step = 6 where id = 3", "what record 3 made was changed"),
+    "a symbol": ("update part set symbols = 'Y' where id = 4", "what record 4 made was changed"),
+    "a part that is missing": ("delete from part where id = 3", "its snapshot was changed"),
+    "a snapshot that is missing": ("delete from snapshot where seq = 9", "its snapshot was changed"),
+    "the number of a snapshot": ("update snapshot set seq = 8", "its snapshot was changed"),
+    "a record behind it": ("delete from record where seq = 10", "record 10 was changed or is missing"),
+}
+
+
+@pytest.mark.parametrize("words, why", PART_CHANGES.values(), ids=PART_CHANGES)
+def test_each_change_of_a_snapshot_is_damage(tmp_path: pathlib.Path, words: Any, why: Any) -> None:
+    with contextlib.closing(SqliteStore(tmp_path)) as store:
+        store.read("ann")
+        store.write([SNAPSHOT])
+    change(tmp_path, words)
+    with pytest.raises(Damaged, match=why):
+        whole(tmp_path)
 
 
 def test_changes_are_written_all_or_none(store: Any, tmp_path: pathlib.Path) -> None:
@@ -68,7 +114,7 @@ def test_changes_are_written_all_or_none(store: Any, tmp_path: pathlib.Path) -> 
     store.read("ben")
     wrong: Any = ("no bytes", None)
     with pytest.raises(Exception):
-        store.write([Change("ann", RECORDS[:1]), Change("ben", [wrong])])
+        store.write([Change("ann", RECORDS[:1], SNAPSHOT.snapshot), Change("ben", [wrong])])
     assert again(tmp_path) == RECORDS
     store.write([Change("ann", RECORDS[:1]), Change("ben", RECORDS)])
     assert again(tmp_path) == [*RECORDS, RECORDS[0]] and again(tmp_path, "ben") == RECORDS
@@ -128,7 +174,7 @@ def test_a_file_that_is_no_store(tmp_path: pathlib.Path) -> None:
     SqliteStore(tmp_path).close()
     with contextlib.closing(sqlite3.connect(tmp_path / FILE)) as base:
         base.execute("pragma user_version=9")
-    with pytest.raises(StoreFault, match="has format 9, and this program has 1"):
+    with pytest.raises(StoreFault, match="has format 9, and this program has 2"):
         SqliteStore(tmp_path)
 
 
@@ -175,7 +221,7 @@ def test_journals_are_taken_over_once_and_moved(store: Any, tmp_path: pathlib.Pa
     (tmp_path / "ann.journal").write_bytes(journal("ann", RECORDS))
     (tmp_path / "ben.journal").write_bytes(journal("ben", RECORDS).replace(b"REVERSE", b"REVERSF"))
     assert take_over_all(tmp_path, store, lambda *words: refused.append(words)) == ["ann"]
-    assert store.read("ann") == RECORDS and store.read("ben") == []
+    assert again(tmp_path) == RECORDS and again(tmp_path, "ben") == []
     assert refused == [("ben", "its journal is damaged: the record at byte 106 was changed")]
     assert sorted(os.listdir(tmp_path / "before")) == ["ann.journal"] and (tmp_path / "ben.journal").exists()
     # As where the move was broken off, and as where another journal was put there.
@@ -184,7 +230,7 @@ def test_journals_are_taken_over_once_and_moved(store: Any, tmp_path: pathlib.Pa
     assert take_over_all(tmp_path, store, lambda *words: refused.append(words)) == ["ann"]
     (tmp_path / "ann.journal").write_bytes(journal("ann", RECORDS[:1]))
     assert take_over_all(tmp_path, store, lambda *words: refused.append(words)) == []
-    assert "the store has other records" in refused[-1][1] and store.read("ann") == RECORDS
+    assert "the store has other records" in refused[-1][1] and again(tmp_path) == RECORDS
 
 
 # What an operator does.
@@ -231,27 +277,46 @@ def test_a_repair_says_what_goes_and_cuts_there(folder: Any) -> None:
     assert keep(folder, "--repair", "ann").stdout == "ann: nothing is damaged. What stays: 1 records\n"
 
 
+def test_a_repair_of_a_snapshot(folder: Any) -> None:
+    """A session that was changed goes, with its branches and with all that was done since."""
+    with contextlib.closing(SqliteStore(folder)) as store:
+        store.read("ann")
+        store.write([SNAPSHOT])
+    change(folder, "update part set frames = zeroblob(24) where id = 1")
+    done = keep(folder, "--repair", "ann")
+    assert (done.returncode, done.stdout) == (
+        0,
+        "ann: 1 sessions and branches stay, and 2 go: those of records [1, 3]\n"
+        "ann: nothing else is damaged. What stays: 0 records\n"
+        "  goes: REVERSE a: OK REVERSE a -1\n  goes: TUG a 0 1 0 0: OK TUG a 0 -1\n",
+    )
+    assert whole(folder) == Kept(11, PARTS[2:], []) and again(folder, "ben") == RECORDS[:1]
+
+
 def test_a_repair_of_a_journal_of_before(folder: Any) -> None:
     (folder / "cleo.journal").write_bytes(journal("cleo", RECORDS).replace(b"OK TUG", b"OK TUX"))
     assert keep(folder, "--repair", "cleo").stdout.endswith("was changed. What stays: 2 records\n")
     assert again(folder, "cleo") == RECORDS[:2] and not (folder / "cleo.journal").exists()
 
 
-def test_a_user_moves_to_another_store(folder: Any, tmp_path: pathlib.Path) -> None:
-    file = tmp_path / "ann.json"
-    done = keep(folder, "--export", "ann")
+@pytest.mark.parametrize("has_snapshot", [False, True])
+def test_a_user_moves_to_another_store(folder: Any, tmp_path: pathlib.Path, has_snapshot: Any) -> None:
+    with contextlib.closing(SqliteStore(folder)) as store:
+        store.read("ann")
+        store.write([SNAPSHOT] if has_snapshot else [])
+        done = keep(folder, "--export", "ann")
     assert done.returncode == 0
+    file, other = tmp_path / "ann.json", tmp_path / "other"
     file.write_text(done.stdout)
-    other = tmp_path / "other"
-    assert keep(other, "--import-user", file).stdout == f"{other} has 3 records of ann now\n"
-    assert again(other) == RECORDS
+    assert keep(other, "--import-user", file).stdout == f"{other} has ann now\n"
+    assert whole(other) == whole(folder)
     assert keep(other, "--export", "ann").stdout == done.stdout
     assert keep(other, "--import-user", file).stderr == f"keep: {other} has something of ann already\n"
 
 
 FILES = {
     "changed": lambda text: text.replace("REVERSE a", "REVERSE b"),
-    "of another format": lambda text: text.replace("user 1", "user 2"),
+    "of another format": lambda text: text.replace("user 2", "user 3"),
     "of another user": lambda text: text.replace('"ann"', '"bob"'),
 }
 
@@ -261,7 +326,7 @@ def test_a_file_that_is_not_what_was_printed(folder: Any, tmp_path: pathlib.Path
     file = tmp_path / "ann.json"
     file.write_text(changed(keep(folder, "--export", "ann").stdout))
     done = keep(tmp_path / "other", "--import-user", file)
-    assert (done.returncode, done.stderr) == (1, f"keep: {file} was changed, or is of another format than 'ljserve user 1'\n")
+    assert (done.returncode, done.stderr) == (1, f"keep: {file} was changed, or is of another format than 'ljserve user 2'\n")
     file.write_text("{}")
     assert "is not what --export prints" in keep(tmp_path / "other", "--import-user", file).stderr
     assert not (tmp_path / "other").exists()

@@ -16,9 +16,10 @@ from playing import stored  # noqa: E402
 LONGEST = 20_000
 
 
+@pytest.mark.parametrize("is_often", [False, True], ids=["few snapshots", "many"])
 @pytest.mark.parametrize("kind", KINDS)
-def test_a_few_kills(kind: Any) -> None:
-    done = kill(PROGRAM, kind, 3, f"a few {kind}")
+def test_a_few_kills(kind: Any, is_often: Any) -> None:
+    done = kill(PROGRAM, kind, 3, f"a few {kind}", is_often=is_often)
     assert min(done.values()) > 8
 
 

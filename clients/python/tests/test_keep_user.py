@@ -1,4 +1,5 @@
 """What one user of `tools/keep` does at each event, with ends and a writer that only note what is asked of them."""
+import io
 import pathlib
 import sys
 from typing import Any, List
@@ -8,12 +9,14 @@ import pytest
 from keepers import HELLO, LOAD, LOADED, TOKEN
 from support import TOP
 
-sys.path.append(str(TOP / "tools"))
+sys.path += [str(TOP / "tools"), str(TOP / "conformance")]
 from keeping.accounts import accounts_at, server_text, user_of  # noqa: E402
-from keeping.items import ItemReader  # noqa: E402
-from keeping.script import Script  # noqa: E402
+from keeping.items import ItemReader, ReplyReader  # noqa: E402
+from keeping.store import Kept  # noqa: E402
 from keeping.server import Words  # noqa: E402
 from keeping.user import MAX_SENT, User  # noqa: E402
+from reference import User as Reference  # noqa: E402
+from reference import replies_to  # noqa: E402
 from user_files import Fault  # noqa: E402
 
 
@@ -88,7 +91,8 @@ class Writer:
 def user() -> Any:
     renewed: List[Any] = []
     writer: Any = Writer()
-    user: Any = User("ann", Script(), 0, writer, lambda *_, **known: renewed.append(known), renewed.append)
+    store: Any = None
+    user: Any = User("ann", Kept(0, [], []), store, writer, lambda *_, **known: renewed.append(known), renewed.append)
     user.writer, user.noted = user._writer, renewed
     return user
 
@@ -130,12 +134,13 @@ def test_a_new_server_is_told_what_was_kept_and_then_what_was_not_replied(user: 
     user.lose_link()
     link = Link()
     user.begin(link, True)
+    assert link.sent == b""
+    user.writer.done()
     assert link.sent == LOAD + b"START a 2\n"
     user.hear([LOADED])
     assert link.sent == LOAD + b"START a 2\n"
     user.hear([b"OK START a 2\n"])
     assert link.sent == LOAD + b"START a 2\nREVERSE a\nLIST\n"
-    user.writer.done()
     assert client.told == HELLO + LOADED + b"OK ADVANCE a 2\n"
 
 
@@ -144,6 +149,7 @@ def test_a_reply_of_the_replay_that_is_another_stops_the_user(user: Any) -> None
     let_in(user, client)
     user.enter(other)
     user.hear([LOADED])
+    user.writer.done()
     user.lose_link()
     user.begin(Link(), True)
     user.hear([b"OK LOAD a 0 3\n"])
@@ -154,27 +160,84 @@ def test_a_reply_of_the_replay_that_is_another_stops_the_user(user: Any) -> None
     assert late.is_over == "denied"
 
 
-def test_one_client_after_the_other_with_a_measure_between(user: Any) -> None:
-    first, second = Client(LOAD, has_sent_all=True), Client(b"LIST\n")
-    link = let_in(user, first)
+def answer(user: Any, link: Any, server: Any) -> Any:
+    """Has a server answer what was sent, and what is sent for that, until nothing is. Returns what was sent."""
+    everything = b""
+    while link.sent:
+        sent, link.sent = link.sent, b""
+        everything += sent
+        user.hear(ReplyReader().feed(b"".join(replies_to(io.BytesIO(sent), server))))
+    return everything
+
+
+def test_one_client_after_the_other_with_a_snapshot_between(user: Any) -> None:
+    first, second = Client(LOAD + b"ADVANCE a 2\nBRANCH a k\nADVANCE a 1\n", has_sent_all=True), Client(b"LIST\n")
+    link, server = let_in(user, first), Reference((8, 16384, 16))
     user.enter(second)
-    user.hear([LOADED])
-    assert (first.is_over, second.told) == ("", b"")
-    user.writer.done()
+    answer(user, link, server)
+    assert (first.is_over, second.told) == ("", b"") and len(user.records) == 4
+    assert [each.item for each in user.writer.done().records] == [LOAD, b"ADVANCE a 2\n", b"BRANCH a k\n", b"ADVANCE a 1\n"]
     assert (first.is_over, second.told) == ("finished", b"")
-    assert link.sent == LOAD + b"MEASURE a\n"
-    user.hear([b"OK MEASURE a 0 2 0 0 0 0 -5349132\n"])
-    assert second.told == b""
+    assert answer(user, link, server).startswith(b"DUMP a\nMEASURE a\nSHOW a 0\nSHOW a 1\nREVERSE a\n") and second.told == b""
+    change = user.writer.done()
+    assert not change.records and (change.snapshot.seq, change.snapshot.ids, user.records) == (4, [1, 3], [])
+    assert [(part.id, part.session, part.step) for part in change.snapshot.parts] == [(1, 0, 3), (3, 1, 2)]
+    assert second.told == HELLO and link.sent == b"LIST\n"
+    answer(user, link, server)
+    # At a new server steps are others, and those that are told are the same.
+    user._store = Store(change.snapshot.parts)
+    user.lose_link()
+    link, server = Link(), Reference((8, 16384, 16))
+    user.begin(link, True)
+    second.reader.feed(b"SHOW a 0\nRESTORE a k\nSHOW a 0\nLIST\nLIST a\n")
+    answer(user, link, server)
     user.writer.done()
-    assert second.told == HELLO and link.sent.endswith(b"MEASURE a\nLIST\n")
+    told = b"OK LIST 1\na 3 2 1\nOK SHOW a 3 0 3555 0 0\nOK RESTORE a k 2\nOK SHOW a 2 0 1774 0 0\nOK LIST 1\na 2 2 1\nOK LIST a 1\nk 2\n"
+    assert second.told == HELLO + told
+    assert [each.sim.step for each in server.sessions.values()] == [0]
 
 
-def test_what_has_pending_steps_is_not_measured(user: Any) -> None:
+class Store:
+    """A store of some parts."""
+
+    def __init__(self, parts: Any) -> None:
+        self.part = lambda _, id: next(part for part in parts if part.id == id)
+
+
+def test_a_snapshot_waits_for_pending_steps(user: Any) -> None:
     first = Client(LOAD + b"START a 9\n", has_sent_all=True)
     link = let_in(user, first)
     user.hear([LOADED, b"OK START a 9\n"])
     user.writer.done()
     assert first.is_over == "finished" and link.sent == LOAD + b"START a 9\n"
+
+
+def test_a_snapshot_is_taken_when_there_are_many_records_or_much_was_computed(user: Any, monkeypatch: pytest.MonkeyPatch) -> None:
+    monkeypatch.setattr("keeping.user.MAX_RECORDS", 100)
+    client, server = Client(LOAD + b"TUG a 0 1 0 0\n" * 98), Reference((8, 16384, 16))
+    link = let_in(user, client)
+    assert answer(user, link, server).count(b"DUMP a\n") == 0 and len(user.records) == 99
+    client.reader.feed(b"TUG a 0 1 0 0\nTUG a 0 2 0 0\n")
+    user.go_on()
+    assert answer(user, link, server).count(b"DUMP a\n") == 1 and user.records == []
+    assert len(user.writer.done().records) == 99 and user.writer.done().snapshot.seq == 101
+    user._seconds = 99.0
+    client.reader.feed(b"TUG a 0 1 0 0\n")
+    user.go_on()
+    assert answer(user, link, server).endswith(b"REVERSE a\n") and user.records == []
+
+
+def test_a_server_that_ends_within_a_snapshot_has_taken_none(user: Any) -> None:
+    first = Client(LOAD + b"ADVANCE a 2\n", has_sent_all=True)
+    link, server = let_in(user, first), Reference((8, 16384, 16))
+    answer(user, link, server)
+    user.writer.done()
+    assert link.sent == b"DUMP a\n"
+    user.hear([b"OK DUMP a 2 4\n2\nstep 2\nAr 0.000105 0.000000 0.000000\nAr 1.499894 0.000000 0.000000\n"])
+    user.lose_link()
+    link = Link()
+    user.begin(link, True)
+    assert link.sent == LOAD + b"START a 2\n" and not user.writer.given
 
 
 def test_what_ends_a_connection_is_replied_behind_all_else(user: Any) -> None:
@@ -213,15 +276,6 @@ def test_another_connection_to_the_server_is_asked_for_when_one_is_used_up(user:
     another = Link()
     user.begin(another, False)
     assert another.sent == b"LIST\n"
-
-
-def test_what_comes_to_less_than_half_is_written_in_place_of_all(user: Any) -> None:
-    let_in(user, Client(LOAD + b"TUG a 0 1 0 0\n" * 999))
-    user.hear([LOADED] + [b"OK TUG a 0 0\n"] * 998)
-    assert not user.writer.done().in_place
-    user.hear([b"OK TUG a 0 0\n"])
-    change = user.writer.done()
-    assert change.in_place and [each.item for each in change.records] == [LOAD, b"TUG a 0 999 0 0\n"] and user.records == 2
 
 
 def test_who_is_a_user(tmp_path: pathlib.Path) -> None:
