@@ -2,12 +2,13 @@
 import hmac
 import pathlib
 import secrets
-from typing import Dict, NamedTuple, Optional
+from typing import Dict, NamedTuple, Optional, Tuple
 
 from keeping.items import MAX_LINE, words_of
 from user_files import rows_of
 
 DENIED = b"ERR 01 DENIED\n"
+MAX_USERS = 64
 
 
 class Account(NamedTuple):
@@ -31,6 +32,12 @@ def user_of(line: bytes, accounts: Accounts) -> Optional[str]:
     name = words[1].decode(errors="replace")
     token = accounts[name].token if name in accounts else b""
     return name if hmac.compare_digest(token, words[2]) and token else None
+
+
+def with_watcher(accounts: Accounts) -> Tuple[Accounts, str]:
+    """The users of a server, with one by which it is asked whether it answers, if there is room for that, and its name."""
+    name = next(name for name in map("watcher{}".format, range(MAX_USERS + 1)) if name not in accounts)
+    return ({**accounts, name: Account(b"", "0 0 0")}, name) if len(accounts) < MAX_USERS else (accounts, "")
 
 
 def new_tokens(accounts: Accounts) -> Dict[str, str]:

@@ -5,7 +5,7 @@ import asyncio
 from typing import TYPE_CHECKING, Optional
 
 from keeping.accounts import DENIED
-from keeping.items import MAX_BODY, MAX_ITEMS, MAX_LINE, Item, ItemReader, ReplyReader
+from keeping.items import MAX_BODY, MAX_ITEMS, MAX_LINE, Item, ItemReader, ReplyReader, words_of
 from proxy_header import NotWhole, source_of_bytes
 from watching import prepare, written
 
@@ -15,6 +15,9 @@ if TYPE_CHECKING:
 
 SECONDS_FOR_HELLO = 30.0
 SECONDS_AFTER_END = 1.0
+SECONDS_TO_READ = 10.0
+# What a check of the front sends, which is denied, or closed without a byte where no server answers.
+CHECK = (b"HELLO", b"-", b"-")
 MAX_BYTES_WAITING = MAX_BODY + MAX_LINE + 1
 
 
@@ -70,8 +73,11 @@ class Client(asyncio.Protocol):
         self._timer.cancel()
         self.seen.hear_client(line + b"\n")
         self.user = self._front.user_of(line) if end else None
-        if self.user is None:
+        if self.user is None and words_of(line) == CHECK and not self._front.is_well():
+            self.abort()
+        elif self.user is None:
             self.deny()
+        if self.user is None:
             return
         self._first = b""
         self._hear(rest)
@@ -153,10 +159,12 @@ class Client(asyncio.Protocol):
         self.finish()
 
     def finish(self) -> None:
-        """Ends the connection behind what was told. What is still sent is read for a second, so that the last reply is not lost."""
+        """Ends the connection behind what was told, or without what is not read in ten seconds. What is still sent is read for a
+        second, so that the last reply is not lost."""
         if self._is_lost or self._is_over:
             return
         self._is_over = True
+        asyncio.get_running_loop().call_later(SECONDS_TO_READ, self._transport.abort)
         if self._has_sent_all:
             self._transport.close()
             return
@@ -178,7 +186,7 @@ class Link(asyncio.Protocol):
     most_items = MAX_ITEMS - 1
 
     def __init__(self, user: User, token: str, is_new: bool, front: Front):
-        self.user, self._is_new, self._front = user, is_new, front
+        self.user, self.is_new, self._front = user, is_new, front
         self.left = self.most_items
         self._hello = f"HELLO {user.name} {token}\n".encode()
         self._reader = ReplyReader()
@@ -201,15 +209,15 @@ class Link(asyncio.Protocol):
 
     def _begin(self, reply: bytes) -> None:
         if reply != b"OK HELLO %s\n" % self.user.name.encode():
-            self._front.link_is_lost(self)
+            self._front.link_is_lost(self, False)
             return
         self._is_in = True
-        self.user.begin(self, self._is_new)
+        self.user.begin(self, self.is_new)
 
     def connection_lost(self, error: Optional[Exception]) -> None:
         if not self._is_closed:
             self._is_closed = True
-            self._front.link_is_lost(self)
+            self._front.link_is_lost(self, not self._is_in)
 
     def send(self, items: bytes) -> None:
         self._transport.write(items)

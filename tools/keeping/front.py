@@ -1,5 +1,6 @@
 """A front: it owns a server, keeps what its users do, and begins another server when one has ended."""
 import asyncio
+import contextlib
 import json
 import os
 import pathlib
@@ -17,12 +18,14 @@ from keeping.store import Damaged, SqliteStore
 from keeping.user import User
 from keeping.writer import Writer
 from user_files import Fault
-from watching import Board, Connection
+from watching import Board, Connection, written
 
 MAX_OPEN = 1000
 SECONDS_BETWEEN_TRIES = 0.01
 SECONDS_OF_A_START = 1.0
 SECONDS_TO_SETTLE = 10.0
+# The server is asked once a second, is not well without an answer for so long, and then is ended.
+SECONDS_BETWEEN_QUESTIONS, SECONDS_TO_ANSWER, SECONDS_TO_END = 1.0, 3.0, 10.0
 VERSION, TRIAL = "version", "trial"
 # The status of a server whose words or users are none.
 BAD_WORDS = 2
@@ -56,17 +59,20 @@ class Front:
         self._server: Optional[Server] = None
         self._is_ending = asyncio.Event()
         self._status = 0
+        self._answered = 0.0
         self._known = {"since": time.time(), "process": os.getpid(), "begun": 0, "last_end": "", "end": ""}
+        self._known |= {"at": written(options.listener.getsockname()), "has_header": options.has_header}
         self._take_users(accounts_at(pathlib.Path(options.words.users)))
 
     # Users.
 
     def _take_users(self, accounts: Accounts) -> None:
         """Has these users in place of those there were. Who was stopped is tried again."""
-        self._refused = {}
-        self._accounts = accounts
+        before, self._accounts, self._refused = self._accounts, accounts, {}
         for user in [*self._users.values()]:
             self._give_up(user)
+            if user.name in accounts and before[user.name].token != accounts[user.name].token:
+                user.abort_clients()
         for name in take_over_all(self._folder.path, self._store, self._refuse):
             self._note("journal taken over", user=name)
         for name in [each for each in accounts if each not in self._users and each not in self._refused]:
@@ -179,13 +185,34 @@ class Front:
         self._known["begun"] = int(str(self._known["begun"])) + 1
         self._note("server begun", process=server.process.pid)
         connections = [self._connect(user, True) for user in self._users.values() if not user.stopped]
-        others = asyncio.gather(self._note_version(), *connections, return_exceptions=True)
+        others = asyncio.gather(self._note_version(), self._watch(server), *connections, return_exceptions=True)
         ended = await server.ended()
         self._server = None
         others.cancel()
         for user in self._users.values():
             user.lose_link()
         return ended
+
+    async def _watch(self, server: Server) -> None:
+        """Asks the server again and again, as a user of its own, and ends one that does not answer."""
+        self._answered = time.monotonic()
+        while server.watcher and server.is_there():
+            with contextlib.suppress(OSError, asyncio.TimeoutError):
+                reader, writer = await asyncio.open_connection("127.0.0.1", server.port)
+                writer.write(f"HELLO {server.watcher} {server.tokens[server.watcher]}\n".encode())
+                while await asyncio.wait_for(reader.readline(), SECONDS_TO_END):
+                    self._answered = time.monotonic()
+                    await asyncio.sleep(SECONDS_BETWEEN_QUESTIONS)
+                    writer.write(b"LIST\n")
+            if time.monotonic() > self._answered + SECONDS_TO_END:
+                self._note("server does not answer", process=server.process.pid)
+                server.kill()
+            await asyncio.sleep(SECONDS_BETWEEN_TRIES)
+
+    def is_well(self) -> bool:
+        """Whether there is a server that answers."""
+        server, silent = self._server, time.monotonic() - self._answered
+        return server is not None and server.is_there() and (not server.watcher or silent < SECONDS_TO_ANSWER)
 
     async def _connect(self, user: User, is_new: bool) -> None:
         """Connects a user to the server, as soon as that listens."""
@@ -198,13 +225,16 @@ class Front:
             except OSError:
                 await asyncio.sleep(SECONDS_BETWEEN_TRIES)
 
-    def _renew(self, user: User) -> None:
+    def _renew(self, user: User, is_new: bool = False) -> None:
         """Connects a user to the same server again."""
-        asyncio.get_running_loop().create_task(self._connect(user, False))
+        asyncio.get_running_loop().create_task(self._connect(user, is_new))
 
-    def link_is_lost(self, link: Link) -> None:
-        """A server that has closed a connection may have done what it did not reply, so it is ended, and all is told again."""
-        if self._server is not None:
+    def link_is_lost(self, link: Link, had_no_place: bool) -> None:
+        """A server that has closed a connection may have done what it did not reply, so it is ended, and all is told again. One that
+        had no place for it has done nothing."""
+        if had_no_place and self._server is not None:
+            asyncio.get_running_loop().call_later(SECONDS_BETWEEN_TRIES, self._renew, link.user, link.is_new)
+        elif self._server is not None:
             self._server.kill()
 
     async def _note_version(self) -> None:

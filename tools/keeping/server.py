@@ -11,7 +11,7 @@ import subprocess
 from typing import Callable, Dict, List, Sequence
 
 from children import environment
-from keeping.accounts import Accounts, new_tokens, server_text
+from keeping.accounts import Accounts, new_tokens, server_text, with_watcher
 from user_files import Fault
 
 MAX_CONNECTIONS = 1_000_000
@@ -47,10 +47,10 @@ class Words:
 
 
 class Server:
-    """A server that was begun. `tokens` are those of its users, which nobody else knows."""
+    """A server that was begun. `tokens` are those of its users, which nobody else knows. One of these is to ask whether it answers."""
 
-    def __init__(self, process: asyncio.subprocess.Process, port: int, tokens: Dict[str, str]):
-        self.process, self.port, self.tokens = process, port, tokens
+    def __init__(self, process: asyncio.subprocess.Process, port: int, tokens: Dict[str, str], watcher: str):
+        self.process, self.port, self.tokens, self.watcher = process, port, tokens, watcher
 
     def is_there(self) -> bool:
         return self.process.returncode is None
@@ -72,6 +72,7 @@ async def begin(words: Words, accounts: Accounts) -> Server:
     """Begins a server on a port that is free. Raises Fault if there is no such program."""
     with socket.create_server(("127.0.0.1", 0)) as free:
         port = free.getsockname()[1]
+    accounts, watcher = with_watcher(accounts)
     tokens = new_tokens(accounts)
     users = os.memfd_create("users", 0)
     try:
@@ -89,7 +90,7 @@ async def begin(words: Words, accounts: Accounts) -> Server:
         raise Fault(f"cannot start {words.program}: {error.strerror}") from error
     finally:
         os.close(users)
-    return Server(process, port, tokens)
+    return Server(process, port, tokens, watcher)
 
 
 def dying_with_parent() -> Callable[[], None]:

@@ -4,13 +4,16 @@ import fcntl
 import json
 import os
 import pathlib
+import socket
 import sys
 import time
 from typing import Dict, Iterator, Optional
 
+from keeping.accounts import DENIED
 from user_files import Fault
 
 STATUS, LOCK = "status.json", "lock"
+SECONDS_TO_ANSWER = 3.0
 Known = Dict[str, object]
 
 
@@ -57,34 +60,42 @@ def is_taken(lock: int) -> bool:
     return True
 
 
-def is_running(path: pathlib.Path) -> bool:
-    """Whether a front has a folder."""
-    lock = os.open(path / LOCK, os.O_RDONLY | os.O_CLOEXEC)
+def answer_of(known: Known) -> Optional[bytes]:
+    """What a front replies to a check, or None where none listens. It is DENIED where its server answers."""
+    host, _, port = str(known["at"]).rpartition(":")
     try:
-        return not is_taken(lock)
-    finally:
-        os.close(lock)
+        with socket.create_connection((host.strip("[]"), int(port)), SECONDS_TO_ANSWER) as stream:
+            stream.settimeout(SECONDS_TO_ANSWER)
+            stream.sendall((b"PROXY UNKNOWN\r\n" if known["has_header"] else b"") + b"HELLO - -\n")
+            return stream.recv(len(DENIED))
+    except ConnectionRefusedError:
+        return None
+    except OSError:
+        return b""
 
 
 def tell_status(path: pathlib.Path) -> int:
-    """Prints the status of a folder. Returns 0 if a front has it and each user may come in, else 1."""
+    """Prints the status of a folder. Returns 0 if a front has it whose server answers, and each user may come in, else 1."""
     try:
-        known, runs = json.loads((path / STATUS).read_text()), is_running(path)
-    except (OSError, ValueError) as error:
+        known = json.loads((path / STATUS).read_text())
+        answer = answer_of(known)
+    except (OSError, ValueError, KeyError) as error:
         cause = error.strerror if isinstance(error, OSError) else "it has no status"
         print(f"keep: cannot read {path}: {cause}", file=sys.stderr)
         return 1
-    for line in lines_of(path, known, runs):
+    for line in lines_of(known, answer):
         print(line)
-    return int(not runs or any(each["state"] == "stopped" for each in known["users"].values()))
+    return int(answer != DENIED or any(each["state"] == "stopped" for each in known["users"].values()))
 
 
-def lines_of(path: pathlib.Path, known: Known, runs: bool) -> Iterator[str]:
+def lines_of(known: Known, answer: Optional[bytes]) -> Iterator[str]:
     """What is told of the status of a folder."""
     since = time.strftime("%Y-%m-%d %H:%M:%S", time.localtime(float(str(known["since"]))))
+    runs = answer is not None
     yield f"runs since {since}, process {known['process']}" if runs else f"does not run: {known['end'] or 'it was killed'}"
     server: Optional[object] = known["server"] if runs else None
-    yield f"server: {f'process {server}' if server else 'is not there'}, begun {known['begun']} times"
+    answers = "" if answer == DENIED or not server else ", does not answer"
+    yield f"server: {f'process {server}' if server else 'is not there'}, begun {known['begun']} times{answers}"
     if known["last_end"]:
         yield f"last end of the server: {known['last_end']}"
     users = known["users"]

@@ -14,6 +14,8 @@ from keeping.sessions import KEPT, Long, Otherwise, Sessions, Task, put_back, re
 from keeping.store import Change, Damaged, Kept, Snapshot, Store, StoreFault
 from keeping.writer import Writer
 
+# As many connections of a user wait, and the next one is closed without a byte.
+MAX_WAITING = 8
 # What may be on its way: so much is answered within a few milliseconds.
 MAX_SENT = 250
 MAX_BYTES = 1 << 20
@@ -64,6 +66,8 @@ class User:
         """A client has said who it is."""
         if self.stopped:
             client.deny()
+        elif len(self.waiting) >= MAX_WAITING:
+            client.abort()
         else:
             self.waiting.append(client)
             self.go_on()
@@ -113,14 +117,19 @@ class User:
         """Lets the user in no more, nor any of its connections."""
         self.lose_link()
         self.stopped = why
+        self._again.clear()
+        self.abort_clients()
+        self._note("stopped", user=self.name, why=why)
+
+    def abort_clients(self) -> None:
+        """Ends the user's connections."""
         for client in self.waiting:
             client.deny()
+        self.waiting.clear()
         if self.client is not None:
             self.client.abort()
-        self.waiting.clear()
-        self._again.clear()
-        self.client = None
-        self._note("stopped", user=self.name, why=why)
+            if self.stopped:
+                self.client = None
 
     # What follows.
 

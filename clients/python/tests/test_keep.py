@@ -494,7 +494,7 @@ def test_what_cannot_be_begun(tmp_path: pathlib.Path, kept: Any) -> None:
     status, err = ended(tmp_path, ["127.0.0.1:0", "open", *server])
     assert (status, err) == (1, "keep: the mode of open lets others in: `chmod 700` leaves it to its owner\n")
     status, err = ended(tmp_path, ["127.0.0.1:0", "kept", *server[:-1], "none"])
-    assert (status, err) == (1, "keep: cannot read none: No such file or directory\n")
+    assert (status, err) == (2, "keep: cannot read none: No such file or directory\n")
     status, err = ended(tmp_path, ["--status", "none"])
     assert (status, err) == (1, "keep: cannot read none: No such file or directory\n")
 
@@ -504,6 +504,65 @@ def test_words_of_the_server_that_are_none(tmp_path: pathlib.Path, kept: Any) ->
     status, err = ended(tmp_path, words)
     assert status == 2 and "--workers" in err
     assert "the server cannot be begun: it ended with status 2" in (tmp_path / "kept" / "status.json").read_text()
+
+
+def is_well(keeper: Any) -> Any:
+    """What a check sees."""
+    with socket.create_connection(("127.0.0.1", keeper.port), SECONDS) as stream:
+        stream.sendall(b"HELLO - -\n")
+        return first_line(stream) == DENIED
+
+
+def test_a_server_that_does_not_answer_is_seen_and_ended(tmp_path: pathlib.Path) -> None:
+    tool = patched("import keeping.front; keeping.front.SECONDS_TO_ANSWER, keeping.front.SECONDS_TO_END = 1.5, 4")
+    with Keeper(tmp_path, tool=tool) as keeper, keeper.raw("ann") as stream:
+        stream.sendall(LOAD + b"ADVANCE a 1\n")
+        assert [first_line(stream) for _ in range(3)][-1] == b"OK ADVANCE a 1\n"
+        server = keeper.server()
+        until(lambda: is_well(keeper))
+        os.kill(server, signal.SIGSTOP)
+        until(lambda: not is_well(keeper))
+        status, text = keeper.status()
+        assert status == 1 and f"server: process {server}, begun 1 times, does not answer\n" in text
+        stream.sendall(b"ADVANCE a 1\n" + SHOW)
+        assert (first_line(stream), first_line(stream)) == (b"OK ADVANCE a 2\n", SHOWN)
+        assert [each["process"] for each in keeper.events("server does not answer")] == [server]
+        until(lambda: is_well(keeper))
+        assert keeper.status()[0] == 0
+
+
+def test_a_front_that_does_not_answer_is_seen(tmp_path: pathlib.Path) -> None:
+    with Keeper(tmp_path) as keeper:
+        until(lambda: keeper.status()[0] == 0)
+        os.kill(keeper.child.pid, signal.SIGSTOP)
+        try:
+            status, text = keeper.status()
+            assert status == 1 and ", does not answer\n" in text
+        finally:
+            os.kill(keeper.child.pid, signal.SIGCONT)
+
+
+def test_eight_connections_of_a_user_wait(tmp_path: pathlib.Path) -> None:
+    with Keeper(tmp_path, users=("ann", "ben")) as keeper, keeper.raw("ann") as first, contextlib.ExitStack() as stack:
+        assert first_line(first) == HELLO
+        waiting = [stack.enter_context(keeper.raw("ann")) for _ in range(8)]
+        with keeper.raw("ann") as ninth:
+            assert ninth.recv(1) == b""
+        assert keeper.told(b"LIST\n", "ben") == b"OK HELLO ben\nOK LIST 0\n"
+        first.close()
+        assert first_line(waiting[0]) == HELLO
+
+
+def test_a_token_that_was_changed_ends_connections(tmp_path: pathlib.Path) -> None:
+    with Keeper(tmp_path) as keeper, keeper.raw("ann") as first, keeper.raw("ann") as second:
+        first.sendall(LOAD)
+        assert (first_line(first), first_line(first)) == (HELLO, LOADED)
+        other = TOKEN.replace("k", "x")
+        keeper.users.write_text(keeper.users.read_text().replace(TOKEN, other))
+        keeper.child.send_signal(signal.SIGHUP)
+        assert first_line(first) == b"" and first_line(second) == DENIED
+        assert keeper.told(b"", "ann") == DENIED
+        assert keeper.told(b"LIST\n", "ann", other) == HELLO + b"OK LIST 1\na 0 2 0\n"
 
 
 def test_who_says_nothing_and_who_is_one_too_many(tmp_path: pathlib.Path) -> None:
