@@ -11,6 +11,7 @@ from watching import prepare, written
 
 if TYPE_CHECKING:
     from keeping.front import Front
+    from keeping.server import Server
     from keeping.user import User
 
 SECONDS_FOR_HELLO = 30.0
@@ -185,10 +186,10 @@ class Link(asyncio.Protocol):
 
     most_items = MAX_ITEMS - 1
 
-    def __init__(self, user: User, token: str, is_new: bool, front: Front):
-        self.user, self.is_new, self._front = user, is_new, front
+    def __init__(self, user: User, server: Server, is_new: bool, front: Front):
+        self.user, self.server, self.is_new, self._front = user, server, is_new, front
         self.left = self.most_items
-        self._hello = f"HELLO {user.name} {token}\n".encode()
+        self._hello = f"HELLO {user.name} {server.tokens[user.name]}\n".encode()
         self._reader = ReplyReader()
         self._transport: asyncio.Transport
         self._is_in = self._is_closed = self._is_held = False

@@ -219,23 +219,28 @@ class Front:
         loop, server = asyncio.get_running_loop(), self._server
         while server is not None and server is self._server and server.is_there():
             try:
-                link = Link(user, server.tokens[user.name], is_new, self)
+                link = Link(user, server, is_new, self)
                 await loop.create_connection(lambda: link, "127.0.0.1", server.port)
                 return
             except OSError:
                 await asyncio.sleep(SECONDS_BETWEEN_TRIES)
 
-    def _renew(self, user: User, is_new: bool = False) -> None:
+    def _renew(self, user: User) -> None:
         """Connects a user to the same server again."""
-        asyncio.get_running_loop().create_task(self._connect(user, is_new))
+        asyncio.get_running_loop().create_task(self._connect(user, False))
 
     def link_is_lost(self, link: Link, had_no_place: bool) -> None:
         """A server that has closed a connection may have done what it did not reply, so it is ended, and all is told again. One that
         had no place for it has done nothing."""
-        if had_no_place and self._server is not None:
-            asyncio.get_running_loop().call_later(SECONDS_BETWEEN_TRIES, self._renew, link.user, link.is_new)
+        if had_no_place:
+            asyncio.get_running_loop().create_task(self._connect_again(link))
         elif self._server is not None:
             self._server.kill()
+
+    async def _connect_again(self, link: Link) -> None:
+        await asyncio.sleep(SECONDS_BETWEEN_TRIES)
+        if self._server is link.server:
+            await self._connect(link.user, link.is_new)
 
     async def _note_version(self) -> None:
         """Has a file name the version of the program, and notes if that is another."""

@@ -20,14 +20,13 @@ MAX_STEPS = 1_000_000
 # Between two looks at it no session comes so far.
 NEAR_MAX_STEP = MAX_STEP - 10**11
 BURST = 500
-# How many steps are done at once at first, and at most.
-LEAST_PIECE = 100
+# How many steps of how many atoms are done at once at first, and how many steps at most.
+FIRST_PIECE = 100_000
 MAX_PIECE = MAX_STEPS
+MAX_ATOMS = 4096
 KEPT = frozenset((*LOADS, *b"ADVANCE START REVERSE BRANCH RESTORE FORGET TUG DROP".split()))
-# What is answered when the session has no pending steps any more.
-WAITS = frozenset(b"ADVANCE REVERSE BRANCH RESTORE TUG MEASURE SHOW DUMP".split())
-# Which word of the reply is a step.
-STEP_AT = {verb: 4 if verb in (b"BRANCH", b"RESTORE", b"TUG") else 3 for verb in (*WAITS, b"START")}
+# Which word of the reply is a step. All but START are answered when the session has no pending steps any more.
+STEP_AT = dict.fromkeys(b"ADVANCE START REVERSE MEASURE SHOW DUMP".split(), 3) | dict.fromkeys(b"BRANCH RESTORE TUG".split(), 4)
 LOADED = re.compile(rb"OK (?:LOAD|LOADMIX) (\S{1,16}) 0 ([0-9]{1,4})\n")
 DECIMAL = re.compile(rb"([+-]?)([0-9]*)\.?([0-9]*)(?:[eEdD]([+-]?[0-9]{1,3}))?")
 Told_T = TypeVar("Told_T")
@@ -75,32 +74,36 @@ class Session:
     branches: Dict[bytes, Branch] = field(default_factory=dict)
     has_pending: bool = False
     is_moved: bool = True
-    most_steps: int = field(default_factory=lambda: LEAST_PIECE)  # so many are done in about a second
+    most_steps: int = 0  # so many are done in about a second
+
+    def __post_init__(self) -> None:
+        self.most_steps = most_at_first(self.atoms)
 
     def hear(self, words: Words, reply: bytes, number: int) -> bytes:
         """Does what a command did that was replied OK. Returns the reply with its true step. Raises `Otherwise`."""
-        verb, name, *others = words
-        if verb == b"LIST":
+        verb, at = words[0], STEP_AT.get(words[0])
+        if at and verb != b"START":
+            self.has_pending = False
+        if verb in KEPT:
+            self._do(verb, words[2:], number)
+            if at:
+                reply = with_step(reply, at, self.place.offset) if self.place.offset else reply
+                named = words[2:3] if verb in (b"BRANCH", b"RESTORE") else (b"%d" % int(words[2]),) if verb == b"TUG" else ()
+                if reply != (follows := b" ".join((b"OK", verb, self.name, *named, b"%d\n" % self.place.step))):
+                    raise Otherwise(f"{shown(reply)} in place of {shown(follows)}")
+        elif verb == b"LIST":
             return with_steps(reply, {name: branch.place for name, branch in self.branches.items()})
-        if verb in WAITS or verb == b"START":
-            self.has_pending = verb == b"START"
-        if verb in KEPT:
-            self._do(verb, others, number)
-        if verb not in STEP_AT:
-            return reply
-        if self.place.offset:
-            reply = with_step(reply, STEP_AT[verb], self.place.offset)
-        if verb in KEPT:
-            named = [others[0]] if verb in (b"BRANCH", b"RESTORE") else [b"%d" % int(others[0])] if verb == b"TUG" else []
-            follows = b" ".join([b"OK", verb, name, *named, b"%d\n" % self.place.step])
-            if reply != follows:
-                raise Otherwise(f"{shown(reply)} in place of {shown(follows)}")
+        elif at and self.place.offset:
+            return with_step(reply, at, self.place.offset)
         return reply
 
     def _do(self, verb: bytes, others: Sequence[bytes], number: int) -> None:
         self.is_moved = self.is_moved or verb in STEP_AT and verb != b"BRANCH"
         if verb in (b"ADVANCE", b"START"):
             self.place.step += self.place.direction * int(others[0])
+            self.has_pending = verb == b"START"
+        elif verb in LOADS:
+            raise Otherwise(f"OK {verb.decode()} of a session that is there")
         elif verb == b"REVERSE":
             self.place.step -= self.place.direction
             self.place.direction = -self.place.direction
@@ -160,17 +163,16 @@ class Sessions:
     def hear(self, words: Words, reply: bytes, number: int) -> bytes:
         """Does what a command did, which is the record of this number if it is kept, and returns the reply with its true steps.
         Raises `Otherwise` if that cannot be the reply."""
-        if not words or not reply.startswith(b"OK "):
+        if not words or reply[:3] != b"OK ":
             return reply
-        if words[0] in LOADS:
-            self._load(words, reply, number)
-        elif len(words) > 1:
-            session = self.by_name.get(words[1])
-            if session is None:
-                raise Otherwise(f"{shown(reply)} of a session that is not there")
+        if len(words) > 1 and (session := self.by_name.get(words[1])) is not None:
             reply = session.hear(words, reply, number)
             if words[0] == b"DROP":
                 del self.by_name[words[1]]
+        elif words[0] in LOADS:
+            self._load(words, reply, number)
+        elif len(words) > 1:
+            raise Otherwise(f"{shown(reply)} of a session that is not there")
         elif words[0] == b"LIST":
             reply = with_steps(reply, {name: session.place for name, session in self.by_name.items()})
         return reply
@@ -202,6 +204,10 @@ class Sessions:
         return b"ERR 23 STEP_RANGE\n" if is_beyond else b""
 
 
+def most_at_first(atoms: int) -> int:
+    return max(1, FIRST_PIECE // atoms)
+
+
 @dataclass
 class Long:
     """An ADVANCE that is done in pieces, so many steps of which are left, and were so at the snapshot."""
@@ -215,10 +221,10 @@ class Long:
     @classmethod
     def of(cls, item: Item, sessions: Sessions) -> "Optional[Long]":
         """That of an item which takes long, if it is one."""
-        if len(item.words) != 3 or item.words[0] != b"ADVANCE" or not item.words[2].isdigit() or len(item.words[2]) > 19:
+        if len(item.words) != 3 or not 1 < len(item.words[2]) < 20 or not item.words[2].isdigit():
             return None
         session, steps = sessions.by_name.get(item.words[1]), int(item.words[2])
-        is_long = (session.most_steps if session else LEAST_PIECE) < steps <= MAX_STEPS
+        is_long = (session.most_steps if session else most_at_first(MAX_ATOMS)) < steps <= MAX_STEPS
         return cls(item.words[1], steps, steps) if is_long else None
 
     def item(self, steps: int) -> Item:
@@ -227,13 +233,13 @@ class Long:
 
     def next_piece(self, sessions: Sessions, now: float) -> Item:
         session = sessions.by_name.get(self.name)
-        self.piece, self.since = self.item(min(self.left, session.most_steps if session else LEAST_PIECE)), now
+        self.piece, self.since = self.item(min(self.left, session.most_steps if session else most_at_first(MAX_ATOMS))), now
         return self.piece
 
     def hear(self, session: Session, now: float) -> bool:
         """Takes it that a piece is done. Returns whether that was the last one."""
         steps = int(self.piece.words[2])
-        session.most_steps = max(LEAST_PIECE, min(8 * steps, int(steps / max(now - self.since, 1e-6)), MAX_PIECE))
+        session.most_steps = max(1, min(8 * steps, int(steps / max(now - self.since, 1e-6)), MAX_PIECE))
         self.left -= steps
         return not self.left
 

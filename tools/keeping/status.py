@@ -28,10 +28,11 @@ class Folder:
             if path.stat().st_mode & 0o077:
                 raise Fault(f"the mode of {path} lets others in: `chmod 700` leaves it to its owner")
             self._lock = os.open(path / LOCK, os.O_RDWR | os.O_CREAT | os.O_CLOEXEC, 0o600)
+            fcntl.flock(self._lock, fcntl.LOCK_EX | fcntl.LOCK_NB)
+        except BlockingIOError as error:
+            raise Fault(f"{path} is in use") from error
         except OSError as error:
             raise Fault(f"cannot use {path}: {error.strerror}") from error
-        if not is_taken(self._lock):
-            raise Fault(f"{path} is in use")
 
     def close(self) -> None:
         """Lets another one use the folder."""
@@ -49,15 +50,6 @@ class Folder:
         with contextlib.suppress(OSError):
             path.write_text(f"{text}\n")
             path.replace(self.path / name)
-
-
-def is_taken(lock: int) -> bool:
-    """Takes a lock if nobody has it. Returns whether it is had."""
-    try:
-        fcntl.flock(lock, fcntl.LOCK_EX | fcntl.LOCK_NB)
-    except BlockingIOError:
-        return False
-    return True
 
 
 def answer_of(known: Known) -> Optional[bytes]:

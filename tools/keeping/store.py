@@ -247,6 +247,14 @@ class SqliteStore:
         return left, lost + [part.id for part in parts if part not in left]
 
     def write(self, changes: Sequence[Change]) -> None:
+        if len(changes) == 1 and len(changes[0].records) == 1 and changes[0].snapshot is None:
+            # A transaction of one row needs no words about it.
+            try:
+                with self._lock:
+                    self._write(changes[0])
+            except sqlite3.Error as error:
+                raise StoreFault(f"cannot write {self._path}: {error}") from error
+            return
         with self._use("write", "begin immediate"):
             for change in changes:
                 self._write(change)
@@ -255,11 +263,9 @@ class SqliteStore:
         if change.snapshot is not None:
             self._put(change.name, change.snapshot)
         seq, chain = self._ends[change.name]
-        rows = []
         for record in change.records:
             seq, chain = seq + 1, next_chain(chain, record)
-            rows.append((change.name, seq, record.item, record.reply, chain))
-        self._base.executemany("insert into record values (?, ?, ?, ?, ?)", rows)
+            self._base.execute("insert into record values (?, ?, ?, ?, ?)", (change.name, seq, record.item, record.reply, chain))
         self._ends[change.name] = seq, chain
 
     def _put(self, name: str, snapshot: Snapshot) -> None:

@@ -17,7 +17,7 @@ from keeping.writer import Writer
 # As many connections of a user wait, and the next one is closed without a byte.
 MAX_WAITING = 8
 # What may be on its way: so much is answered within a few milliseconds.
-MAX_SENT = 250
+MAX_SENT = 150
 MAX_BYTES = 1 << 20
 # A snapshot is taken when so many seconds, records or bytes have come since the last one.
 SECONDS_OF_BUDGET = 10.0
@@ -54,10 +54,10 @@ class User:
         self._held: List[bytes] = []
         self._bytes_held = 0
         self._snapshot: Optional[Snapshot] = None
-        self._is_writing = self._is_wanted = self._is_near_an_end = False
-        self._since = 0.0
-        # What was computed since the snapshot: at first as much as may be, so that there soon is one.
-        self._seconds = SECONDS_OF_BUDGET if kept.records else 0.0
+        self._is_writing = self._is_near_an_end = self._is_over = False
+        # What was computed since a snapshot is not known here, so there soon is another one.
+        self._is_wanted = bool(kept.records)
+        self._since = self._seconds = 0.0
         self._bytes = sum(len(record.item) for record in kept.records)
 
     # What happens.
@@ -105,9 +105,13 @@ class User:
                 self._heard += replies
                 self._hear_task()
             else:
-                self._count_time()
+                now = time.monotonic()
+                self._seconds += now - self._since if self._sent else 0.0
+                self._since = now
                 for reply in replies:
                     self._take(reply)
+                is_over = self._seconds > SECONDS_OF_BUDGET or len(self.records) > MAX_RECORDS or self._bytes > MAX_RECORD_BYTES
+                self._is_over = is_over
         except (Otherwise, ValueError, IndexError) as fault:
             self.stop(f"the program replied {fault}")
         else:
@@ -139,7 +143,7 @@ class User:
             self._send()
             self._answer_last()
             self._keep()
-            if self.link is None or not (self._begin_task() or self._end_client() or self._admit()):
+            if self.link is None or self._sent or not (self._begin_task() or self._end_client() or self._admit()):
                 break
         if self.link is not None and not self.link.left and not self._sent and len(self._heard) == self._burst_sent:
             self._renew_link()
@@ -148,43 +152,36 @@ class User:
 
     def _send(self) -> None:
         """Sends items, as many as may be on their way."""
-        if self.link is None:
+        link, sent = self.link, self._sent
+        if link is None or self._task is not None:
+            if link is not None:
+                self._send_burst(link)
             return
-        if self._task is not None:
-            self._send_burst(self.link)
+        if not self.is_ready or self.is_settling or self._is_due():
             return
         items = []
         most = 1 if self._is_near_an_end else MAX_SENT
-        while len(self._sent) < most and self._bytes_sent < MAX_BYTES and self.link.left and (item := self._next()):
-            if not self._sent:
+        while len(sent) < most and self._bytes_sent < MAX_BYTES and link.left and (item := self._next()):
+            if not sent:
                 self._since = time.monotonic()
-            self._sent.append(item)
+            sent.append(item)
             if not item.last_reply:
                 items.append(item.raw)
                 self._bytes_sent += len(item.raw)
-                self.link.left -= 1
+                link.left -= 1
         if items:
-            self.link.send(b"".join(items))
+            link.send(b"".join(items))
 
     def _next(self) -> Optional[Item]:
-        if not self.is_ready or self.is_settling or self._is_due():
-            return None
         if self._long is not None:
             return None if self._sent else self._long.next_piece(self.sessions, time.monotonic())
         item = self._again.popleft() if self._again else self.client.next_item() if self.client is not None else None
-        if not item:
-            return None
-        if self._is_near_an_end:
-            return item._replace(last_reply=self.sessions.refusal(item.words) or item.last_reply)
-        self._long = Long.of(item, self.sessions)
-        return self._long.next_piece(self.sessions, time.monotonic()) if self._long else item
-
-    def _count_time(self) -> None:
-        """Counts for how long replies were owed."""
-        now = time.monotonic()
-        if self._sent:
-            self._seconds += now - self._since
-        self._since = now
+        if item is None or self._is_near_an_end:
+            return item and item._replace(last_reply=self.sessions.refusal(item.words) or item.last_reply)
+        if item.words and item.words[0] == b"ADVANCE" and (long := Long.of(item, self.sessions)):
+            self._long = long
+            return long.next_piece(self.sessions, time.monotonic())
+        return item
 
     def _take(self, reply: bytes) -> None:
         """Takes the reply to the first item that is on its way. Raises `Otherwise` if it cannot be that."""
@@ -197,7 +194,7 @@ class User:
             if reply.startswith(b"OK ") and not self._long.hear(self.sessions.by_name[item.words[1]], time.monotonic()):
                 return
             item, self._long = self._long.item(self._long.left_at_snapshot), None
-        if item.words and item.words[0] in KEPT and reply.startswith(b"OK "):
+        if item.words and item.words[0] in KEPT and reply[:3] == b"OK ":
             record = Told(item.raw, reply)
             self.number += 1
             self._bytes += len(item.raw)
@@ -221,11 +218,13 @@ class User:
         """Has what was replied written, and tells it then."""
         if self._is_writing or not (self._written or self._held or self._snapshot):
             return
-        change, held = Change(self.name, self._written, self._snapshot), self._held
-        self._written, self._held, self._snapshot = [], [], None
-        self._is_writing = True
-        is_nothing = not change.records and change.snapshot is None
-        if is_nothing or self._writer.write(change, partial(self._is_written, held)):
+        held, self._held = self._held, []
+        if not self._written and self._snapshot is None:
+            self._tell(held)
+            return
+        change = Change(self.name, self._written, self._snapshot)
+        self._written, self._snapshot, self._is_writing = [], None, True
+        if self._writer.write(change, partial(self._is_written, held)):
             self._tell(held)
 
     def _is_written(self, held: List[bytes]) -> None:
@@ -275,7 +274,7 @@ class User:
 
     def _begin_task(self) -> bool:
         """Begins to put all back, or to take a snapshot, if that is due and nothing is on its way."""
-        if self._task is not None or self._sent or self.is_ready and not self._is_due() or not self.is_ready and self._is_writing:
+        if self._task is not None or (not self._is_due() if self.is_ready else self._is_writing):
             return False
         self._task = self._take_snapshot() if self.is_ready else self._put_back()
         self._step(None)
@@ -322,10 +321,14 @@ class User:
 
     def _is_due(self) -> bool:
         """Whether a snapshot is to be taken as soon as nothing is on its way."""
+        if not (self._is_over or self._is_wanted):
+            return False
         if self.number == self._seq and (self._long is None or self._long.left == self._long.left_at_snapshot):
             return False
+        if not self.sessions.have_pending():
+            return True
         most = max(self._seconds / SECONDS_OF_BUDGET, len(self.records) / MAX_RECORDS, self._bytes / MAX_RECORD_BYTES)
-        return (most >= 1 or self._is_wanted) and (most >= BUDGETS_TO_WAIT or not self.sessions.have_pending())
+        return most > BUDGETS_TO_WAIT
 
     def _take_snapshot(self) -> Task[None]:
         """Reads what has changed, and has it written in place of the records since the snapshot before."""
@@ -338,7 +341,7 @@ class User:
         if self._long is not None:
             self._long.left_at_snapshot = self._long.left
         self._seq, self.records, self._written = self.number, [], []
-        self._seconds, self._bytes, self._is_wanted = 0.0, 0, False
+        self._seconds, self._bytes, self._is_wanted, self._is_over = 0.0, 0, False, False
         self._is_near_an_end = self.sessions.are_near_an_end()
 
     def settle(self) -> None:

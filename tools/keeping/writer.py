@@ -74,9 +74,13 @@ class Writer:
         self._loop.call_soon_threadsafe(self._are_done, works)
 
     def _are_done(self, works: List[Work]) -> None:
+        """Does what follows. A fault there is that of one user."""
         for work in works:
-            if not self._has_failed:
-                work.then()
+            try:
+                if not self._has_failed:
+                    work.then()
+            except Exception as error:
+                self._loop.call_exception_handler({"message": "what follows a write", "exception": error})
 
     def _has_failed_by(self, why: str) -> None:
         if not self._has_failed:

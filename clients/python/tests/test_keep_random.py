@@ -91,8 +91,8 @@ class World:
 
 @pytest.fixture(params=[0.002, 1e-9], ids=["often", "always"])
 def store(request: Any, tmp_path: pathlib.Path, monkeypatch: pytest.MonkeyPatch) -> Any:
-    """A store of a front that takes snapshots often, or whenever something has changed, and cuts each ADVANCE of more than 2 steps."""
-    monkeypatch.setattr(sessions, "LEAST_PIECE", 2)
+    """A store of a front that takes snapshots often, or whenever something has changed, and cuts each ADVANCE of a few steps."""
+    monkeypatch.setattr(sessions, "FIRST_PIECE", 5)
     monkeypatch.setattr(user, "MAX_RECORDS", 6)
     monkeypatch.setattr(user, "SECONDS_OF_BUDGET", request.param)
     with contextlib.closing(SqliteStore(tmp_path, sync_each=False)) as store:

@@ -147,8 +147,8 @@ def test_what_a_kill_within_a_transaction_leaves(tmp_path: pathlib.Path) -> None
     code = (
         "import os, pathlib, signal, sys; from keeping.store import *; from keeping.items import Told\n"
         "store = SqliteStore(pathlib.Path(sys.argv[1])); store.read('ann'); store.write([Change('ann', [Told(b'1', b'')])])\n"
-        "def items():\n    yield Told(b'2', b'')\n    os.kill(os.getpid(), signal.SIGKILL)\n"
-        "store.write([Change('ann', items())])\n"
+        "class Kill:\n    reply = property(lambda _: os.kill(os.getpid(), signal.SIGKILL))\n"
+        "store.write([Change('ann', [Told(b'2', b''), Kill()])])\n"
     )
     words = [sys.executable, "-c", code, str(tmp_path)]
     assert subprocess.run(words, env={**os.environ, "PYTHONPATH": str(TOP / "tools")}, timeout=SECONDS).returncode == -9

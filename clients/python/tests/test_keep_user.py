@@ -214,13 +214,13 @@ def test_a_snapshot_waits_for_pending_steps(user: Any) -> None:
 
 def test_a_snapshot_is_taken_when_there_are_many_records_or_much_was_computed(user: Any, monkeypatch: pytest.MonkeyPatch) -> None:
     monkeypatch.setattr("keeping.user.MAX_RECORDS", 100)
-    client, server = Client(LOAD + b"TUG a 0 1 0 0\n" * 98), Reference((8, 16384, 16))
+    client, server = Client(LOAD + b"TUG a 0 1 0 0\n" * 99), Reference((8, 16384, 16))
     link = let_in(user, client)
-    assert answer(user, link, server).count(b"DUMP a\n") == 0 and len(user.records) == 99
-    client.reader.feed(b"TUG a 0 1 0 0\nTUG a 0 2 0 0\n")
+    assert answer(user, link, server).count(b"DUMP a\n") == 0 and len(user.records) == 100
+    client.reader.feed(b"TUG a 0 1 0 0\n")
     user.go_on()
     assert answer(user, link, server).count(b"DUMP a\n") == 1 and user.records == []
-    assert len(user.writer.done().records) == 99 and user.writer.done().snapshot.seq == 101
+    assert len(user.writer.done().records) == 100 and user.writer.done().snapshot.seq == 101
     user._seconds = 99.0
     client.reader.feed(b"TUG a 0 1 0 0\n")
     user.go_on()
