@@ -199,11 +199,12 @@ class Front:
         while server.watcher and server.is_there():
             with contextlib.suppress(OSError, asyncio.TimeoutError):
                 reader, writer = await asyncio.open_connection("127.0.0.1", server.port)
-                writer.write(f"HELLO {server.watcher} {server.tokens[server.watcher]}\n".encode())
-                while await asyncio.wait_for(reader.readline(), SECONDS_TO_END):
-                    self._answered = time.monotonic()
-                    await asyncio.sleep(SECONDS_BETWEEN_QUESTIONS)
-                    writer.write(b"LIST\n")
+                with contextlib.closing(writer):
+                    writer.write(f"HELLO {server.watcher} {server.tokens[server.watcher]}\n".encode())
+                    while await asyncio.wait_for(reader.readline(), SECONDS_TO_END):
+                        self._answered = time.monotonic()
+                        await asyncio.sleep(SECONDS_BETWEEN_QUESTIONS)
+                        writer.write(b"LIST\n")
             if time.monotonic() > self._answered + SECONDS_TO_END:
                 self._note("server does not answer", process=server.process.pid)
                 server.kill()

@@ -27,6 +27,7 @@ MAX_ATOMS = 4096
 KEPT = frozenset((*LOADS, *b"ADVANCE START REVERSE BRANCH RESTORE FORGET TUG DROP".split()))
 # Which word of the reply is a step. All but START are answered when the session has no pending steps any more.
 STEP_AT = dict.fromkeys(b"ADVANCE START REVERSE MEASURE SHOW DUMP".split(), 3) | dict.fromkeys(b"BRANCH RESTORE TUG".split(), 4)
+NO_MEMORY = b"ERR 90 MEMORY\n"
 LOADED = re.compile(rb"OK (?:LOAD|LOADMIX) (\S{1,16}) 0 ([0-9]{1,4})\n")
 DECIMAL = re.compile(rb"([+-]?)([0-9]*)\.?([0-9]*)(?:[eEdD]([+-]?[0-9]{1,3}))?")
 Told_T = TypeVar("Told_T")
@@ -35,6 +36,10 @@ Task = Generator[List[bytes], List[bytes], Told_T]
 
 class Otherwise(Exception):
     """A program replied something else than follows from the commands."""
+
+
+class NoMemory(Otherwise):
+    """A server has no memory for what is put back."""
 
 
 def shown(reply: bytes) -> str:
@@ -290,7 +295,7 @@ def asked(items: List[bytes]) -> Task[List[bytes]]:
     replies = yield items
     for item, reply in zip(items, replies):
         if not reply.startswith(b"OK "):
-            raise Otherwise(f"{shown(reply)} to {shown(item)}")
+            raise (NoMemory if reply == NO_MEMORY else Otherwise)(f"{shown(reply)} to {shown(item)}")
     return replies
 
 
@@ -328,6 +333,13 @@ def measured(session: Session) -> Task[bytes]:
     _, _, _, step, *others = reply.split()
     session.place.offset = session.place.step - int(step)
     return b" ".join(others)
+
+
+def unless_measured(session: Session, told: bytes) -> Task[None]:
+    """Raises `Otherwise` if MEASURE tells something else."""
+    found = yield from measured(session)
+    if found != told:
+        raise Otherwise(f"MEASURE {shown(session.name)} {shown(found)} in place of {shown(told)}")
 
 
 def tugs(name: bytes, have: "array[int]", want: "array[int]") -> Iterator[bytes]:
@@ -383,8 +395,13 @@ def put_back(session: Session, part_of: Callable[[int], Part]) -> Task[None]:
         branch.place.offset = branch.place.step - int(reply.split()[4])
         have = want
     yield from done(moves(session.name, have, present))
-    if (found := (yield from measured(session))) != part.measured:
-        raise Otherwise(f"MEASURE {shown(session.name)} {shown(found)} in place of {shown(part.measured)}")
+    yield from unless_measured(session, part.measured)
+
+
+def drop_all() -> Task[None]:
+    """Drops what a server has of the user."""
+    (listed,) = yield from asked([b"LIST\n"])
+    yield from done(b"DROP %s\n" % row.partition(b" ")[0] for row in listed.split(b"\n")[1:-1])
 
 
 def read(session: Session, stored: int) -> Task[List[Part]]:
@@ -399,9 +416,9 @@ def read(session: Session, stored: int) -> Task[List[Part]]:
             yield from asked([b"RESTORE %s %s\n" % (session.name, name)])
             have = yield from frames_of(session, branch.place.direction)
             parts.append(part_at(branch.id, session.id, name, branch.place, have))
-    yield from done(moves(session.name, have, present))
-    if have is not present and (found := (yield from measured(session))) != told:
-        raise Otherwise(f"MEASURE {shown(session.name)} {shown(found)} in place of {shown(told)}")
+    if have is not present:
+        yield from done(moves(session.name, have, present))
+        yield from unless_measured(session, told)
     return parts
 
 
@@ -428,7 +445,8 @@ def tell_again(sessions: Sessions, records: Sequence[Told], number: int) -> Task
         for at, (record, reply) in enumerate(zip(told, replies), number + first + 1):
             found = sessions.hear(words_of(record.item.partition(b"\n")[0]), reply, at)
             if found != record.reply:
-                raise Otherwise(f"{shown(found)} in place of {shown(record.reply)}, when told again")
+                text = f"{shown(found)} in place of {shown(record.reply)}, when told again"
+                raise (NoMemory if found == NO_MEMORY else Otherwise)(text)
 
 
 def as_start(record: Told) -> Told:

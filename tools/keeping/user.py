@@ -3,6 +3,7 @@ of its sessions is taken.
 
 It does no reading and writing of its own, and knows ends (`ends`), the store and its writer by the methods that it calls.
 """
+import asyncio
 import time
 from collections import deque
 from functools import partial
@@ -10,7 +11,7 @@ from typing import Callable, Deque, Dict, List, Optional
 
 from keeping.ends import Client, Link
 from keeping.items import Item, Told, words_of
-from keeping.sessions import KEPT, Long, Otherwise, Sessions, Task, put_back, read_all, shown, tell_again
+from keeping.sessions import KEPT, Long, NoMemory, Otherwise, Sessions, Task, drop_all, put_back, read_all, shown, tell_again
 from keeping.store import Change, Damaged, Kept, Snapshot, Store, StoreFault
 from keeping.writer import Writer
 
@@ -25,6 +26,8 @@ MAX_RECORDS = 4000
 MAX_RECORD_BYTES = 2 << 20
 # It waits for pending steps until there are so many budgets.
 BUDGETS_TO_WAIT = 4
+# What found no memory is put back again after so long.
+SECONDS_BETWEEN_TRIES = 1.0
 Note = Callable[..., None]
 
 
@@ -54,7 +57,8 @@ class User:
         self._held: List[bytes] = []
         self._bytes_held = 0
         self._snapshot: Optional[Snapshot] = None
-        self._is_writing = self._is_near_an_end = self._is_over = False
+        self._is_writing = self._is_near_an_end = self._is_over = self._is_to_try_again = False
+        self._timer: Optional[asyncio.TimerHandle] = None
         # What was computed since a snapshot is not known here, so there soon is another one.
         self._is_wanted = bool(kept.records)
         self._since = self._seconds = 0.0
@@ -97,6 +101,10 @@ class User:
         self._sent.clear()
         self._long = None
         self._bytes_sent = 0
+        self._is_to_try_again = False
+        if self._timer is not None:
+            self._timer.cancel()
+            self._timer = None
 
     def hear(self, replies: List[bytes]) -> None:
         """The server has replied."""
@@ -274,7 +282,7 @@ class User:
 
     def _begin_task(self) -> bool:
         """Begins to put all back, or to take a snapshot, if that is due and nothing is on its way."""
-        if self._task is not None or (not self._is_due() if self.is_ready else self._is_writing):
+        if self._task is not None or (not self._is_due() if self.is_ready else self._is_writing or self._timer is not None):
             return False
         self._task = self._take_snapshot() if self.is_ready else self._put_back()
         self._step(None)
@@ -288,6 +296,10 @@ class User:
             self._burst = self._task.send(replies)  # type: ignore[arg-type]
         except StopIteration:
             self._task = None
+        except NoMemory as fault:
+            self._task, self._is_to_try_again = None, True
+            self._timer = asyncio.get_running_loop().call_later(SECONDS_BETWEEN_TRIES, self._try_again)
+            self._note("put back later", user=self.name, why=f"the program replied {fault}")
         except Damaged as damage:
             self.stop(f"what is kept is damaged: {damage}")
         except StoreFault as fault:
@@ -309,8 +321,15 @@ class User:
         if len(self._heard) == len(self._burst):
             self._step(self._heard)
 
+    def _try_again(self) -> None:
+        self._timer = None
+        self.go_on()
+
     def _put_back(self) -> Task[None]:
         """Has a new server have all sessions as they are."""
+        if self._is_to_try_again:
+            yield from drop_all()
+            self._is_to_try_again = False
         self.sessions = Sessions(self._parts.values())
         for session in self.sessions.by_name.values():
             yield from put_back(session, partial(self._store.part, self.name))

@@ -1,4 +1,5 @@
 """What one user of `tools/keep` does at each event, with ends and a writer that only note what is asked of them."""
+import asyncio
 import io
 import pathlib
 import sys
@@ -238,6 +239,31 @@ def test_a_server_that_ends_within_a_snapshot_has_taken_none(user: Any) -> None:
     link = Link()
     user.begin(link, True)
     assert link.sent == LOAD + b"START a 2\n" and not user.writer.given
+
+
+def test_what_finds_no_memory_is_put_back_later(user: Any, monkeypatch: pytest.MonkeyPatch) -> None:
+    """What the server has of it is dropped first."""
+    monkeypatch.setattr("keeping.user.SECONDS_BETWEEN_TRIES", 0.0)
+    client, server = Client(LOAD + LOAD.replace(b"LOAD a", b"LOAD b")), Reference((8, 16384, 16))
+    answer(user, let_in(user, client), server)
+    user.writer.done()
+    user.lose_link()
+    link, server = Link(), Reference((8, 16384, 16))
+
+    async def put_back() -> None:
+        user.begin(link, True)
+        assert link.sent.count(b"LOAD") == 2
+        (reply,) = replies_to(io.BytesIO(LOAD), server)
+        link.sent = b""
+        user.hear([reply, b"ERR 90 MEMORY\n"])
+        assert link.sent == b"" and not user.is_ready and not user.stopped
+        await asyncio.sleep(0.01)
+        assert link.sent == b"LIST\n"
+        client.reader.feed(b"LIST\n")
+        answer(user, link, server)
+
+    asyncio.run(put_back())
+    assert user.is_ready and client.told.endswith(b"OK LIST 2\na 0 2 0\nb 0 2 0\n")
 
 
 def test_what_ends_a_connection_is_replied_behind_all_else(user: Any) -> None:
