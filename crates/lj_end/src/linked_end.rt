@@ -130,7 +130,7 @@ impl<C: Drop, X: Finish> LinkedEnd<X, C> {
     }
 }
 
-impl<C: Copy + Send + Drop, X: PoolLink<C>> PoolEnd for LinkedEnd<X, C> {
+impl<C: Copy + Drop, X: PoolLink<C>> PoolEnd for LinkedEnd<X, C> {
     type Closed = C;
 
     ghost use Rattle.lj_end.specs.declared.pool.TheConstants.{MAX_OWED};

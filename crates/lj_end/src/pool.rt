@@ -55,7 +55,7 @@ pub enum Refused {
 /// counted, as owed or as a stray, or is the next one again until it is counted.
 pub trait PoolEnd {
     /// The token of the pool's close. Only a closed pool makes one.
-    type Closed: Send + Drop;
+    type Closed: Drop;
 
     ghost seen: { Self → Seen };
 
