@@ -1,6 +1,7 @@
 //! Tests of the pools: full ends, a full pool, tasks posted together, refused posts, a closed pool, ends that are gone, a user
 //! that is withdrawn, ends that find nothing or poll, tasks taken round robin or sent back by a gate, work ahead of the next
 //! command, sessions computed at once, and boxes that are used again.
+ghost use Rattle.std.specs.Prelude.{◌≡◌, []};
 
 mod ahead;
 mod barrier;
@@ -40,7 +41,7 @@ use std::sync::atomic::{AtomicU64, Ordering};
 use std::test::Fail;
 use std::time::Duration;
 use std::{io, thread};
-use test_pool::{Host, TestPool};
+use test_pool::{Host, TestPool, TestWorkers};
 
 /// The user who comes last.
 const LAST: u8 = 16;
@@ -176,21 +177,21 @@ fn leave_all<S: TestPool<R>, R: Host>(rt: &R, test_pool: &S, ends: Vec<S::TestEn
     }
 }
 
-/// Serves the input of a user with the usual quota, and returns the output.
-fn serve_user<S: TestPool<R>, I: Read + Drop, W: Write + Drop, R: Host>(
+/// Serves the input of a user with the usual quota over an end of the user's, and returns the output.
+fn serve_over<P: Pool, I: Read + Drop, W: Write + Drop, R: Host>(
     rt: &R,
-    test_pool: &S,
+    end: &mut P,
     user: u8,
     input: I,
     output: W,
-) -> W {
-    let mut end = test_pool.end(rt, user);
+) -> W
+    requires { (P.seen end.old).owed ≡ [] }
+{
     let mut writer = Writing::new(output);
     let state = UserState::new(rt.alloc(), Quota::USUAL);
     let reader = Reading::new(input);
-    let (state, _, _) = serve(rt.alloc(), state, user, reader, &mut writer, &mut end);
+    let (state, _, _) = serve(rt.alloc(), state, user, reader, &mut writer, end);
     drop(state);
-    test_pool.leave(rt, end);
     writer.into_inner()
 }
 
@@ -200,7 +201,7 @@ fn sleep_a_while<R: Clock>(rt: &R) {
 }
 
 /// Closes a pool, after a while.
-fn close_late<S: TestPool<R>, R: Host>(rt: &R, test_pool: &S) {
+fn close_late<S: TestWorkers<R>, R: Host>(rt: &R, test_pool: &S) {
     sleep_a_while(rt);
     test_pool.close(rt);
 }

@@ -2,7 +2,7 @@
 
 use super::over_queue::over_queue;
 use super::scenario::{Scenario, Seen};
-use super::test_pool::{Host, TestPool};
+use super::test_pool::{Host, TestPool, TestWorkers};
 use super::{Counted, close_late, wait_for};
 use arrayvec::{ArrayString, ArrayVec};
 use lj_pool::{Served, serve};
@@ -98,13 +98,23 @@ pub fn serve_until_closed<S: TestPool<R> + Sync, R: Host + Sync>(
     test_pool: &S,
     case: StartsCase,
 ) -> StartsOutcome {
+    serve_until_closed_by(rt, test_pool, test_pool, case)
+}
+
+/// The same, where the pool that is closed is the one that serves, named by what may be sent to a thread.
+fn serve_until_closed_by<C: TestWorkers<R> + Sync, S: TestPool<R>, R: Host + Sync>(
+    rt: &R,
+    closed: &C,
+    test_pool: &S,
+    case: StartsCase,
+) -> StartsOutcome {
     let started = AtomicU64::new(0);
     let count = &started;
     let ((), outcome) = thread::join(
         rt,
         move || {
             wait_for(rt, count);
-            close_late(rt, test_pool);
+            close_late(rt, closed);
         },
         move || serve_starts(rt, test_pool, case, count),
     );

@@ -4,7 +4,7 @@ use super::over_lock::over_lock;
 use super::over_queue::over_queue;
 use super::room::{Answer, post_last};
 use super::scenario::{Scenario, Seen};
-use super::test_pool::{Host, TestPool, beside_worker};
+use super::test_pool::{Host, TestPool, TestWorkers, beside_worker};
 use super::{LAST, all_left, await_last, check_both, check_queue, close_late, posting_end};
 use crate::sample_task::task;
 use lj_pool::Pool;
@@ -26,7 +26,7 @@ fn wait_in_vain<P: Pool, R: Abort>(rt: &R, end: &mut P) -> bool {
 }
 
 /// Does the same while the pool is closed.
-fn wait_until_closed<S: TestPool<R> + Sync, P: Pool, R: Host + Sync>(
+fn wait_until_closed<S: TestWorkers<R> + Sync, P: Pool, R: Host + Sync>(
     rt: &R,
     test_pool: &S,
     end: &mut P,

@@ -1,7 +1,7 @@
 //! Ends that are gone: results of their tasks are dropped, and their passes go on.
 
 use super::scenario::{Scenario, Seen};
-use super::test_pool::{Host, TestPool};
+use super::test_pool::{Host, TestPool, TestWorkers};
 use super::{all_popped, check_queue, posting_end};
 use lj_pool::Gate;
 use lj_tile::TaskName;
@@ -16,7 +16,7 @@ struct Last<'a, S, R> {
     left: AtomicUsize,
 }
 
-impl<S: TestPool<R>, R: Host> Gate for Last<'_, S, R> {
+impl<S: TestWorkers<R>, R: Host> Gate for Last<'_, S, R> {
     fn between(&self, _name: &TaskName) {
         if self.left.fetch_sub(1, Ordering::SeqCst) == 1 {
             self.test_pool.close(self.rt);

@@ -2,8 +2,8 @@
 
 use super::over_lock::over_lock;
 use super::scenario::{Scenario, Seen};
-use super::test_pool::{Host, TestPool, work_both};
-use super::{Counted, all_fetched, all_popped, check_queue, serve_user, wait_for};
+use super::test_pool::{Host, TestWorkers, work_both};
+use super::{Counted, all_fetched, all_popped, check_queue, wait_for};
 use arrayvec::ArrayVec;
 use lj_pool::Gate;
 use lj_tile::{Kind, TaskName};
@@ -78,7 +78,7 @@ const ADVANCES: &str = "LOAD a 256 1 131072 rest 28\n2\ndimer\nAr 0 0 0\nAr 1.5 
 const MEASURES: &str = "LOAD a 256 1 131072 rest 28\n2\ndimer\nAr 0 0 0\nAr 1.5 0 0\nMEASURE a\n";
 
 /// Serves the commands of this user.
-fn serve_one<S: TestPool<R>, R: Host>(
+fn serve_one<S: TestWorkers<R>, R: Host>(
     rt: &R,
     test_pool: &S,
     user: u8,
@@ -94,11 +94,13 @@ fn serve_one<S: TestPool<R>, R: Host>(
         begins,
         count,
     };
-    serve_user(rt, test_pool, user, input.as_bytes(), counted).output
+    test_pool
+        .serve_user(rt, user, input.as_bytes(), counted)
+        .output
 }
 
 /// Serves both users at once, and then closes the pool.
-fn serve_both<S: TestPool<R> + Sync, R: Host + Sync>(
+fn serve_both<S: TestWorkers<R> + Sync, R: Host + Sync>(
     rt: &R,
     test_pool: &S,
     gate: &SendBack<R>,
@@ -122,7 +124,10 @@ struct HandBackOutcome {
 }
 
 /// Serves two users at once, beside two workers. Returns whether all was right.
-pub fn serve_beside_workers<S: TestPool<R> + Sync, R: Host + Sync>(rt: &R, test_pool: &S) -> bool {
+pub fn serve_beside_workers<S: TestWorkers<R> + Sync, R: Host + Sync>(
+    rt: &R,
+    test_pool: &S,
+) -> bool {
     let gate = SendBack::new(rt);
     let keeper = &gate;
     let ((held, other), (one, another)) = thread::join(

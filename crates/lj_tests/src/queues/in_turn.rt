@@ -2,7 +2,7 @@
 
 use super::barrier::Barrier;
 use super::scenario::{Scenario, Seen};
-use super::test_pool::{Host, TestPool, beside_worker};
+use super::test_pool::{Host, TestPool, TestWorkers, beside_worker};
 use super::{check_both, post_one};
 use crate::sample_task::task;
 use lj_pool::{Gate, Pool, TaskList};
@@ -67,7 +67,7 @@ fn post_fourth<P: Pool, R: Clock + Abort>(rt: &R, held: &Barrier<'_, R>, end: &m
 }
 
 /// Does this beside a worker that passes a gate, and then closes the pool.
-fn post_fourth_beside<S: TestPool<R> + Sync, P: Pool, R: Host + Sync>(
+fn post_fourth_beside<S: TestWorkers<R> + Sync, P: Pool, R: Host + Sync>(
     rt: &R,
     test_pool: &S,
     gate: &Noting<'_, R>,

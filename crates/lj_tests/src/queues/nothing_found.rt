@@ -1,7 +1,7 @@
 //! Fetches and polls that find nothing over an open pool of either kind: the end does not take that for a close.
 
 use super::scenario::{Scenario, Seen};
-use super::test_pool::{Host, TestPool};
+use super::test_pool::{Host, TestPool, TestWorkers};
 use super::{check_both, post_one, sleep_a_while};
 use crate::sample_task::task;
 use lj_pool::Pool;
@@ -29,7 +29,7 @@ fn fetch_one<P: Pool, R: Abort>(rt: &R, end: &mut P) -> bool {
 }
 
 /// Fetches a result before it is computed, by a worker that comes after a while.
-fn fetch_early<S: TestPool<R> + Sync, P: Pool, R: Host + Sync>(
+fn fetch_early<S: TestWorkers<R> + Sync, P: Pool, R: Host + Sync>(
     rt: &R,
     test_pool: &S,
     end: &mut P,

@@ -2,12 +2,13 @@
 ghost use Rattle.std.specs.Prelude.{◌≡◌};
 
 use super::scenario::{Scenario, Seen, Setup, run_over};
-use super::test_pool::{Host, TestPool, Worked};
-use super::{next, put_back};
+use super::test_pool::{Host, TestPool, TestWorkers, Worked};
+use super::{next, put_back, serve_over};
 use lj_book::Counts;
 use lj_pool::{Gate, LockEnd, LockPool, Share, gather, work};
 use lj_table::Table;
 use std::alloc::{AllocError, AllocGlobal};
+use std::io::{Read, Write};
 use std::marker::Brand;
 use std::sync::Mutex;
 use std::sync::ledger::{Blank, Ledger};
@@ -30,6 +31,21 @@ impl<'p, L: Ledger + Send + Sync, R: Host + Sync> TestPool<R> for LockTestPool<'
     fn leave(&self, _rt: &R, end: LockEnd<'p, L, R>) -> Option<usize> {
         end.finish();
         None
+    }
+}
+
+impl<'p, L: Ledger + Send + Sync, R: Host + Sync> TestWorkers<R> for LockTestPool<'p, L, R> {
+    fn serve_user<I: Read + Drop, W: Write + Drop>(
+        &self,
+        rt: &R,
+        user: u8,
+        input: I,
+        output: W,
+    ) -> W {
+        let mut end = self.end(rt, user);
+        let output = serve_over(rt, &mut end, user, input, output);
+        self.leave(rt, end);
+        output
     }
 
     fn work<G: Gate>(&self, rt: &R, gate: &G) -> Worked {

@@ -2,8 +2,8 @@
 ghost use Rattle.std.specs.Prelude.{◌≡◌, ◌+◌};
 
 use super::scenario::{Scenario, Seen, Setup, run_over};
-use super::test_pool::{Host, TestPool, Worked};
-use super::{next, put_back};
+use super::test_pool::{Host, TestPool, TestWorkers, Worked};
+use super::{next, put_back, serve_over};
 use lj_book::Counts;
 use lj_pool::{Gate, Share};
 use lj_queue::{
@@ -12,6 +12,7 @@ use lj_queue::{
 };
 use lj_table::Table;
 use std::alloc::{AllocError, AllocGlobal};
+use std::io::{Read, Write};
 use std::marker::Brand;
 use std::sync::Mutex;
 
@@ -37,6 +38,21 @@ impl<'p, L: PoolIdentity + Send + Sync, R: Host + Sync> TestPool<R> for QueueTes
         let number = pass.number();
         put_back(rt, &mut self.passes.lock(rt), pass);
         Some(number)
+    }
+}
+
+impl<'p, L: PoolIdentity + Send + Sync, R: Host + Sync> TestWorkers<R> for QueueTestPool<'p, L, R> {
+    fn serve_user<I: Read + Drop, W: Write + Drop>(
+        &self,
+        rt: &R,
+        user: u8,
+        input: I,
+        output: W,
+    ) -> W {
+        let mut end = self.end(rt, user);
+        let output = serve_over(rt, &mut end, user, input, output);
+        self.leave(rt, end);
+        output
     }
 
     fn work<G: Gate>(&self, rt: &R, gate: &G) -> Worked {

@@ -2,7 +2,7 @@
 //! not note that the pool is closed.
 
 use super::scenario::{Scenario, Seen};
-use super::test_pool::{Host, TestPool, beside_worker};
+use super::test_pool::{Host, TestPool, TestWorkers, beside_worker};
 use super::{check_both, post_one, sleep_a_while};
 use crate::sample_task::task;
 use lj_pool::Pool;
@@ -49,7 +49,7 @@ fn poll_for_both<P: Pool, R: Clock + Abort>(rt: &R, end: &mut P) -> bool {
 }
 
 /// Does the same beside a worker, and then closes the pool.
-fn poll_beside<S: TestPool<R> + Sync, P: Pool, R: Host + Sync>(
+fn poll_beside<S: TestWorkers<R> + Sync, P: Pool, R: Host + Sync>(
     rt: &R,
     test_pool: &S,
     end: &mut P,

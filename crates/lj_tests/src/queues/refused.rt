@@ -5,7 +5,7 @@ use super::over_lock::over_lock;
 use super::over_queue::over_queue;
 use super::room::{Answer, ENDS, fill, post_last};
 use super::scenario::{Scenario, Seen};
-use super::test_pool::{Host, TestPool};
+use super::test_pool::{Host, TestPool, TestWorkers};
 use super::{LAST, leave_all};
 use crate::sample_task::task;
 use lj_pool::{MAX_OWED, Pool};
@@ -87,7 +87,7 @@ fn post_all<P: Pool, R: Abort>(rt: &R, ends: &mut Vec<P>) -> u64 {
 
 /// Posts one more task while the first one is held, fetches the results of all, posts as many again while at most one of these is
 /// held, and closes the pool.
-fn go_on<S: TestPool<R>, P: Pool, R: Host>(
+fn go_on<S: TestWorkers<R>, P: Pool, R: Host>(
     rt: &R,
     test_pool: &S,
     barrier: &Barrier<'_, R>,
@@ -110,6 +110,22 @@ fn go_on<S: TestPool<R>, P: Pool, R: Host>(
     }
 }
 
+/// Does this beside a worker.
+fn go_on_beside_worker<S: TestWorkers<R> + Sync, P: Pool, R: Host + Sync>(
+    rt: &R,
+    test_pool: &S,
+    barrier: &Barrier<'_, R>,
+    ends: &mut Vec<P>,
+    last: &mut P,
+) -> RefusalCounts {
+    let (_, counts) = thread::join(
+        rt,
+        move || test_pool.work(rt, barrier),
+        || go_on(rt, test_pool, barrier, ends, last),
+    );
+    counts
+}
+
 /// Lets a full pool refuse many posts. Then a worker comes.
 ///
 /// # Errors
@@ -122,12 +138,7 @@ pub fn refuse_many<S: TestPool<R> + Sync, R: Host + Sync>(
     let mut last = test_pool.end(rt, LAST);
     let refused = post_in_vain(rt, &mut last);
     let barrier = Barrier::new(rt);
-    let keeper = &barrier;
-    let (_, counts) = thread::join(
-        rt,
-        move || test_pool.work(rt, keeper),
-        || go_on(rt, test_pool, keeper, &mut ends, &mut last),
-    );
+    let counts = go_on_beside_worker(rt, test_pool, &barrier, &mut ends, &mut last);
     test_pool.leave(rt, last);
     leave_all(rt, test_pool, ends);
     Ok(RefusalCounts { refused, ..counts })

@@ -3,7 +3,7 @@
 
 use super::over_lock::over_lock;
 use super::scenario::{Scenario, Seen};
-use super::test_pool::{Host, TestPool};
+use super::test_pool::{Host, TestPool, TestWorkers};
 use super::{
     LAST, all_left, all_popped, check_queue, leave_all, none_taken, posting_end, put_back,
     sleep_a_while,
@@ -71,7 +71,7 @@ pub fn post_last<P: Pool, R: Abort>(rt: &R, end: &mut P, wait: bool) -> Answer {
 }
 
 /// Posts a task that may wait for room, fetches its result, and closes the pool. Returns the answer, and whether the result came.
-fn post_and_fetch<S: TestPool<R>, P: Pool, R: Host>(
+fn post_and_fetch<S: TestWorkers<R>, P: Pool, R: Host>(
     rt: &R,
     test_pool: &S,
     end: &mut P,
@@ -109,7 +109,7 @@ pub struct FullPool {
 
 impl FullPool {
     /// Makes room or closes the pool, and computes tasks until it is closed.
-    fn relieve<S: TestPool<R>, R: Host>(&self, rt: &R, test_pool: &S) {
+    fn relieve<S: TestWorkers<R>, R: Host>(&self, rt: &R, test_pool: &S) {
         sleep_a_while(rt);
         match self.relief {
             Relief::Worker => {}
@@ -120,7 +120,7 @@ impl FullPool {
     }
 
     /// Lets the end that comes last wait meanwhile.
-    fn wait<S: TestPool<R> + Sync, P: Pool, R: Host + Sync>(
+    fn wait<S: TestWorkers<R> + Sync, P: Pool, R: Host + Sync>(
         &self,
         rt: &R,
         test_pool: &S,

@@ -2,8 +2,8 @@
 //! until it is called for that of the other.
 
 use super::scenario::{Scenario, Seen};
-use super::test_pool::{Host, TestPool, work_both};
-use super::{check_both, serve_user, wait_for};
+use super::test_pool::{Host, TestWorkers, work_both};
+use super::{check_both, wait_for};
 use arrayvec::ArrayVec;
 use lj_pool::Gate;
 use lj_tile::TaskName;
@@ -92,7 +92,7 @@ const EXPECTED: &str =
     "OK LOAD a 0 2\nOK LOAD b 0 2\nOK START a 1\nOK START b 1\nOK SHOW a 1 0 589 0 0\n";
 
 /// Serves the user, and then closes the pool.
-fn serve_starts<S: TestPool<R>, R: Host>(
+fn serve_starts<S: TestWorkers<R>, R: Host>(
     rt: &R,
     test_pool: &S,
     gate: &HoldFirst<'_, R>,
@@ -102,13 +102,16 @@ fn serve_starts<S: TestPool<R>, R: Host>(
         first: STARTS.as_bytes(),
         then: SHOW.as_bytes(),
     };
-    let output = serve_user(rt, test_pool, USER, input, SessionsOutput::new());
+    let output = test_pool.serve_user(rt, USER, input, SessionsOutput::new());
     test_pool.close(rt);
     output
 }
 
 /// Serves a user beside two workers. Returns whether all was right.
-pub fn serve_beside_workers<S: TestPool<R> + Sync, R: Host + Sync>(rt: &R, test_pool: &S) -> bool {
+pub fn serve_beside_workers<S: TestWorkers<R> + Sync, R: Host + Sync>(
+    rt: &R,
+    test_pool: &S,
+) -> bool {
     let gate = HoldFirst::new(rt);
     let keeper = &gate;
     let (output, _) = thread::join(

@@ -4,6 +4,7 @@ ghost use Rattle.std.specs.Prelude.{◌≡◌, []};
 use lj_book::Counts;
 use lj_pool::{Gate, Pool};
 use std::alloc::AllocGlobal;
+use std::io::{Read, Write};
 use std::process::Abort;
 use std::rt::Clock;
 use std::sync::Wait;
@@ -24,16 +25,16 @@ pub struct Worked {
     pub pass: Option<usize>,
 }
 
-/// A pool, and what its ends and workers need.
-pub trait TestPool<R: Host> {
-    type TestEnd: Pool + Send + Drop;
-
-    /// Makes an end for a user.
-    fn end(&self, rt: &R, user: u8) -> Self::TestEnd
-        ensures { (Self.TestEnd.seen result).owed ≡ [] };
-
-    /// Takes back what an end needed, and returns the number of its pass, if the pool has passes.
-    fn leave(&self, rt: &R, end: Self::TestEnd) -> Option<usize>;
+/// A pool, and what its workers need. It may be used by several threads, whatever its ends are.
+pub trait TestWorkers<R: Host> {
+    /// Serves the input of a user with the usual quota over an end of the pool, and returns the output.
+    fn serve_user<I: Read + Drop, W: Write + Drop>(
+        &self,
+        rt: &R,
+        user: u8,
+        input: I,
+        output: W,
+    ) -> W;
 
     /// Computes tasks, as a worker does, until the pool is closed.
     fn work<G: Gate>(&self, rt: &R, gate: &G) -> Worked;
@@ -48,8 +49,20 @@ pub trait TestPool<R: Host> {
     fn counts(&self, rt: &R) -> Option<Counts>;
 }
 
+/// A pool, and what its ends and workers need.
+pub trait TestPool<R: Host>: TestWorkers<R> {
+    type TestEnd: Pool + Send + Drop;
+
+    /// Makes an end for a user.
+    fn end(&self, rt: &R, user: u8) -> Self::TestEnd
+        ensures { (Self.TestEnd.seen result).owed ≡ [] };
+
+    /// Takes back what an end needed, and returns the number of its pass, if the pool has passes.
+    fn leave(&self, rt: &R, end: Self::TestEnd) -> Option<usize>;
+}
+
 /// Calls a function beside a worker, and then closes the pool.
-pub fn beside_worker<S: TestPool<R> + Sync, G: Gate + Sync, A, F: FnOnce() -> A, R: Host + Sync>(
+pub fn beside_worker<S: TestWorkers<R> + Sync, G: Gate + Sync, A, F: FnOnce() -> A, R: Host + Sync>(
     rt: &R,
     test_pool: &S,
     gate: &G,
@@ -70,7 +83,7 @@ pub fn beside_worker<S: TestPool<R> + Sync, G: Gate + Sync, A, F: FnOnce() -> A,
 }
 
 /// Computes tasks by two workers until the pool is closed, and returns what both did.
-pub fn work_both<S: TestPool<R> + Sync, G: Gate + Sync, R: Host + Sync>(
+pub fn work_both<S: TestWorkers<R> + Sync, G: Gate + Sync, R: Host + Sync>(
     rt: &R,
     test_pool: &S,
     gate: &G,
