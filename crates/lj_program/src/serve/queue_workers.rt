@@ -78,6 +78,10 @@ impl<'s, L: PoolIdentity + 's, R: Wait + 's> PoolEnds<'s, R> for QueueWorkers<L>
 impl<L: PoolIdentity + Send> WorkerPool for QueueWorkers<L> {
     type WorkerState = (Share<L>, PoolPass<L>);
 
+    ghost use Rattle.std.specs.Prelude.{◌≡◌, ◌+◌};
+    ghost use Rattle.std.specs.List.{sum_by};
+    ghost use Rattle.lj_queue.specs.declared.queue_pool.TheConstants.{CONNECTIONS};
+
     ghost has_workers = { λ workers. (workers ≡ L.parts) × (workers + CONNECTIONS ≡ L.passes) };
 
     ghost counted = { sum_by (λ state. state.0) };
