@@ -12,8 +12,8 @@ use crate::task_list::TaskList;
 use lj_task::{DoneRef, TaskRef};
 use std::marker::Model;
 
-/// What an end has of its pool: how tasks go there and results come. It is another one for each kind of pool, and says by its
-/// ghost members what each call has changed. `C` is the token of the pool's close.
+/// What an end has of its pool: how tasks go there and results come. Each kind of pool has its own link, which says by its ghost
+/// members what each call has changed. `C` is the token of the pool's close.
 ///
 /// Promise: the result that is shown changes only where the next one is taken.
 pub trait PoolLink<C>: Drop {

@@ -246,7 +246,8 @@ pub mod u64_lanes {
     /// Returns the products, modulo 2^64.
     ///
     /// ```rust
-    /// assert_eq!(u64_lanes::mul(Simd::from_array([5, 4_294_967_296]), Simd::from_array([2, 4_294_967_297])).to_array(), [10, 4_294_967_296]);
+    /// let (a, b) = (Simd::from_array([5, 4_294_967_296]), Simd::from_array([2, 4_294_967_297]));
+    /// assert_eq!(u64_lanes::mul(a, b).to_array(), [10, 4_294_967_296]);
     /// ```
     #[inline(always)]
     pub fn mul<const N: usize>(a: Simd<u64, N>, b: Simd<u64, N>) -> Simd<u64, N>
