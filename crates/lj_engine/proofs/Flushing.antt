@@ -1,5 +1,5 @@
 -- The writer is flushed before a read that may wait, so at each end of serving that a read brings.
-use Rattle.std.proofs.Common.{◌≡◌, ℕ, Bool, true, false, ◌⊎◌, inl, inr, Result, Ok, Some, refl, sym, ◌∙◌}
+use Rattle.std.proofs.Common.{◌≡◌, Bool, true, false, ◌⊎◌, inl, inr, Result, Ok, Some, refl, ◌∙◌}
 use Rattle.lj_wire.specs.declared.source_and_sink.ReadFault.{ReadFault as ReadFaultOf}
 use Rattle.lj_wire.specs.declared.item.Item.{Item}
 use Rattle.lj_wire.specs.LineReader.{LineReader, BeginsWithItem}

@@ -263,6 +263,14 @@ module _ (owner : Owner) (before after : Seen) (t : Gathers owner before.owed) (
 pub shown : (old new : Seen) {last work : Task} → work ≡ last → IsHandedOut last old new → IsHandedOut work old new
 shown old new is handed = subst (λ work. IsHandedOut work old new) (sym is) handed
 
+-- no more is owed once a result was handed out
+pub handed-owes : (task : Task) (old new : Seen) → IsHandedOut task old new → length new.owed ≤ length old.owed
+handed-owes task old new (inl off) =
+    let was = ap length off.was ∙ length-append off.front (task ∷ off.behind) in
+    let is = ap length off.owed ∙ length-append off.front off.behind in
+    omega (arith, was, is)
+handed-owes task old new (inr stray) = let same = ap length stray.owed in omega (arith, same)
+
 -- a result that comes
 module _ (owner : Owner) (before after : Seen) (t : Gathers owner before.owed) (work : Task)
     (handed : IsHandedOut work before after) where

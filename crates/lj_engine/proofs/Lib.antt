@@ -13,5 +13,6 @@ pub mod Dialogues
 pub mod Handing
 pub mod ItemEnds
 pub mod Flushing
+pub mod Quiet
 mod AllRead
 pub mod Posts

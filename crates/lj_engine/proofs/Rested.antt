@@ -1,7 +1,7 @@
 -- States whose steps are begun anew: what is to come of them, and that nothing is owed then where no step is pending.
-use Rattle.std.proofs.Common.{◌≡◌, ℕ, ◌<◌, ◌≤◌, nat_lt, List, [], ◌∷◌, map, Option, Some, None, refl, sym, ap}
+use Rattle.std.proofs.Common.{◌≡◌, ℕ, ◌<◌, ◌≤◌, nat_lt, Bool, true, false, ◌||◌, is_some, List, [], ◌∷◌, map, Option, Some, None, refl, sym, ap}
 use Rattle.std.proofs.Common.{◌∙◌, subst, arith}
-use Rattle.std.specs.List.{IsDistinct, Contains, filter, sum_by}
+use Rattle.std.specs.List.{IsDistinct, Contains, filter, find, sum_by}
 use Rattle.std.specs.Option.{option_map, option_map_or}
 use Rattle.std.specs.Str.{bytes_eq}
 use Rattle.std.proofs.lemmas.Bool.{ltb-true, ltb-false}
@@ -9,14 +9,14 @@ use Rattle.std.proofs.lemmas.List.Sums.{sum_by-cons}
 use Rattle.std.proofs.lemmas.Option.{none-some, same_Some}
 use Rattle.lj_task.specs.Task.{Task}
 use Rattle.lj_session.specs.UserState.{LiveSession, UserState, IsAtWork, live_session, pending_in, loaded_names, with_step_restarted, with_steps_restarted}
-use Rattle.lj_session.specs.Owner.{Owner, owner_of_state, label_of}
+use Rattle.lj_session.specs.Owner.{Owner, owner_of_state, label_of, has_pending, is_busy}
 use Rattle.lj_session.proofs.AtWork.{at_work-rested, kind-none}
 use Rattle.lj_session.proofs.Entries.{by_test, named-seen}
 use Rattle.lj_session.proofs.Holding.{pending-of}
 use Rattle.lj_engine.specs.Gathering.{IsGathered, is_of_session, tasks_posted_of, Gathers, NonePending}
 use Rattle.lj_engine.specs.Counting.{pending_tiles, tiles_pending}
 use Rattle.lj_engine.specs.Coming.{tiles_of_session, state_tiles_coming}
-use Rattle.lj_engine.proofs.Sessions.{same_name, sum-below}
+use Rattle.lj_engine.proofs.Sessions.{same_name, sum-below, find-none-named}
 use Rattle.lj_engine.proofs.Gathered.{Opened, owed_wanted, taken_open}
 use Rattle.lj_engine.proofs.Tiles.{rest-tiles, rest-pending, rest-more, rest-gathered, rest-posted, closed-part, closed-posted}
 
@@ -96,6 +96,28 @@ gathers-entered state number distinct = record {
         ap (tasks_posted_of (label_of (owner_of_state state number) name)) (rested-there state name ∙ ap (option_map with_step_restarted) e)
         ∙ rest-posted was (label_of (owner_of_state state number) name)
 
+none-found : {A : Type 0} (o : Option A) → is_some o ≡ false → o ≡ None
+none-found None e = refl
+none-found (Some a) e = absurd (let differ : true ≡ false = e in cc)
+
+first-false : (a b : Bool) → (a || b) ≡ false → a ≡ false
+first-false false b e = refl
+first-false true b e = absurd (let differ : true ≡ false = e in cc)
+
+pending-named : (owner : Owner) → is_busy owner ≡ false → (name : List ℕ) (o : Option LiveSession)
+    → live_session owner.state name ≡ o → pending_in owner.state name ≡ 0
+pending-named owner quiet name None e = ap (λ s. option_map_or (λ (h : LiveSession). h.pending) s 0) e
+pending-named owner quiet name (Some session) e =
+    let none = find-none-named (has_pending owner) owner.state.sessions name session
+    (none-found (find (has_pending owner) (loaded_names owner.state)) quiet) e in
+    let at_most = ltb-false 0 (pending_in owner.state name)
+    (first-false (nat_lt 0 (pending_in owner.state name)) _ none) in
+    omega (arith, at_most)
+
+-- no step is pending where no session has one to make
+pub not-busy : (owner : Owner) → is_busy owner ≡ false → NonePending owner.state
+not-busy owner quiet name = pending-named owner quiet name (live_session owner.state name) refl
+
 -- nothing waits, and these tasks are owed
 module _ (owner : Owner) (owed : List Task) (t : Gathers owner owed) (idle : owner.waiting ≡ None) where
   work : IsAtWork None owner.state
@@ -126,6 +148,14 @@ module _ (owner : Owner) (owed : List Task) (t : Gathers owner owed) (idle : own
       by [] e = e
       by (w ∷ ws) e =
           absurd (not_none w ws e (sym (rested-pending owner.state w.name.label.session) ∙ none w.name.label.session))
+
+  -- where no step is pending, the pool owes nothing
+  pub quiet-owed : NonePending owner.state → owed ≡ []
+  quiet-owed none = by owed refl
+    where
+      by : (ws : List Task) → owed ≡ ws → owed ≡ []
+      by [] e = e
+      by (w ∷ ws) e = absurd (not_none w ws e (none w.name.label.session))
 
   -- the session of each task that it owes has a pending step
   pub owed-pending : (task : Task) → Contains owed task → 0 < pending_in owner.state task.name.label.session

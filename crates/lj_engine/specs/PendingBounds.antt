@@ -1,6 +1,6 @@
 -- An upper bound of the pending steps of a session after some items: those before, and those of each START granted since then;
 -- 0 once an item has waited for the session.
-use Rattle.std.specs.Prelude.{◌+◌, ◌≤◌, ℕ, Bool, List, [], ◌∷◌, if◌then◌else◌, Some}
+use Rattle.std.specs.Prelude.{◌+◌, ◌≤◌, ℕ, Bool, true, false, List, [], ◌∷◌, if◌then◌else◌, Some}
 use Rattle.std.specs.Str.{bytes_eq}
 use Rattle.lj_branch.specs.Named.{value_named}
 use Rattle.lj_session.specs.declared.command.Command.{Command}
@@ -25,6 +25,11 @@ most_after user (Ordered command) name n =
     if is_waited_for (Some command) name then 0 else n + steps_started user command name
 most_after user (Bad fault) name n = n
 most_after user (Last fault) name n = n
+
+-- an item after which steps may be pending where none was before: a START
+abbrev pub leaves_pending : Item → Bool
+leaves_pending (Ordered (Start name n)) = true
+leaves_pending item = false
 
 -- the bound after items, each answered from the user that those before it leave
 abbrev pub most_after_all : User → List Item → List Bool → List ℕ → ℕ → ℕ

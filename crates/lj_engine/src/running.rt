@@ -1,18 +1,19 @@
 //! Runs the pending steps of sessions over a pool, while a command waits for them and before the next command is read.
-ghost use Rattle.std.specs.Prelude.{◌≡◌, ◌+◌, ◌<◌, ◌≤◌, length, ℕ, Bool, true, false, [], Some, None, Ok, IsSome, IfOk, IfErr, IfSome, OnErr};
+ghost use Rattle.std.specs.Prelude.{◌≡◌, ◌+◌, ◌<◌, ◌≤◌, length, ℕ, Bool, true, false, [], Some, None, Ok, IsSome, IfOk, IfErr, IfSome, OnErr, OnOk};
 ghost use Rattle.lj_session.specs.Cursors.{IsPostedTo, owner_posted_to};
 ghost use Rattle.lj_session.specs.Owner.{next_task_of, ready_session};
 ghost use Rattle.lj_session.specs.UserState.{next_task};
 ghost use Rattle.lj_engine.specs.declared.running.Halt.TheVariants.{TooManyStrays};
 ghost use Rattle.lj_end.specs.Seen.{IsStray, SameOwed};
-ghost use Rattle.lj_engine.specs.Gathering.{Gathers};
+ghost use Rattle.lj_engine.specs.Gathering.{Gathers, NonePending};
+ghost use Rattle.lj_engine.specs.PendingBounds.{leaves_pending};
 ghost use Rattle.lj_engine.specs.Counting.{FallsShort, StraysRise};
 ghost use Rattle.lj_engine.specs.Coming.{GoesOn, posts_coming, tiles_coming};
 ghost use Rattle.lj_engine.specs.Posting.{AreEnds, AreNext, after_posts};
 ghost use Rattle.lj_engine.specs.Running.{AnswersNext, AnswersPending, FetchesStray, IsHalted, IsSameUser, LeavesUnanswered};
 
 use lj_end::{MAX_AHEAD, MAX_POSTS, MAX_STRAYS, NotPosted, PoolEnd, TaskList};
-use lj_session::{Begin, Owner, Refusal, Reply, TileCursor};
+use lj_session::{Begin, Command, Owner, Refusal, Reply, TileCursor};
 use lj_wire::Item;
 
 /// Why the work was aborted.
@@ -87,8 +88,11 @@ pub(crate) fn work_ahead<P: PoolEnd>(
     has_pending: bool,
 ) -> Result<bool, Halt>
     requires idle { owner.old.waiting ≡ None }
+    requires quiet { has_pending ≡ false → NonePending owner.old.state }
     requires gathers { Gathers owner.old (P.seen pool.old).owed }
     ensures goes_on { GoesOn owner.old (P.seen pool.old) owner.new (P.seen pool.new) }
+    ensures quiet { IfOk result (λ pending. pending ≡ false → NonePending owner.new.state) }
+    ensures few { OnOk result (length (P.seen pool.new).owed ≤ MAX_AHEAD) }
     ensures many { OnErr result (MAX_AHEAD < length (P.seen pool.new).owed) }
     ensures halted { IfErr result (λ halt. IsHalted halt (P.seen pool.old) (P.seen pool.new)) }
     ensures counted { P.uncounted pool.old ≡ false → P.uncounted pool.new ≡ false }
@@ -105,11 +109,19 @@ pub(crate) fn work_ahead<P: PoolEnd>(
     Ok(owner.is_busy())
 }
 
+/// Returns whether steps may be pending after an item where none was before: those of a START.
+pub(crate) fn leaves_pending(item: &Item) -> bool
+    ensures { result ≡ leaves_pending item.now }
+{
+    matches!(item, Item::Command(Command::Start { .. }))
+}
+
 /// Takes in the results that are there now. Returns whether one of them was of an awaited tile.
 fn poll_all<P: PoolEnd>(owner: &mut Owner, pool: &mut P) -> bool
     requires gathers { Gathers owner.old (P.seen pool.old).owed }
     ensures goes_on { GoesOn owner.old (P.seen pool.old) owner.new (P.seen pool.new) }
     ensures fewer { result ≡ true → tiles_coming owner.new < tiles_coming owner.old }
+    ensures owes { length (P.seen pool.new).owed ≤ length (P.seen pool.old).owed }
     ensures counted { P.uncounted pool.old ≡ false → P.uncounted pool.new ≡ false }
     ensures own { let user = owner.old.number in P.for_others pool.new user ≡ P.for_others pool.old user }
 {
@@ -221,6 +233,7 @@ fn note_posted(owner: &mut Owner, cursor: &TileCursor, ends: &[usize; MAX_POSTS]
 fn fetch_down<P: PoolEnd>(owner: &mut Owner, pool: &mut P) -> Result<(), Halt>
     requires gathers { Gathers owner.old (P.seen pool.old).owed }
     ensures goes_on { GoesOn owner.old (P.seen pool.old) owner.new (P.seen pool.new) }
+    ensures few { OnOk result (length (P.seen pool.new).owed ≤ MAX_AHEAD) }
     ensures many { OnErr result (MAX_AHEAD < length (P.seen pool.new).owed) }
     ensures halted { IfErr result (λ halt. IsHalted halt (P.seen pool.old) (P.seen pool.new)) }
     ensures counted { P.uncounted pool.old ≡ false → P.uncounted pool.new ≡ false }
@@ -325,6 +338,7 @@ fn poll_next<P: PoolEnd>(owner: &mut Owner, pool: &mut P) -> Option<bool>
     ensures goes_on { GoesOn owner.old (P.seen pool.old) owner.new (P.seen pool.new) }
     ensures fewer { IfSome result (λ taken. taken ≡ true → tiles_coming owner.new < tiles_coming owner.old) }
     ensures stray { IfSome result (λ taken. taken ≡ false → StraysRise 1 (P.seen pool.old) (P.seen pool.new)) }
+    ensures owes { length (P.seen pool.new).owed ≤ length (P.seen pool.old).owed }
     ensures counted { P.uncounted pool.old ≡ false → P.uncounted pool.new ≡ false }
     ensures own { let user = owner.old.number in P.for_others pool.new user ≡ P.for_others pool.old user }
 {
@@ -342,6 +356,7 @@ fn accept_and_count<P: PoolEnd>(owner: &mut Owner, pool: &mut P) -> bool
     ensures goes_on { GoesOn owner.old (P.seen pool.old) owner.new (P.seen pool.new) }
     ensures fewer { result ≡ true → tiles_coming owner.new < tiles_coming owner.old }
     ensures stray { result ≡ false → IsStray (P.last pool.old) (P.seen pool.old) (P.seen pool.new) }
+    ensures owes { length (P.seen pool.new).owed ≤ length (P.seen pool.old).owed }
     ensures counted { P.uncounted pool.new ≡ false }
     ensures own { (user : ℕ) → P.for_others pool.new user ≡ P.for_others pool.old user }
 {

@@ -6,12 +6,12 @@ ghost use Rattle.lj_engine.specs.Endings.{served_of};
 ghost use Rattle.lj_engine.specs.Served.{ReturnsState, HasCause, Serves};
 ghost use Rattle.lj_engine.specs.Waiting.{Flushes};
 
-use crate::running::{Halt, answer, work_ahead};
+use crate::running::{Halt, answer, leaves_pending, work_ahead};
 use crate::served::{Served, ending_of};
 use crate::waiting::{flush_before_read, next_item};
 use crate::writing::put_reply;
 use lj_end::PoolEnd;
-use lj_session::{Command, Owner, UserState};
+use lj_session::{Owner, UserState};
 use lj_wire::{Fault, Item, Line, LineReader, ReadFault, Sink, Source, WriteFault};
 use std::alloc::Global;
 
@@ -82,7 +82,7 @@ pub fn serve_lines<R: Source, W: Sink, P: PoolEnd>(
             Err(ReadFault) => return (Some(owner.into_state()), Served::ReadFault),
         }
         let ending = ending_of(&item);
-        has_pending = has_pending || matches!(&item, Item::Command(Command::Start { .. }));
+        has_pending |= leaves_pending(&item);
         let reply = match answer(&mut owner, pool, &mut item) {
             Ok(reply) => reply,
             Err(halt) => return given_up(owner, halt),

@@ -1,6 +1,6 @@
 use Rattle.std.proofs.Common.{sym, ◌∙◌, subst}
 use Rattle.lj_engine.proofs.Gathered.{known_by_name}
-use Rattle.lj_engine.proofs.Going.{comes, comes_fewer, comes_stray, shown}
+use Rattle.lj_engine.proofs.Going.{comes, comes_fewer, comes_stray, handed-owes, shown}
 use Rattle.lj_end.specs.Accounts.{IsKnownByName}
 use Rattle.lj_end.specs.Seen.{IsStray}
 use Rattle.lj_engine.proofs.running.accept_and_count.Goals as goal
@@ -35,3 +35,8 @@ returns-clause-stray g c dropped =
     subst (λ work. IsStray work old new) c.fetched.ensures
     (comes_stray c.args.owner.now old new c.requires.gathers c.fetched.result (shown old new c.fetched.ensures c.count.ensures.handed_out)
     c.accept_from.new.self c.accept_from.result c.accept_from.ensures.accepted (sym c.is_ok-taken.ensures.value ∙ dropped))
+
+pub returns-clause-owes : goal.returns-clause-owes
+returns-clause-owes g c =
+    handed-owes (g.P.PoolEnd.last c.args.pool.now) (g.P.PoolEnd.seen c.args.pool.now) (g.P.PoolEnd.seen c.count.new.self)
+    c.count.ensures.handed_out

@@ -1,6 +1,7 @@
 use Rattle.std.proofs.Common.{◌≡◌, inl, inr, length, refl, sym, ap, ◌∙◌, subst, arith}
 use Rattle.std.specs.Io.KnownBytes.{Appends}
 use Rattle.std.proofs.KnownBytes.{Appends-kept}
+use Rattle.std.proofs.lemmas.Bool.{true≢false}
 use Rattle.std.proofs.lemmas.List.{take_all}
 use Rattle.lj_session.specs.UserState.{user_of}
 use Rattle.lj_session.specs.Owner.{Owner}
@@ -13,6 +14,7 @@ use Rattle.lj_engine.proofs.Dialogues.{serving-more, serving-ends, ceases_open, 
 use Rattle.lj_engine.proofs.Ending.{halted_on}
 use Rattle.lj_engine.proofs.Handing.{entered_serving, entered_gathers, ahead_idle, ahead_serving, ahead_pending, back_few, given, hands_back}
 use Rattle.lj_engine.proofs.ItemEnds.{halt_cause, has_cause, item_cause, no_item_ends}
+use Rattle.lj_engine.proofs.Quiet.{quiet-after}
 use Rattle.lj_engine.proofs.Flushing.{may_read, no_item, flushes_waited, halt_flushes, item_flushes, write_flushes}
 use Rattle.lj_engine.specs.Waiting.{Flushes}
 use Rattle.lj_engine.proofs.serving.serve_lines.Goals as goal
@@ -26,6 +28,7 @@ items-init g c = record {
       entered_gathers c.args.state c.args.user c.new-owner.result c.new-owner.ensures.value (g.P.PoolEnd.seen c.args.pool.now)
       c.requires.none_owed c.new-owner.ensures.distinct;
   idle = ap (λ (o : Owner). o.waiting) c.new-owner.ensures.value;
+  quiet = λ none. absurd (true≢false none);
   number = ap (λ (o : Owner). o.number) c.new-owner.ensures.value;
   faults = refl;
   ready = inl (c.requires.fresh, refl);
@@ -163,7 +166,7 @@ returns-in-Err-put_reply-clause-handed_back g c =
 pub returns-in-Some-clause-dialogue : goal.returns-in-Some-clause-dialogue
 returns-in-Some-clause-dialogue g c =
     let item = c.in-Ok-true.ensures.item c.in-Ok-true.field-0-test in
-    let written = rw c.state.ensures at c.in_default-put_reply.ensures.written in
+    let written = rw c.state.ensures at c.in_default.ensures.written in
     let s = ahead_serving c.items.invariant.idle c.work_ahead.ensures.goes_on c.items.invariant.serving in
     let finished = c.in-Ok-answer.ensures.answered.finished in
     serving-ends c.args.state c.args.lines.now c.items.lines (g.W.Sink.contents c.args.writer.now)
@@ -196,7 +199,7 @@ returns-in-Some-clause-handed_back g c =
 pub items-preserved : goal.items-preserved
 items-preserved g c =
     let item = c.in-Ok-true.ensures.item c.in-Ok-true.field-0-test in
-    let written = rw c.state.ensures at c.in_default-put_reply.ensures.written in
+    let written = rw c.state.ensures at c.in_default.ensures.written in
     let s = ahead_serving c.items.invariant.idle c.work_ahead.ensures.goes_on c.items.invariant.serving in
     let answered = c.in-Ok-answer.ensures.answered in
     let flushed = c.in_default-flush_before_read.ensures in
@@ -211,8 +214,11 @@ items-preserved g c =
           (sym c.ending_of-ending.ensures ∙ c.in_default-ending.is) answered.pending;
       gathers = answered.finished.gathers;
       idle = answered.finished.idle;
+      quiet = λ none.
+          quiet-after c.work_ahead.new.owner.state c.next_item.new.item c.answer.new.owner.state answered.pending
+          c.in-Ok.has_pending c.leaves_pending-has_pending.result none c.in-Ok.ensures.quiet c.leaves_pending-has_pending.ensures;
       number = c.answer.ensures.same.number ∙ c.work_ahead.ensures.goes_on.number ∙ c.items.invariant.number;
-      faults = flushed.counted ∙ c.in_default-put_reply.ensures.counted ∙ c.items.invariant.faults;
+      faults = flushed.counted ∙ c.in_default.ensures.counted ∙ c.items.invariant.faults;
       ready = inr flushed.ready;
       counted = λ none. c.answer.ensures.counted (c.work_ahead.ensures.counted (c.items.invariant.counted none));
       own = subst (λ user. g.P.PoolEnd.for_others c.answer.new.pool user ≡ g.P.PoolEnd.for_others c.work_ahead.new.pool user)
@@ -260,7 +266,7 @@ returns-in-Some-clause-flushed g c =
 pub returns-in-Err-flush_before_read-clause-dialogue : goal.returns-in-Err-flush_before_read-clause-dialogue
 returns-in-Err-flush_before_read-clause-dialogue g c =
     let item = c.in-Ok-true.ensures.item c.in-Ok-true.field-0-test in
-    let written = rw c.state.ensures at c.in_default-put_reply.ensures.written in
+    let written = rw c.state.ensures at c.in_default.ensures.written in
     let s = ahead_serving c.items.invariant.idle c.work_ahead.ensures.goes_on c.items.invariant.serving in
     let words = text (user_of c.answer.new.owner.state) c.in-Ok-answer.reply in
     serving-breaks c.args.state c.args.lines.now c.items.lines (g.W.Sink.contents c.args.writer.now)
@@ -280,7 +286,7 @@ returns-in-Err-flush_before_read-clause-cause g c =
     (g.W.Sink.faults c.flush_before_read.new.writer) (g.P.PoolEnd.seen c.args.pool.now) (g.P.PoolEnd.seen c.answer.new.pool)
     served.WriteFault
     (subst (λ faults. Rises faults (g.W.Sink.faults c.flush_before_read.new.writer))
-    (c.in_default-put_reply.ensures.counted ∙ c.items.invariant.faults) c.in-Err-flush_before_read.ensures.risen)
+    (c.in_default.ensures.counted ∙ c.items.invariant.faults) c.in-Err-flush_before_read.ensures.risen)
 
 pub returns-in-Err-flush_before_read-clause-flushed : goal.returns-in-Err-flush_before_read-clause-flushed
 returns-in-Err-flush_before_read-clause-flushed g c = write_flushes _ _

@@ -1,6 +1,6 @@
 use Rattle.std.proofs.Common.{◌≡◌, ◌+◌, ◌-◌, None, false}
 use Rattle.lj_wire.specs.declared.line_limits.TheConstants.{MAX_ITEMS}
-use Rattle.lj_engine.specs.Gathering.{Gathers}
+use Rattle.lj_engine.specs.Gathering.{Gathers, NonePending}
 use Rattle.lj_engine.specs.Serving.{Serving}
 use Rattle.lj_engine.proofs.Flushing.{StaysReady}
 use Rattle.lj_engine.proofs.serving.serve_lines.Given as goal
@@ -12,6 +12,7 @@ invariant-items g l = record {
       (g.P.PoolEnd.seen l.initial.pool) (g.P.PoolEnd.seen l.pool) l.owner.state;
   gathers : Gathers l.owner (g.P.PoolEnd.seen l.pool).owed;
   idle : l.owner.waiting ≡ None;
+  quiet : l.has_pending ≡ false → NonePending l.owner.state;
   number : l.owner.number ≡ l.user;
   faults : g.W.Sink.faults l.writer ≡ g.W.Sink.faults l.initial.writer;
   ready : StaysReady l.lines (g.W.Sink.unflushed l.initial.writer) (g.W.Sink.unflushed l.writer);
