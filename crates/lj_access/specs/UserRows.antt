@@ -1,5 +1,5 @@
 -- The directory as a list of rows, numbered from 0: each user's name, token and tickets, and the state while it is not lent.
-use Rattle.std.specs.Prelude.{◌≡◌, ℕ, ◌+◌, ◌<◌, Bool, ◌&&◌, List, slice_get, slice_set, position, Option, Some, None, IsSome}
+use Rattle.std.specs.Prelude.{◌≡◌, ℕ, ◌+◌, ◌-◌, ◌<◌, Bool, ◌&&◌, List, slice_get, slice_set, position, Option, Some, None, IsSome}
 use Rattle.std.specs.Option.{option_map, option_and_then}
 use Rattle.std.specs.Str.{bytes_eq}
 use Rattle.lj_session.specs.UserState.{UserState, empty_state}
@@ -31,6 +31,14 @@ has_credentials name token row = bytes_eq row.name name && bytes_eq row.token to
 -- the number of the user with this name and this token, if there is one
 abbrev pub user_with : List UserRow → List ℕ → List ℕ → Option ℕ
 user_with rows name token = position (has_credentials name token) rows
+
+-- the number of the user's tickets that have not left
+abbrev pub tickets_out : UserRow → ℕ
+tickets_out row = row.granted - row.past
+
+-- the number of tickets that have not left of the user with this name and this token, if there is one
+abbrev pub tickets_out_of : List UserRow → List ℕ → List ℕ → Option ℕ
+tickets_out_of rows name token = option_map tickets_out (option_and_then (slice_get rows) (user_with rows name token))
 
 -- another ticket can be granted: not all 2^32 of the user are
 abbrev pub HasTicketLeft : UserRow → Type 0

@@ -5,7 +5,7 @@ ghost use Rattle.std.specs.Option.{ForSome, option_map, option_copied};
 ghost use Rattle.std.specs.Str.{bytes_eq};
 ghost use Rattle.lj_session.specs.UserState.{Reached};
 ghost use Rattle.lj_access.specs.UserLists.{user_names};
-ghost use Rattle.lj_access.specs.UserRows.{first_row, user_with, HasTicketLeft, next_number, home_of, CanEnter, HasEntered, with_ticket, without_home, with_home, with_row_changed};
+ghost use Rattle.lj_access.specs.UserRows.{first_row, user_with, tickets_out_of, HasTicketLeft, next_number, home_of, CanEnter, HasEntered, with_ticket, without_home, with_home, with_row_changed};
 
 use crate::ticket::{Denied, NotEntered, Ticket};
 use crate::user::User;
@@ -92,6 +92,15 @@ impl Directory {
         }
         let number = self.rows[user].grant();
         Ok(Ticket::new(user as u8, number))
+    }
+
+    /// Returns how many tickets of the user with this name and this token have not left: the one that has entered, those that wait,
+    /// and those given up whose turn has not come. None where no user has both.
+    pub fn tickets_out(&self, name: &[u8], token: &[u8]) -> Option<u64>
+        ensures { result ≡ tickets_out_of self.now name.now token.now }
+    {
+        let user = self.user_with(name, token)?;
+        Some(self.rows[user].tickets_out())
     }
 
     /// Lends the state of the ticket's user to this ticket, if it is the user's first one that has not left and the state is at

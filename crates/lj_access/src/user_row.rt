@@ -1,6 +1,6 @@
 //! The row of a user in the directory.
 ghost use Rattle.std.specs.Prelude.{◌≡◌, ◌↔◌, ◌<◌, IsTrue, IsSome, Some, None};
-ghost use Rattle.lj_access.specs.UserRows.{first_row, has_credentials, HasTicketLeft, IsFirstTicket, CanEnter, HasEntered, with_ticket, without_home, with_home};
+ghost use Rattle.lj_access.specs.UserRows.{first_row, has_credentials, tickets_out, HasTicketLeft, IsFirstTicket, CanEnter, HasEntered, with_ticket, without_home, with_home};
 ghost use Rattle.lj_session.specs.UserState.{Reached};
 
 use crate::user::User;
@@ -55,6 +55,13 @@ impl UserRow {
         ensures { result ≡ has_credentials name.now token.now self.now }
     {
         (self.name.as_bytes() == name) & self.token.is(token)
+    }
+
+    /// Returns how many tickets have not left.
+    pub(crate) fn tickets_out(&self) -> u64
+        ensures { result ≡ tickets_out self.now }
+    {
+        self.granted.saturating_sub(self.past)
     }
 
     /// Returns whether another ticket may be granted.

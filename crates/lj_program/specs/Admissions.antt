@@ -1,9 +1,14 @@
--- What becomes of a ticket that waits, and of a state that comes home.
-use Rattle.std.specs.Prelude.{◌≡◌, ◌⊎◌, List, Some, slice_get, IsSomeAnd}
+-- Who is granted no ticket, what becomes of a ticket that waits, and of a state that comes home.
+use Rattle.std.specs.Prelude.{◌≡◌, ◌<◌, ◌⊎◌, ℕ, List, Some, slice_get, IsSomeAnd}
 use Rattle.lj_session.specs.UserState.{Reached, UserState}
-use Rattle.lj_access.specs.UserRows.{CanEnter, HasEntered, Ticket, UserRow, home_of, with_home, with_row_changed, without_home}
+use Rattle.lj_access.specs.UserRows.{CanEnter, HasEntered, Ticket, UserRow, home_of, tickets_out_of, with_home, with_row_changed, without_home}
+use Rattle.lj_program.specs.declared.serve.shared_directory.TheConstants.{MAX_WAITING}
 use Rattle.lj_program.specs.declared.serve.shared_directory.EntryOutcome.{EntryOutcome}
 use Rattle.lj_program.specs.declared.serve.shared_directory.EntryOutcome.TheVariants.{Entered, Closed, Waits}
+
+-- the user with this name and this token has as many connections that wait as may, and one that is in
+abbrev pub IsCrowded : List UserRow → List ℕ → List ℕ → Type 0
+IsCrowded rows name token = IsSomeAnd (tickets_out_of rows name token) (λ out. MAX_WAITING < out)
 
 -- The outcome is that of this ticket. A state lent to it is one that commands reach.
 abbrev pub IsOutcome : Ticket → EntryOutcome → Type 0

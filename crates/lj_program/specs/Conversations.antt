@@ -1,5 +1,5 @@
 -- A conversation of one user, who begins without sessions.
-use Rattle.std.specs.Prelude.{◌≡◌, ℕ, List, Option}
+use Rattle.std.specs.Prelude.{◌≡◌, ℕ, List, Option, Result, Err}
 use Rattle.std.specs.Io.KnownBytes.{IsAtEnd}
 use Rattle.lj_quota.specs.declared.Quota.{Quota}
 use Rattle.lj_session.specs.UserState.{UserState, empty_state}
@@ -7,6 +7,9 @@ use Rattle.lj_engine.specs.declared.served.Served.{Served}
 use Rattle.lj_engine.specs.declared.served.Served.TheVariants.{End, PoolClosed, TooManyStrays}
 use Rattle.lj_end.specs.Seen.{Seen, nothing_seen}
 use Rattle.lj_engine.specs.Served.{Serves}
+use Rattle.lj_program.specs.declared.program_fault.ProgramFault.{ProgramFault}
+use Rattle.lj_program.specs.declared.program_fault.ProgramFault.TheVariants.{Write}
+use Rattle.lj_program.specs.Outcomes.{ComesTo}
 
 -- What was written is the dialogue of what was read, from a user of this quota without sessions, and serving ended as `served`
 -- says; at the end of the input all was read. The pool is never given up.
@@ -18,3 +21,9 @@ pub record Converses (served : Served) (quota : Quota) (left was is : Option (Li
   pub all : served ≡ End → IsAtEnd rest
   pub never_closed : served ≡ PoolClosed → ⊥
   pub few_strays : served ≡ TooManyStrays → ⊥
+
+-- A conversation, and its outcome by how serving ended; where the last flush fails it is a write fault.
+pub record RunsOver (quota : Quota) (left was is : Option (List ℕ)) (outcome : Result (Unit {0}) ProgramFault) : Type 0 where
+  pub served : Served
+  pub converses : Converses served quota left was is
+  pub comes_to : (outcome ≡ Err Write → ⊥) → ComesTo served outcome

@@ -9,6 +9,7 @@ use Rattle.lj_world.specs.declared.world_limits.TheConstants as world
 use Rattle.lj_program.specs.declared.quota_limits.TheConstants.{MAX_QUOTA_ATOMS, MAX_QUOTA_BRANCHES}
 use Rattle.lj_program.specs.declared.quota_limits.TheConstants.{MAX_QUOTA_SESSIONS}
 use Rattle.lj_program.specs.declared.serve.connection_limit.TheConstants.{MAX_OPEN_CONNECTIONS}
+use Rattle.lj_program.specs.declared.serve.shared_directory.TheConstants.{MAX_WAITING}
 
 -- a quota has at most 64 sessions
 most_sessions : MAX_QUOTA_SESSIONS ≡ 64
@@ -41,3 +42,7 @@ users_apart = refl
 -- a connection of a world may have as many tasks posted as may be owed to an end of a pool
 posted_as_owed : world.MAX_POSTED ≡ MAX_OWED
 posted_as_owed = refl
+
+-- eight connections of a user wait
+most_waiting : MAX_WAITING ≡ 8
+most_waiting = refl

@@ -1,7 +1,8 @@
 //! One user served over a reader and a writer.
 ghost use Rattle.std.specs.Prelude.{◌≡◌, false, Err, IfErr};
+ghost use Rattle.std.specs.Io.KnownBytes.{Keeps};
 ghost use Rattle.lj_wire.specs.Ends.{Rises};
-ghost use Rattle.lj_program.specs.Conversations.{Converses};
+ghost use Rattle.lj_program.specs.Conversations.{Converses, RunsOver};
 ghost use Rattle.lj_program.specs.Outcomes.{ComesTo, IsOfRun};
 ghost use Rattle.lj_program.specs.declared.program_fault.ProgramFault.TheVariants.{Write};
 ghost use Rattle.lj_engine.specs.declared.served.Served.TheVariants.{PoolClosed, ReadFault, TooManyStrays, WriteFault};
@@ -33,36 +34,55 @@ pub fn run<R: Read + Drop, W: Write + Drop>(
     ensures { IfErr result IsOfRun }
 {
     let source = CountedReading::new(Asked::reader(reader));
-    let sink = HeldWriting::new(alloc, Asked::writer(writer))?;
-    let (served, _, mut sink) = converse(alloc, quota, source, sink);
-    finish(served, &mut sink)
+    let mut sink = HeldWriting::new(alloc, Asked::writer(writer))?;
+    run_over(alloc, quota, source, &mut sink)
+}
+
+/// Answers the items of a source on a sink, as those of one user with this quota and no sessions, until the input or the
+/// connection ends, and flushes the last replies.
+///
+/// # Errors
+/// `Read` or `Write`.
+///
+/// Promise: what is written to a sink whose bytes are known is what `serve` writes, from a user of this quota without sessions
+/// on, and all of it is sent unless a write or a flush fails.
+pub fn run_over<R: Source + Drop, W: Sink>(
+    alloc: Global,
+    quota: Quota,
+    source: R,
+    sink: &mut W,
+) -> Result<(), ProgramFault<'static>>
+    ensures conversation { RunsOver quota (R.remaining source) (W.contents sink.old) (W.contents sink.new) result }
+    ensures sent { (result ≡ Err Write → ⊥) → W.unflushed sink.new ≡ false }
+    ensures fault { IfErr result IsOfRun }
+{
+    let (served, _source) = converse(alloc, quota, source, sink);
+    finish(served, sink)
 }
 
 /// Answers the items of a source on a sink, as those of one user with this quota and no sessions, until the input
-/// or the connection ends.
-///
-/// Promise: what is written to a sink whose bytes are known is what `serve` writes, from a user of this quota without sessions
-/// on.
+/// or the connection ends. Returns the source too.
 fn converse<R: Source + Drop, W: Sink>(
     alloc: Global,
     quota: Quota,
     source: R,
-    mut sink: W,
-) -> (Served, R, W)
-    ensures dialogue { Converses result.0 quota (R.remaining source) (W.contents sink) (W.contents result.2) }
+    sink: &mut W,
+) -> (Served, R)
+    ensures dialogue { Converses result.0 quota (R.remaining source) (W.contents sink.old) (W.contents sink.new) }
     ensures read_fault { result.0 ≡ ReadFault → Rises (R.errors source) (R.errors result.1) }
-    ensures write_fault { result.0 ≡ WriteFault → Rises (W.faults sink) (W.faults result.2) }
+    ensures write_fault { result.0 ≡ WriteFault → Rises (W.faults sink.old) (W.faults sink.new) }
 {
     let mut pool = InlinePool::new(Table::new());
     let state = UserState::new(alloc, quota);
-    let (_, served, source) = serve(alloc, state, ONLY_USER, source, &mut sink, &mut pool);
-    (served, source, sink)
+    let (_, served, source) = serve(alloc, state, ONLY_USER, source, sink, &mut pool);
+    (served, source)
 }
 
 /// Flushes the last replies, unless a write has failed, and returns the outcome of the run.
 fn finish<W: Sink>(served: Served, sink: &mut W) -> Result<(), ProgramFault<'static>>
     requires never_closed { served ≡ PoolClosed → ⊥ }
     requires few_strays { served ≡ TooManyStrays → ⊥ }
+    ensures kept { Keeps (W.contents sink.old) (W.contents sink.new) }
     ensures sent { (result ≡ Err Write → ⊥) → W.unflushed sink.new ≡ false }
     ensures outcome { (result ≡ Err Write → ⊥) → ComesTo served result }
     ensures fault { IfErr result IsOfRun }

@@ -9,7 +9,7 @@ mod quota_limits;
 mod replaying;
 mod serve;
 
-pub use conversing::run;
+pub use conversing::{run, run_over};
 pub use input::{TextFault, UsersFault, read_users};
 pub use program_fault::{ProgramFault, ReplayFault};
 pub use quota_limits::{MAX_QUOTA_ATOMS, MAX_QUOTA_BRANCHES, MAX_QUOTA_SESSIONS};

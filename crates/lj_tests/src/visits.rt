@@ -4,12 +4,14 @@ ghost use Rattle.std.specs.Prelude.{◌≡◌, ◌++◌, ◌∷◌, []};
 use crate::pending_steps::ClosingPool;
 use crate::users::users;
 use arrayvec::{ArrayString, ArrayVec};
-use lj_access::{Denied, Directory, Ticket};
+use lj_access::{Directory, Ticket};
 use lj_base::{Name, Token};
 use lj_pool::{PoolEnd, Served};
 use lj_quota::Quota;
 use lj_session::UserState;
-use lj_visit::{Backend, Lender, LentState, LentTicket, SeenClosed, Shut, UserEnd, Visited, visit};
+use lj_visit::{
+    Backend, Lender, LentState, LentTicket, NoTicket, SeenClosed, Shut, UserEnd, Visited, visit,
+};
 use lj_wire::{LineReader, Reading, Sink, WriteFault, Writing};
 use std::alloc::AllocGlobal;
 use std::fmt;
@@ -18,13 +20,13 @@ use std::marker::Model;
 use std::process::Abort;
 use std::test::Fail;
 
-/// An event of a backend. A state that entered was made of its quota, and has no sessions.
+/// An event of a backend. A state that entered was made of its quota, and has no sessions. The flag is whether bytes were held.
 #[derive(Drop)]
 enum Fact {
     Granted(Name, Vec<u8>, u8, u32),
-    Denied(Name, Vec<u8>),
-    Entered(u8, u32, Quota),
-    ShutOut(Ticket, Shut),
+    Ungranted(Name, Vec<u8>, NoTicket),
+    Entered(u8, u32, bool, Quota),
+    ShutOut(Ticket, bool, Shut),
     Opened(u8),
     Withdrawn(UserEnd<ClosingPool>),
     Left(Ticket, UserState),
@@ -40,16 +42,16 @@ struct Note {
 impl Model for Note {
     ghost use Rattle.lj_session.specs.UserState.{empty_state};
     ghost use Rattle.lj_visit.specs.Events.{Event};
-    ghost use Rattle.lj_visit.specs.Events.Event.{granted, denied, entered, shut_out, opened, withdrawn, left, closed};
-    ghost use Rattle.lj_tests.specs.declared.visits.Fact.TheVariants.{Granted, Denied, Entered, ShutOut, Opened, Withdrawn, Left, Closed};
+    ghost use Rattle.lj_visit.specs.Events.Event.{granted, ungranted, entered, shut_out, opened, withdrawn, left, closed};
+    ghost use Rattle.lj_tests.specs.declared.visits.Fact.TheVariants.{Granted, Ungranted, Entered, ShutOut, Opened, Withdrawn, Left, Closed};
 
     ghost Value = { Event };
 
     ghost view = { λ note. elim note.fact as (λ _. Event) [
       | Granted name token user number ↦ granted name token.items (record { user = user; number = number })
-      | Denied name token ↦ denied name token.items
-      | Entered user number quota ↦ entered (record { user = user; number = number }) (empty_state quota)
-      | ShutOut ticket why ↦ shut_out ticket why
+      | Ungranted name token why ↦ ungranted name token.items why
+      | Entered user number held quota ↦ entered (record { user = user; number = number }) held (empty_state quota)
+      | ShutOut ticket held why ↦ shut_out ticket held why
       | Opened user ↦ opened user
       | Withdrawn end ↦ withdrawn end.user (⟦<ClosingPool as PoolEnd>⟧.seen end.pool) 0
       | Left ticket state ↦ left ticket state
@@ -68,19 +70,27 @@ fn name_of(why: Shut) -> &'static str {
     }
 }
 
+/// Returns the words of a note that bytes were held.
+fn bytes_told(held: bool) -> &'static str {
+    if held { ", with bytes" } else { "" }
+}
+
 /// Writes a note as a line.
 fn put_note(text: &mut NotesText, note: &Note) -> fmt::Result {
     match &note.fact {
         Fact::Granted(name, _, user, number) => writeln!(text, "granted {name} {user} {number}"),
-        Fact::Denied(name, _) => writeln!(text, "denied {name}"),
-        Fact::Entered(user, number, _) => writeln!(text, "entered {user} {number}"),
-        Fact::ShutOut(ticket, why) => {
+        Fact::Ungranted(name, _, why) => writeln!(text, "{name}: {why}"),
+        Fact::Entered(user, number, held, _) => {
+            writeln!(text, "entered {user} {number}{}", bytes_told(*held))
+        }
+        Fact::ShutOut(ticket, held, why) => {
             writeln!(
                 text,
-                "shut out {} {} {}",
+                "shut out {} {} {}{}",
                 ticket.user(),
                 ticket.number(),
-                name_of(*why)
+                name_of(*why),
+                bytes_told(*held)
             )
         }
         Fact::Opened(user) => writeln!(text, "opened {user}"),
@@ -103,6 +113,8 @@ fn put_note(text: &mut NotesText, note: &Note) -> fmt::Result {
 enum TicketFate {
     /// It enters.
     Open,
+    /// None is granted: too many connections wait.
+    Crowded,
     /// It does not: the backend is closed.
     Shut,
     /// It does not: its client is gone.
@@ -121,10 +133,11 @@ struct FakeBackend<'t, R> {
 
 impl<R> Lender for FakeBackend<'_, R> {
     ghost use Rattle.std.specs.Prelude.{Bool, true, false};
-    ghost use Rattle.lj_tests.specs.declared.visits.TicketFate.TheVariants.{Open, Shut, Left};
+    ghost use Rattle.lj_tests.specs.declared.visits.TicketFate.TheVariants.{Open, Crowded, Shut, Left};
 
     ghost closed = { λ fake. elim fake.entry as (λ _. Bool) [
       | Open ↦ false
+      | Crowded ↦ false
       | Shut ↦ true
       | Left ↦ false
     ] };
@@ -135,10 +148,20 @@ impl<R> Lender for FakeBackend<'_, R> {
 }
 
 impl<R: Abort + AllocGlobal> FakeBackend<'_, R> {
+    /// Grants a ticket, if any is granted.
+    fn granted(&mut self, name: &Name, token: &Token) -> Result<Ticket, NoTicket>
+        ensures notes { self.new.notes.items ≡ self.old.notes.items }
+    {
+        if let TicketFate::Crowded = self.entry {
+            return Err(NoTicket::Crowded);
+        }
+        Ok(self.directory.hello(name.as_bytes(), token.as_bytes())?)
+    }
+
     /// Returns why no ticket enters. None where one does.
     fn shut(&self) -> Option<Shut> {
         match self.entry {
-            TicketFate::Open => None,
+            TicketFate::Open | TicketFate::Crowded => None,
             TicketFate::Shut => SeenClosed::look(self).map(Shut::Closed),
             TicketFate::Left => Some(Shut::Gone),
         }
@@ -171,29 +194,29 @@ impl<R: Abort + AllocGlobal> Backend for FakeBackend<'_, R> {
 
     ghost events = { λ fake. Some fake.notes.items };
 
-    fn hello(&mut self, name: &Name, token: &Token) -> Result<LentTicket, Denied> {
+    fn hello(&mut self, name: &Name, token: &Token) -> Result<LentTicket, NoTicket> {
         let word = self.bytes(token.as_bytes());
-        match self.directory.hello(name.as_bytes(), token.as_bytes()) {
+        match self.granted(name, token) {
             Ok(ticket) => {
                 self.note(Note {
                     fact: Fact::Granted(name.copy(), word, ticket.user(), ticket.number()),
                 });
                 Ok(LentTicket::new(ticket))
             }
-            Err(denied) => {
+            Err(why) => {
                 self.note(Note {
-                    fact: Fact::Denied(name.copy(), word),
+                    fact: Fact::Ungranted(name.copy(), word, why),
                 });
-                Err(denied)
+                Err(why)
             }
         }
     }
 
-    fn enter(&mut self, ticket: LentTicket, _held: bool) -> Result<LentState, Shut> {
+    fn enter(&mut self, ticket: LentTicket, held: bool) -> Result<LentState, Shut> {
         let ticket = ticket.take_back(self);
         if let Some(why) = self.shut() {
             self.note(Note {
-                fact: Fact::ShutOut(ticket, why),
+                fact: Fact::ShutOut(ticket, held, why),
             });
             return Err(why);
         }
@@ -201,7 +224,7 @@ impl<R: Abort + AllocGlobal> Backend for FakeBackend<'_, R> {
         let state = UserState::new(self.rt.alloc(), quota);
         let _sessions = state.len();
         self.note(Note {
-            fact: Fact::Entered(ticket.user(), ticket.number(), quota),
+            fact: Fact::Entered(ticket.user(), ticket.number(), held, quota),
         });
         Ok(LentState::new(ticket, state))
     }
@@ -291,7 +314,7 @@ const OTHER: VisitCase = VisitCase {
 
 const WRONG: VisitCase = VisitCase {
     input: "HELLO A 00000000000000000000000000000001\nLIST\n",
-    notes: "denied A\n",
+    notes: "A: denied\n",
     ..OTHER
 };
 
@@ -299,24 +322,39 @@ const WRONG: VisitCase = VisitCase {
 const STEP: &str = "HELLO B 00000000000000000000000000000000\n\
     LOAD a 256 1 131072 rest 28\n2\ndimer\nAr 0 0 0\nAr 1.5 0 0\nADVANCE a 1\nBYE\n";
 
+const CROWDED: VisitCase = VisitCase {
+    input: STEP,
+    entry: TicketFate::Crowded,
+    notes: "B: too many connections of this user wait\n",
+    visited: Visited::TurnedAway,
+    ..SILENT
+};
+
 const CLOSED: VisitCase = VisitCase {
     input: STEP,
     entry: TicketFate::Shut,
-    notes: "granted B 1 0\nshut out 1 0 closed\n",
+    notes: "granted B 1 0\nshut out 1 0 closed, with bytes\n",
     ..SILENT
 };
 
 const GONE: VisitCase = VisitCase {
     input: STEP,
     entry: TicketFate::Left,
-    notes: "granted B 1 0\nshut out 1 0 gone\n",
+    notes: "granted B 1 0\nshut out 1 0 gone, with bytes\n",
     ..SILENT
+};
+
+/// A client that is gone, and has sent nothing behind its first line.
+const QUIET: VisitCase = VisitCase {
+    input: "HELLO B 00000000000000000000000000000000\n",
+    notes: "granted B 1 0\nshut out 1 0 gone\n",
+    ..GONE
 };
 
 const STEPPING: VisitCase = VisitCase {
     input: STEP,
     replies: "OK HELLO B\nOK LOAD a 0 2\nOK ADVANCE a 1\nOK BYE\n",
-    notes: "granted B 1 0\nentered 1 0\nopened 1\nwithdrawn 1\nleft 1 0 1\n",
+    notes: "granted B 1 0\nentered 1 0, with bytes\nopened 1\nwithdrawn 1\nleft 1 0 1\n",
     visited: Visited::Attended(Served::Bye),
     ..SILENT
 };
@@ -325,12 +363,14 @@ const STEPPING: VisitCase = VisitCase {
 const CUT_OFF: VisitCase = VisitCase {
     calls: 0,
     replies: "OK HELLO B\nOK LOAD a 0 2\n",
-    notes: "granted B 1 0\nentered 1 0\nopened 1\nwithdrawn 1\n",
+    notes: "granted B 1 0\nentered 1 0, with bytes\nopened 1\nwithdrawn 1\n",
     visited: Visited::Attended(Served::PoolClosed),
     ..STEPPING
 };
 
-const CASES: [VisitCase; 7] = [SILENT, OTHER, WRONG, CLOSED, GONE, STEPPING, CUT_OFF];
+const CASES: [VisitCase; 9] = [
+    SILENT, OTHER, WRONG, CROWDED, CLOSED, GONE, QUIET, STEPPING, CUT_OFF,
+];
 
 #[test]
 fn a_visit_asks_for_no_more_than_it_may(rt: HostRuntime) -> Result<(), Fail> {
@@ -384,7 +424,7 @@ fn a_user_that_is_not_welcomed_leaves_at_once(rt: HostRuntime) -> Result<(), Fai
     assert_eq!(rt; visited, Visited::NotWelcomed);
     assert_eq!(rt;
         text_of(&backend)?.as_str(),
-        "granted B 1 0\nentered 1 0\nleft 1 0 0\n"
+        "granted B 1 0\nentered 1 0, with bytes\nleft 1 0 0\n"
     );
     assert!(rt; writer.faults > 0);
     Ok(())

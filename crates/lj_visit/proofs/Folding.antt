@@ -1,6 +1,6 @@
 -- Visits one after the other: their items, their marks and their texts, joined.
-use Rattle.std.proofs.Common.{◌≡◌, ◌≢◌, ℕ, Bool, true, List, [], ◌∷◌, ◌++◌, length, Some, None, ◌⊎◌}
-use Rattle.std.proofs.Common.{refl, sym, ap, ◌∙◌, subst, arith, inl, inr}
+use Rattle.std.proofs.Common.{◌≡◌, ◌≢◌, ℕ, Bool, true, List, [], ◌∷◌, ◌++◌, Some, None, ◌⊎◌}
+use Rattle.std.proofs.Common.{refl, sym, ap, ◌∙◌, subst, inl, inr}
 use Rattle.std.specs.List.{concat}
 use Rattle.std.proofs.lemmas.List.Folds.{concat-append}
 use Rattle.lj_session.specs.Users.{User}
@@ -14,31 +14,8 @@ use Rattle.lj_engine.specs.declared.served.Served.{Served}
 use Rattle.lj_engine.specs.declared.served.Served.TheVariants.{End, Bye, Ended, ReadFault, WriteFault, PoolClosed, TooManyStrays}
 use Rattle.lj_end.specs.Seen.{Seen, nothing_seen}
 use Rattle.lj_engine.specs.Served.{BreaksOff, IsServed}
+use Rattle.lj_visit.proofs.Joining.{texts-join, last_user-join, AreMarks-join}
 use Rattle.lj_visit.specs.VisitLaws.{Attendance, IsAttendance, IsVisitDialogue, IsBroken, AnswersItems, AnswersVisits, Follow, NoneFails, all_written}
-
-texts-join : (user : User) (items others : List Item) (marks more : List Bool) → length marks ≡ length items
-    → texts user (items ++ others) (marks ++ more) ≡ texts user items marks ++ texts (last_user user items marks) others more
-texts-join user [] others [] more h = refl
-texts-join user [] others (mark ∷ marks) more h = absurd (omega (arith, h))
-texts-join user (item ∷ items) others [] more h = absurd (omega (arith, h))
-texts-join user (item ∷ items) others (mark ∷ marks) more h =
-    ap (λ rest. (item_text user item mark).0 ∷ rest)
-    (texts-join (item_text user item mark).1 items others marks more (omega (arith, h)))
-
-last_user-join : (user : User) (items others : List Item) (marks more : List Bool) → length marks ≡ length items
-    → last_user user (items ++ others) (marks ++ more) ≡ last_user (last_user user items marks) others more
-last_user-join user [] others [] more h = refl
-last_user-join user [] others (mark ∷ marks) more h = absurd (omega (arith, h))
-last_user-join user (item ∷ items) others [] more h = absurd (omega (arith, h))
-last_user-join user (item ∷ items) others (mark ∷ marks) more h =
-    last_user-join (item_text user item mark).1 items others marks more (omega (arith, h))
-
-AreMarks-join : (marks more : List Bool) (answers others : List (List ℕ)) → AreMarks marks answers → AreMarks more others
-    → AreMarks (marks ++ more) (answers ++ others)
-AreMarks-join [] more [] others h k = k
-AreMarks-join [] more (text ∷ answers) others h k = absurd h
-AreMarks-join (mark ∷ marks) more [] others h k = absurd h
-AreMarks-join (mark ∷ marks) more (text ∷ answers) others h k = (h.0, AreMarks-join marks more answers others h.1 k)
 
 -- what the items of one visit say
 pub record Fold (visit : Attendance) (items : List Item) (marks : List Bool) : Type 0 where

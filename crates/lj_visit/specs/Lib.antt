@@ -1,4 +1,5 @@
 pub mod Lent
 pub mod Events
+pub mod Behind
 pub mod Visits
 pub mod VisitLaws

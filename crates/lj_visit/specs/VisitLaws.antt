@@ -1,8 +1,8 @@
 -- Laws of the visits of one user, one after the other.
-use Rattle.std.specs.Prelude.{◌≡◌, ◌≢◌, ℕ, Bool, List, [], ◌∷◌, ◌++◌, map, Some, ◌⊎◌}
+use Rattle.std.specs.Prelude.{◌≡◌, ◌≢◌, ℕ, Bool, List, [], ◌∷◌, ◌++◌, map, Option, Some, ◌⊎◌}
 use Rattle.std.specs.List.{concat}
 use Rattle.lj_quota.specs.declared.Quota.{Quota}
-use Rattle.lj_session.specs.UserState.{UserState, empty_state, user_of}
+use Rattle.lj_session.specs.UserState.{UserState, Reached, empty_state, user_of}
 use Rattle.lj_wire.specs.declared.item.Item.{Item}
 use Rattle.lj_wire.specs.Streams.{AreMarks, Dialogue}
 use Rattle.lj_wire.specs.Told.{alone}
@@ -10,6 +10,7 @@ use Rattle.lj_engine.specs.declared.served.Served.{Served}
 use Rattle.lj_engine.specs.declared.served.Served.TheVariants.{WriteFault}
 use Rattle.lj_end.specs.Seen.{Seen, nothing_seen}
 use Rattle.lj_engine.specs.Served.{BreaksOff, IsServed}
+use Rattle.lj_visit.specs.Behind.{AreAnswered, IsSent, AnswersBehind}
 
 -- A visit whose state came home: how it ended, the state that was lent, the bytes read after the first line and written after OK
 -- HELLO, what its end of the pool has seen, and the state that came home.
@@ -81,3 +82,43 @@ pub record IsOneFold (quota : Quota) (visits : List Attendance) (last : UserStat
 abbrev pub VisitsAreOneFold : Type 0
 VisitsAreOneFold = (quota : Quota) (visits : List Attendance) (last : UserState) → Follow (empty_state quota) visits last
     → IsOneFold quota visits last
+
+-- What is served from a state that is reached is answered behind items that lead to it.
+abbrev pub ReachedIsAnsweredBehind : Type 0
+ReachedIsAnsweredBehind = (served : Served) (state : UserState) (read written : List ℕ) (old new : Seen)
+    (next : Option UserState) → Reached state → IsServed served state read written old new next
+    → AnswersBehind state served read written
+
+-- A user's last visit, which a write or the end of the pool may have broken off: how it ended, the state that was lent, the bytes
+-- read after the first line and written after OK HELLO, what its end of the pool has seen, and the state that came home, if any.
+pub record LastVisit : Type 0 where
+  pub served : Served
+  pub state : UserState
+  pub read : List ℕ
+  pub written : List ℕ
+  pub seen : Seen
+  pub next : Option UserState
+
+-- the last visit was served as its fields say
+abbrev pub IsLastVisit : LastVisit → Type 0
+IsLastVisit visit = IsServed visit.served visit.state visit.read visit.written nothing_seen visit.seen visit.next
+
+-- The items answered in the visits of a user, from the state without sessions on, and then in the last one. Where no write fails
+-- before the last visit, what was written in all is the replies to these items folded alone, the last reply perhaps cut short.
+pub record AreOnePrefix (quota : Quota) (visits : List Attendance) (last : LastVisit) : Type 0 where
+  pub earlier : List Item
+  pub earlier_marks : List Bool
+  pub answers : AnswersVisits visits earlier earlier_marks
+  pub items : List Item
+  pub marks : List Bool
+  pub answered : AreAnswered last.served last.read items
+  pub are_marks : AreMarks (earlier_marks ++ marks) (alone quota (earlier ++ items) (earlier_marks ++ marks)).0
+  pub sent : NoneFails visits
+      → IsSent last.served (alone quota (earlier ++ items) (earlier_marks ++ marks)).0 (all_written visits ++ last.written)
+  -- Then it is a prefix of these replies.
+  pub prefix : NoneFails visits → (rest : List ℕ)
+      × (concat (alone quota (earlier ++ items) (earlier_marks ++ marks)).0 ≡ (all_written visits ++ last.written) ++ rest)
+
+abbrev pub VisitsAreOnePrefix : Type 0
+VisitsAreOnePrefix = (quota : Quota) (visits : List Attendance) (last : LastVisit) → Follow (empty_state quota) visits last.state
+    → IsLastVisit last → AreOnePrefix quota visits last

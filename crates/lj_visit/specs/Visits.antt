@@ -1,5 +1,5 @@
 -- A visit: what is read, what is written and what happens, by how it ends.
-use Rattle.std.specs.Prelude.{◌≡◌, ℕ, ◌<◌, ◌≤◌, Bool, false, List, [], ◌∷◌, ◌++◌, length, take, Option, Some, None, IfSome, codes, ◌⊎◌}
+use Rattle.std.specs.Prelude.{◌≡◌, ℕ, ◌<◌, ◌≤◌, Bool, false, List, [], ◌∷◌, ◌++◌, ◌↔◌, length, take, Option, Some, None, IfSome, codes, ◌⊎◌}
 use Rattle.std.specs.Io.KnownBytes.{Appends}
 use Rattle.lj_session.specs.declared.refusal.Refusal.TheVariants.{Denied as DeniedRefusal}
 use Rattle.lj_session.specs.UserState.{UserState, Reached}
@@ -16,11 +16,13 @@ use Rattle.lj_engine.specs.declared.served.Served.TheVariants.{ReadFault, TooMan
 use Rattle.lj_end.specs.Seen.{Seen, nothing_seen}
 use Rattle.lj_engine.specs.Served.{ReturnsState, HasCause, Serves}
 use Rattle.lj_engine.specs.Waiting.{Flushes}
+use Rattle.lj_visit.specs.declared.shut.NoTicket.TheVariants.{Denied as DeniedTicket, Crowded as CrowdedTicket}
 use Rattle.lj_visit.specs.declared.shut.Shut.{Shut}
 use Rattle.lj_visit.specs.declared.visiting.Visited.{Visited}
-use Rattle.lj_visit.specs.declared.visiting.Visited.TheVariants.{NoLine, Denied, ShutOut, NotWelcomed, Attended}
+use Rattle.lj_visit.specs.declared.visiting.Visited.TheVariants.{NoLine, Denied, TurnedAway, ShutOut, NotWelcomed, Attended}
+use Rattle.lj_visit.specs.Behind.{AnswersBehind}
 use Rattle.lj_visit.specs.Events.{Event, Happens}
-use Rattle.lj_visit.specs.Events.Event.{granted, denied, entered, shut_out, opened, withdrawn, left, closed}
+use Rattle.lj_visit.specs.Events.Event.{granted, ungranted, entered, shut_out, opened, withdrawn, left, closed}
 
 -- the state of a writer: the bytes written, and its count of faults, where they are known; and whether bytes may be held back
 pub record Writer : Type 0 where
@@ -50,6 +52,10 @@ pub record WritesLine (line : List ℕ) (old new : Writer) : Type 0 where
   pub whole : bytes < length line → Rises old.faults new.faults
   pub sent : (new.unflushed ≡ false) ⊎ Rises old.faults new.faults
 
+-- whether bytes were read that are in no item yet
+abbrev pub HoldsBytes : LineReader → Bool → Type 0
+HoldsBytes lines held = held ≡ false ↔ (lines.held ≡ [])
+
 -- no first line came
 abbrev pub IsUnasked : LineReader → LineReader → Type 0
 IsUnasked first last = GreetsNone first last ⊎ HasFailedEarly first last
@@ -57,7 +63,7 @@ IsUnasked first last = GreetsNone first last ⊎ HasFailedEarly first last
 -- the events of a denied first line: none if it is no HELLO
 abbrev pub events_denied : Hello → List Event
 events_denied Other = []
-events_denied (Asked name token) = denied name token ∷ []
+events_denied (Asked name token) = ungranted name token DeniedTicket ∷ []
 
 -- The first line was read, and DENIED was answered.
 pub record IsDenied (before after : VisitState) : Type 0 where
@@ -66,6 +72,14 @@ pub record IsDenied (before after : VisitState) : Type 0 where
   pub tells : WritesLine denied_line before.writer after.writer
   pub happens : Happens before.events after.events (events_denied hello)
 
+-- The first line was read, and as many connections of the user waited as may. Nothing was written.
+pub record IsTurnedAway (before after : VisitState) : Type 0 where
+  pub name : List ℕ
+  pub token : List ℕ
+  pub greets : Greets before.lines after.lines (Asked name token)
+  pub unwritten : after.writer ≡ before.writer
+  pub happens : Happens before.events after.events (ungranted name token CrowdedTicket ∷ [])
+
 -- The first line was read, and a ticket was granted that did not enter. Nothing was written.
 pub record IsShutOut (why : Shut) (before after : VisitState) : Type 0 where
   pub name : List ℕ
@@ -73,7 +87,9 @@ pub record IsShutOut (why : Shut) (before after : VisitState) : Type 0 where
   pub ticket : Ticket
   pub greets : Greets before.lines after.lines (Asked name token)
   pub unwritten : after.writer ≡ before.writer
-  pub happens : Happens before.events after.events (granted name token ticket ∷ shut_out ticket why ∷ [])
+  pub held : Bool
+  pub holds : HoldsBytes after.lines held
+  pub happens : Happens before.events after.events (granted name token ticket ∷ shut_out ticket held why ∷ [])
 
 -- The ticket entered, OK HELLO could not be written, and the state came home as it was lent.
 pub record IsNotWelcomed (before after : VisitState) : Type 0 where
@@ -86,7 +102,10 @@ pub record IsNotWelcomed (before after : VisitState) : Type 0 where
   pub within : bytes ≤ length (welcome_line name)
   pub written : Appends before.writer.contents after.writer.contents (take bytes (welcome_line name))
   pub fault : Rises before.writer.faults after.writer.faults
-  pub happens : Happens before.events after.events (granted name token ticket ∷ entered ticket state ∷ left ticket state ∷ [])
+  pub held : Bool
+  pub holds : HoldsBytes after.lines held
+  pub happens : Happens before.events after.events
+      (granted name token ticket ∷ entered ticket held state ∷ left ticket state ∷ [])
 
 -- the state that serving has handed back, if any, comes home
 abbrev pub events_leaving : Ticket → Option UserState → List Event
@@ -129,15 +148,20 @@ pub record IsAttended (served : Served) (before after : VisitState) : Type 0 whe
   pub contents : Option (List ℕ)
   pub welcomes : Appends before.writer.contents contents (welcome_line name)
   pub lent : Option (List Event)
-  pub enters : Happens before.events lent (granted name token ticket ∷ entered ticket state ∷ [])
+  pub held : Bool
+  pub holds : HoldsBytes lines held
+  pub enters : Happens before.events lent (granted name token ticket ∷ entered ticket held state ∷ [])
   pub serving : IsServing served ticket state
       (record { lines = lines; writer = welcomed before.writer contents; events = lent }) after
+  -- What was written then is the replies to the items read, behind items that lead to the state that was lent.
+  pub behind : AnswersBehind state served serving.serves.read serving.serves.written
 
 -- what a visit reads, writes and does, by how it ends
 abbrev pub IsVisit : Visited → (before after : VisitState) → Type 0
 IsVisit NoLine before after =
     IsUnasked before.lines after.lines × (after.writer ≡ before.writer) × (after.events ≡ before.events)
 IsVisit Denied before after = IsDenied before after
+IsVisit TurnedAway before after = IsTurnedAway before after
 IsVisit (ShutOut why) before after = IsShutOut why before after
 IsVisit NotWelcomed before after = IsNotWelcomed before after
 IsVisit (Attended served) before after = IsAttended served before after
@@ -146,16 +170,19 @@ IsVisit (Attended served) before after = IsAttended served before after
 abbrev pub IsAdmission : Visited → List ℕ → Ticket → (before after : VisitState) → Type 0
 IsAdmission NoLine name ticket before after = ⊥
 IsAdmission Denied name ticket before after = ⊥
+IsAdmission TurnedAway name ticket before after = ⊥
 IsAdmission (ShutOut why) name ticket before after =
     (after.lines ≡ before.lines) × (after.writer ≡ before.writer)
-    × Happens before.events after.events (shut_out ticket why ∷ [])
+    × (held : Bool) × HoldsBytes before.lines held × Happens before.events after.events (shut_out ticket held why ∷ [])
 IsAdmission NotWelcomed name ticket before after =
     (after.lines ≡ before.lines) × (bytes : ℕ) × (bytes ≤ length (welcome_line name))
     × Appends before.writer.contents after.writer.contents (take bytes (welcome_line name))
     × Rises before.writer.faults after.writer.faults
-    × (state : UserState) × Happens before.events after.events (entered ticket state ∷ left ticket state ∷ [])
+    × (state : UserState) × (held : Bool) × HoldsBytes before.lines held
+    × Happens before.events after.events (entered ticket held state ∷ left ticket state ∷ [])
 IsAdmission (Attended served) name ticket before after =
-    (state : UserState) × (lent : Option (List Event)) × Reached state × Happens before.events lent (entered ticket state ∷ [])
+    (state : UserState) × (lent : Option (List Event)) × Reached state
+    × (held : Bool) × HoldsBytes before.lines held × Happens before.events lent (entered ticket held state ∷ [])
     × (contents : Option (List ℕ)) × Appends before.writer.contents contents (welcome_line name)
     × IsServing served ticket state
     (record { lines = before.lines; writer = welcomed before.writer contents; events = lent }) after

@@ -1,13 +1,12 @@
 //! The backend of a visit: it lets the user in, and makes the user's end of a pool.
-ghost use Rattle.std.specs.Prelude.{◌≡◌, ◌∷◌, [], ℕ, List, Option, IfOk, IfErr, OnErr};
+ghost use Rattle.std.specs.Prelude.{◌≡◌, ◌∷◌, [], ℕ, List, Option, IfOk, IfErr};
 ghost use Rattle.lj_session.specs.UserState.{Reached};
 ghost use Rattle.lj_end.specs.Seen.{nothing_seen};
 ghost use Rattle.lj_visit.specs.Events.{Event, Happens};
-ghost use Rattle.lj_visit.specs.Events.Event.{granted, denied, entered, shut_out, opened, withdrawn, left, closed};
+ghost use Rattle.lj_visit.specs.Events.Event.{granted, ungranted, entered, shut_out, opened, withdrawn, left, closed};
 
 use crate::lent::{LentState, LentTicket};
-use crate::shut::Shut;
-use lj_access::Denied;
+use crate::shut::{NoTicket, Shut};
 use lj_base::{Name, Token};
 use lj_end::PoolEnd;
 
@@ -29,12 +28,12 @@ pub trait Backend {
     /// Grants a ticket to the user with this name and this token.
     ///
     /// # Errors
-    /// No user has both, or all tickets of this user are granted.
-    fn hello(&mut self, name: &Name, token: &Token) -> Result<LentTicket, Denied>
+    /// No user has both, all tickets of this user are granted, or as many of its connections wait as may.
+    fn hello(&mut self, name: &Name, token: &Token) -> Result<LentTicket, NoTicket>
         ensures granted { IfOk result (λ ticket. Happens (events self.old) (events self.new)
             (granted name.now token.now ticket.ticket ∷ [])) }
-        ensures denied { OnErr result (Happens (events self.old) (events self.new)
-            (denied name.now token.now ∷ [])) };
+        ensures refused { IfErr result (λ why. Happens (events self.old) (events self.new)
+            (ungranted name.now token.now why ∷ [])) };
 
     /// Waits until the ticket enters, and lends it the state of its user. `held` tells whether bytes of the client were read
     /// that are not yet answered.
@@ -45,9 +44,9 @@ pub trait Backend {
         ensures ticket { IfOk result (λ lent. lent.ticket ≡ ticket.ticket) }
         ensures reached { IfOk result (λ lent. Reached lent.state) }
         ensures entered { IfOk result (λ lent. Happens (events self.old) (events self.new)
-            (entered ticket.ticket lent.state ∷ [])) }
+            (entered ticket.ticket held lent.state ∷ [])) }
         ensures shut { IfErr result (λ why. Happens (events self.old) (events self.new)
-            (shut_out ticket.ticket why ∷ [])) };
+            (shut_out ticket.ticket held why ∷ [])) };
 
     /// Makes an end of the pool for the user of this number. Nothing is owed to it.
     fn open(&mut self, user: u8) -> UserEnd<Self::End>

@@ -10,6 +10,8 @@ mod visiting;
 
 pub use backend::{Backend, UserEnd};
 pub use lent::{Lender, LentState, LentTicket};
-pub use shut::{SeenClosed, Shut};
-pub use visit_laws::{attended_is_answered, visits_are_one_fold};
+pub use shut::{NoTicket, SeenClosed, Shut};
+pub use visit_laws::{
+    attended_is_answered, reached_is_answered_behind, visits_are_one_fold, visits_are_one_prefix,
+};
 pub use visiting::{Visited, visit};

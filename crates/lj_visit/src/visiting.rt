@@ -9,7 +9,8 @@ ghost use Rattle.lj_visit.specs.Visits.{IsAdmission, IsServing, IsVisit, WritesL
 
 use crate::backend::Backend;
 use crate::lent::{LentState, LentTicket};
-use crate::shut::Shut;
+use crate::shut::{NoTicket, Shut};
+use crate::visit_laws::reached_is_answered_behind;
 use lj_base::Name;
 use lj_engine::{Served, serve_lines};
 use lj_session::{Refusal, UserState};
@@ -24,6 +25,8 @@ pub enum Visited {
     NoLine,
     /// The first line was no HELLO, or the user was not let in.
     Denied,
+    /// As many connections of the user waited as may. Nothing was written.
+    TurnedAway,
     /// The ticket did not enter.
     ShutOut(Shut),
     /// The ticket entered, but OK HELLO could not be written.
@@ -61,8 +64,12 @@ pub fn visit<B: Backend, S: Source, W: Sink>(
         Ok(None) | Err(_) => return Visited::NoLine,
     };
     match backend.hello(&name, &token) {
-        Ok(ticket) => admit(backend, &name, ticket, lines, writer),
-        Err(_) => deny(writer),
+        Ok(ticket) => {
+            reached_is_answered_behind();
+            admit(backend, &name, ticket, lines, writer)
+        }
+        Err(NoTicket::Denied) => deny(writer),
+        Err(NoTicket::Crowded) => Visited::TurnedAway,
     }
 }
 

@@ -1,6 +1,7 @@
 //! Users, read from the lines of a file.
-ghost use Rattle.std.specs.Prelude.{◌≡◌, ◌↔◌, ◌≤◌, [], length, IsTrue, IfOk, IfSome, OnErr};
-ghost use Rattle.lj_program.specs.NamedUsers.{AreUsers};
+ghost use Rattle.std.specs.Prelude.{◌≡◌, ◌↔◌, ◌≤◌, [], length, Some, IsTrue, IfOk, IfSome, OnErr};
+ghost use Rattle.lj_fixed.specs.Numbers.{number_of};
+ghost use Rattle.lj_program.specs.NamedUsers.{AreUsers, SaysUser};
 
 use crate::input::text::{FromLines, LineFault, TextFault, first_line, read_lines, without_user};
 use crate::quota_limits::{MAX_QUOTA_ATOMS, MAX_QUOTA_BRANCHES, MAX_QUOTA_SESSIONS};
@@ -110,7 +111,10 @@ impl FromLines for Users {
     }
 }
 
-fn parse_user(mut words: Words) -> Option<User> {
+/// Returns the user that five words say.
+fn parse_user(mut words: Words) -> Option<User>
+    ensures { IfSome result (SaysUser words.entry) }
+{
     let user = User {
         name: Name::parse(words.next()?)?,
         token: Token::parse(words.next()?)?,
@@ -126,7 +130,8 @@ fn parse_user(mut words: Words) -> Option<User> {
 
 /// Returns the number in a word, if it is at most `most`.
 fn parse_limited(word: &[u8], most: u64) -> Option<u64>
-    ensures { IfSome result (λ number. number ≤ most) }
+    ensures value { IfSome result (λ number. number_of word.now ≡ Some number) }
+    ensures most { IfSome result (λ number. number ≤ most) }
 {
     parse_number(word).filter(|number| *number <= most)
 }

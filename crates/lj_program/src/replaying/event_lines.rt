@@ -1,5 +1,6 @@
 //! Events, parsed from the lines of a schedule.
 ghost use Rattle.std.specs.Prelude.{◌≡◌, ◌≤◌, IfSome};
+ghost use Rattle.lj_fixed.specs.Numbers.{number_of};
 ghost use Rattle.lj_session.specs.declared.body.LoadBody.TheVariants.{Lost};
 ghost use Rattle.lj_wire.specs.Commands.{item_with};
 
@@ -102,7 +103,10 @@ fn lost_load(line: &[u8]) -> Option<Item>
     Some(item.with_body(LoadBody::Lost))
 }
 
-fn parse_pick(word: &[u8]) -> Option<usize> {
+/// Returns the number in a word, as a pick.
+fn parse_pick(word: &[u8]) -> Option<usize>
+    ensures { result ≡ number_of word.now }
+{
     Some(parse_number(word)? as usize)
 }
 

@@ -1,5 +1,5 @@
 //! A server: threads of workers, and one thread for each connection.
-ghost use Rattle.std.specs.Prelude.{◌≡◌, ◌+◌, ◌≤◌, length};
+ghost use Rattle.std.specs.Prelude.{◌≡◌, ◌+◌, ◌≤◌, List, length, IfOk};
 ghost use Rattle.lj_program.specs.NamedUsers.{AreUsers};
 
 use crate::serve::connection_limit::MAX_OPEN_CONNECTIONS;
@@ -112,6 +112,7 @@ fn serve_over<P: WorkerPool + Sync, R: Threads + Wait + Clock + Log + Sync>(
     listening: Listening<'_>,
 ) -> Result<u64, OutOfMemory>
     requires { P.has_workers workers }
+    ensures { IfOk result (λ tiles. (states : List P.WorkerState) × (tiles ≡ P.counted states)) }
 {
     let server = Server::new(alloc, directory, pool);
     let states = run_workers(rt, &server, states, listening)?;

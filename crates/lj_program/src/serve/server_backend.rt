@@ -7,10 +7,9 @@ ghost use Rattle.lj_wire.specs.declared.reader.phase.Phase.TheVariants.{Open};
 ghost use Rattle.lj_visit.specs.Events.Event.{withdrawn};
 
 use crate::serve::visitor::Visitor;
-use lj_access::Denied;
 use lj_base::{Name, Token};
 use lj_end::PoolEnd;
-use lj_visit::{Backend, LentState, LentTicket, Shut, UserEnd, Visited, visit};
+use lj_visit::{Backend, LentState, LentTicket, NoTicket, Shut, UserEnd, Visited, visit};
 use lj_wire::{LineReader, Sink, Source};
 use log::Log;
 use std::rt::Clock;
@@ -43,7 +42,7 @@ impl<'s, P: PoolEnds<'s, R>, R: Wait + Clock + Log> Backend for ServerBackend<'_
 
     ghost events = { λ _. None };
 
-    fn hello(&mut self, name: &Name, token: &Token) -> Result<LentTicket, Denied> {
+    fn hello(&mut self, name: &Name, token: &Token) -> Result<LentTicket, NoTicket> {
         self.visitor.hello(name, token)
     }
 

@@ -1,18 +1,23 @@
 //! The directory of a server, where tickets wait for the states of their users.
-ghost use Rattle.std.specs.Prelude.{◌≡◌, ◌↔◌, [], ◌∷◌, ◌++◌, List, true, IfErr, OnErr, OnOk};
+ghost use Rattle.std.specs.Prelude.{◌≡◌, ◌↔◌, [], ◌∷◌, ◌++◌, List, Some, true, IfOk, IfErr, IsTrue, OnErr, OnOk};
 ghost use Rattle.std.specs.List.{All};
 ghost use Rattle.std.specs.List.Sorted.{IsPermutation};
 ghost use Rattle.lj_access.specs.Passing.{IsNextTicket, PassesOver, tickets_passed};
-ghost use Rattle.lj_access.specs.UserRows.{UserRow};
-ghost use Rattle.lj_program.specs.Admissions.{ComesHome, HasMoved, IsClosing, IsOutcome};
+ghost use Rattle.lj_access.specs.UserRows.{UserRow, next_number, user_with, with_row_changed, with_ticket};
+ghost use Rattle.lj_visit.specs.declared.shut.NoTicket.TheVariants.{Crowded};
+ghost use Rattle.lj_program.specs.Admissions.{ComesHome, HasMoved, IsClosing, IsCrowded, IsOutcome};
 
 use crate::serve::clock::{end_of, left_until};
-use lj_access::{Denied, Directory, GivenUp};
-use lj_visit::{Lender, LentState, LentTicket, SeenClosed};
+use lj_access::{Directory, GivenUp};
+use lj_base::{Name, Token};
+use lj_visit::{Lender, LentState, LentTicket, NoTicket, SeenClosed};
 use std::alloc::Global;
 use std::rt::Clock;
 use std::sync::{Condvar, CondvarTimeouts, Mutex, Wait};
 use std::time::Duration;
+
+/// The most connections of a user that wait. One more is turned away.
+pub const MAX_WAITING: u64 = 8;
 
 /// The state under the lock: the directory, the tickets that were given up, and whether no more tickets enter.
 #[derive(Drop)]
@@ -49,6 +54,38 @@ impl Lender for DirectoryState {
 }
 
 impl DirectoryState {
+    // Grants the next ticket of a user, unless as many of its connections wait as may.
+    fn hello(&mut self, name: &Name, token: &Token) -> Result<LentTicket, NoTicket>
+        ensures crowded { IfErr result (λ why. why ≡ Crowded ↔ IsCrowded self.old.directory name.now token.now) }
+        ensures few { OnOk result (¬ IsCrowded self.old.directory name.now token.now) }
+        ensures user { IfOk result (λ lent. user_with self.old.directory name.now token.now ≡ Some lent.ticket.user) }
+        ensures number { IfOk result (λ lent. next_number self.old.directory lent.ticket.user ≡ Some lent.ticket.number) }
+        ensures counted { IfOk result
+            (λ lent. self.new.directory ≡ with_row_changed lent.ticket.user with_ticket self.old.directory) }
+        ensures unchanged { OnErr result (self.new.directory ≡ self.old.directory) }
+        ensures stays { self.new.closed ≡ self.old.closed }
+        ensures unlost { self.new.given_up ≡ self.old.given_up }
+    {
+        if self.is_crowded(name, token) {
+            return Err(NoTicket::Crowded);
+        }
+        let granted = self.directory.hello(name.as_bytes(), token.as_bytes())?;
+        Ok(LentTicket::new(granted))
+    }
+
+    // Returns whether as many connections of a user wait as may.
+    fn is_crowded(&self, name: &Name, token: &Token) -> bool
+        ensures { IsTrue result ↔ IsCrowded self.now.directory name.now token.now }
+    {
+        match self
+            .directory
+            .tickets_out(name.as_bytes(), token.as_bytes())
+        {
+            Some(out) => out > MAX_WAITING,
+            None => false,
+        }
+    }
+
     // Lets a ticket enter, if its turn has come and the directory is not closed.
     fn enter(&mut self, ticket: LentTicket) -> EntryOutcome
         ensures outcome { IsOutcome ticket.ticket result }
@@ -127,10 +164,14 @@ impl SharedDirectory {
     /// Grants the next ticket of the user with this name and this token.
     ///
     /// # Errors
-    /// No user has both, or all tickets of this user are granted.
-    pub fn hello<R: Wait>(&self, rt: &R, name: &[u8], token: &[u8]) -> Result<LentTicket, Denied> {
-        let granted = self.state.lock(rt).directory.hello(name, token)?;
-        Ok(LentTicket::new(granted))
+    /// No user has both, all tickets of this user are granted, or eight of its connections wait.
+    pub fn hello<R: Wait>(
+        &self,
+        rt: &R,
+        name: &Name,
+        token: &Token,
+    ) -> Result<LentTicket, NoTicket> {
+        self.state.lock(rt).hello(name, token)
     }
 
     /// Waits until the ticket may enter, for `patience` at most.

@@ -54,21 +54,26 @@ impl<P: WorkerPool> Server<P> {
     pub fn serve_connection<R: Wait + Log + Clock>(&self, rt: &R, number: u64, stream: &TcpStream) {
         let _ = stream.set_nodelay(true);
         match HeldWriting::new(self.alloc, Asked::writer(stream)) {
-            Ok(mut writer) => self.answer(rt, number, stream, &mut writer),
+            Ok(mut writer) => {
+                // One that is turned away is told nothing that it could lose, and leaves its place at once.
+                if self.answer(rt, number, stream, &mut writer) == Visited::TurnedAway {
+                    return;
+                }
+            }
             Err(_) => info!(rt; "connection {number}: no memory"),
         }
         linger(rt, stream);
     }
 
-    /// Answers a connection on its writer. The last replies are sent once the state is home, so that a client that does not read
-    /// them does not hold it back.
+    /// Answers a connection on its writer, and returns how it has ended. The last replies are sent once the state is home, so that a
+    /// client that does not read them does not hold it back.
     fn answer<R: Wait + Log + Clock, W: Sink>(
         &self,
         rt: &R,
         number: u64,
         stream: &TcpStream,
         writer: &mut W,
-    ) {
+    ) -> Visited {
         let deadline = Deadline::new(rt);
         let reader = CountedReading::new(Asked::reader(Timed {
             rt,
@@ -80,6 +85,7 @@ impl<P: WorkerPool> Server<P> {
         let visited = self.pool.visit(&mut visitor, &mut lines, writer);
         send_last(visited, writer);
         visitor.note_end(visited);
+        visited
     }
 
     /// Closes the pool and the directory: from now on no ticket enters, and no task is computed.

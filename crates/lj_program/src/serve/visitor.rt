@@ -4,9 +4,8 @@ ghost use Rattle.lj_session.specs.UserState.{Reached};
 
 use crate::serve::first_line::Deadline;
 use crate::serve::shared_directory::{EntryOutcome, SharedDirectory};
-use lj_access::Denied;
 use lj_base::{Name, Token};
-use lj_visit::{LentState, LentTicket, Shut, Visited};
+use lj_visit::{LentState, LentTicket, NoTicket, Shut, Visited};
 use log::{Log, info};
 use std::io::ErrorKind;
 use std::net::TcpStream;
@@ -51,13 +50,10 @@ impl<'s, R: Wait + Clock + Log> Visitor<'s, R> {
     }
 
     /// Lifts the deadline of the first line, and asks for a ticket of the user with this name and this token.
-    pub fn hello(&mut self, name: &Name, token: &Token) -> Result<LentTicket, Denied> {
+    pub fn hello(&mut self, name: &Name, token: &Token) -> Result<LentTicket, NoTicket> {
         self.deadline.lift(self.stream);
-        let asked = self
-            .directory
-            .hello(self.rt, name.as_bytes(), token.as_bytes());
         self.name = Some(name.copy());
-        asked
+        self.directory.hello(self.rt, name, token)
     }
 
     /// Waits until the ticket enters. Each second it checks that the client is still there, unless bytes of it are held.
@@ -102,6 +98,7 @@ impl<'s, R: Wait + Clock + Log> Visitor<'s, R> {
         match visited {
             Visited::NoLine => info!(self.rt; "connection {number}: ended before a line"),
             Visited::Denied => info!(self.rt; "connection {number}: denied"),
+            Visited::TurnedAway => self.note("has too many connections that wait"),
             Visited::ShutOut(Shut::Closed(_)) => self.note("waited, and the server was closed"),
             Visited::ShutOut(Shut::Gone) => self.note("was gone while it waited"),
             Visited::NotWelcomed => self.note("was gone before it was let in"),

@@ -20,6 +20,8 @@ returns-then-is_err g c =
       begun.2,
       err_holds c.welcome.result _ failed c.welcome.ensures.risen,
       state,
-      Happens-more was inside is (entered c.args.ticket.ticket state ∷ []) (left c.args.ticket.ticket state ∷ [])
-          c.in-Ok.ensures.entered leaves,
+      c.holds_bytes.result,
+      c.holds_bytes.ensures,
+      Happens-more was inside is (entered c.args.ticket.ticket c.holds_bytes.result state ∷ [])
+          (left c.args.ticket.ticket state ∷ []) c.in-Ok.ensures.entered leaves,
     )

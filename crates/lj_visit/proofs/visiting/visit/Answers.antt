@@ -5,7 +5,7 @@ pub returns-in-Ok : goal.returns-in-Ok
 returns-in-Ok g c =
     let some = rw c.in-Ok-Some-Asked.field-0-is at c.in-Ok-Some-Asked.ensures.hello in
     let greets = rw c.in-Ok-Some-Asked.field-0-0-is at some in
-    admitted c.admit.result c.in-Ok-Some-Asked.name c.in-Ok-Some-Asked.token c.in-Ok.ticket.ticket c.hello.new.self
+    admitted c.reached_is_answered_behind.ensures c.admit.result c.in-Ok-Some-Asked.name c.in-Ok-Some-Asked.token c.in-Ok.ticket.ticket c.hello.new.self
     (g.B.Backend.events c.hello-2.new.self)
     (record {
       lines = c.args.lines.now;
