@@ -100,7 +100,7 @@ class Farm:
     def kept(self, number: Any, folder: Any) -> Any:
         """Has tools/keep own a server in the place of what is there, as the unit of a kept one does. The value is its folder."""
         (command,) = re.findall("^ExecStart=(.*)$", (CONFIG / "ljserve-keep@.service").read_text(), re.M)
-        words = {**self.words(number), "STATE_DIRECTORY": folder / "kept", "RUNTIME_DIRECTORY": folder}
+        words = {**self.words(number), "STATE_DIRECTORY": folder / "kept", "RUNTIME_DIRECTORY": folder, "METRICS": "127.0.0.1:0"}
         shutil.copy(words["USERS"], folder / "users")
         command = command.replace("/opt/ljserve/bin/ljserve", PROGRAM).replace("/opt/ljserve", str(TOP))
         self.end_child(number)
@@ -405,15 +405,29 @@ def test_a_kept_server_that_is_killed(farm: Any, tmp_path: Any) -> None:
             assert [replies.readline() for _ in range(2)] == [b"OK ADVANCE a 2\n", b"OK SHOW a 2 0 1774 0 0\n"]
 
 
-def test_an_address_that_guesses_is_shut_out(farm: Any) -> None:
-    """After 30 first lines in a minute that were none of a user. Other addresses are not."""
-    told = [b""] * 40
-    for number in range(40):
-        with contextlib.suppress(OSError), farm.connected(source="127.0.11.1") as stream:
-            stream.sendall(b"HELLO eve bbb\n")
-            told[number] = read_all(stream)
-    assert told == [b"ERR 01 DENIED\n"] * 31 + [b""] * 9
-    farm.joined(farm.at[2][13], source="127.0.11.2")[0].close()
+def told_to(farm: Any, line: str, source: str) -> Any:
+    """What is told to a first line from an address, or nothing where the connection is closed."""
+    with contextlib.suppress(OSError), farm.connected(source=source) as stream:
+        stream.sendall(f"{line}\n".encode())
+        return read_all(stream)
+    return b""
+
+
+def test_who_guesses_is_shut_out(farm: Any) -> None:
+    """After 30 first lines in a minute that were none of a user, of an address with a name. Another name or address is not."""
+    name = farm.at[2][13]
+    told = [told_to(farm, f"HELLO {name} bbb", "127.0.11.1") for _ in range(40)]
+    assert told == [b"ERR 01 DENIED\n"] * 30 + [b""] * 10
+    assert told_to(farm, "HELLO eve bbb", "127.0.11.1") == b"ERR 01 DENIED\n"
+    assert told_to(farm, f"HELLO {name} bbb", "127.0.11.2") == b"ERR 01 DENIED\n"
+    farm.joined(name, source="127.0.11.1")[0].close()
+
+
+def test_an_address_that_guesses_many_names_is_shut_out(farm: Any) -> None:
+    """After 300 such lines. Other addresses are not."""
+    told = [told_to(farm, f"HELLO eve{number} bbb", "127.0.11.3") for number in range(310)]
+    assert told == [b"ERR 01 DENIED\n"] * 301 + [b""] * 9
+    farm.joined(farm.at[2][13], source="127.0.11.4")[0].close()
 
 
 def exchanged(stream: Any, sent: Any, count: Any) -> Any:

@@ -131,10 +131,65 @@ def test_a_server_that_is_no_more(users: Any, tmp_path: pathlib.Path) -> None:
     assert list(spread(tmp_path)) == [1, 2] and not (tmp_path / "shards" / "server3.env").exists()
 
 
+def texts(folder: Any) -> Dict[Any, Any]:
+    """The files that were written."""
+    return {path.name: path.read_text() for path in (folder / "shards").iterdir()}
+
+
+def test_what_was_written_by_hand_stays(users: Any, tmp_path: pathlib.Path) -> None:
+    """As the addresses of a server that is on another machine. One that is new has the address that is said."""
+    told(tmp_path, users(6), 2)
+    env, config = tmp_path / "shards" / "server2.env", tmp_path / "shards" / "servers.cfg"
+    env.write_text(env.read_text().replace("127.0.0.1:4102", "0.0.0.0:4000").replace("WORKERS=1", "WORKERS=8") + "METRICS=0.0.0.0:9402\n")
+    by_hand = "    server server2 10.0.0.5:4000 maxconn 62 check\n    retries 5\n"
+    config.write_text(re.sub("    server server2 .*\n", by_hand, config.read_text()))
+    status, out, _ = told(tmp_path, users(9), 3, "--host", "10.0.0.6", "--port", 5000)
+    assert status == 0
+    assert re.findall("^server . at ([^ ]+):", out, re.M) == ["127.0.0.1:4101", "10.0.0.5:4000", "10.0.0.6:5002"]
+    words = dict(line.split("=") for line in env.read_text().splitlines())
+    assert (words["LISTEN"], words["WORKERS"], words["METRICS"]) == ("0.0.0.0:4000", "8", "0.0.0.0:9402")
+    assert words["USERS"] == str(tmp_path / "shards" / "users2")
+    assert config.read_text().endswith(
+        "\nbackend server1\n    server server1 127.0.0.1:4101 maxconn 62 check\n"
+        f"\nbackend server2\n{by_hand}"
+        "\nbackend server3\n    server server3 10.0.0.6:5002 maxconn 62 check\n"
+    )
+    before = texts(tmp_path)
+    assert told(tmp_path, users(9), 3)[0] == 0 and texts(tmp_path) == before
+    told(tmp_path, users(9), 3, "--workers", 2)
+    assert [texts(tmp_path)[f"server{number}.env"].count("WORKERS=2\n") for number in (1, 2, 3)] == [1, 1, 1]
+
+
+def test_what_would_be_is_told_and_not_written(users: Any, tmp_path: pathlib.Path) -> None:
+    path = users(6)
+    assert told(tmp_path, path, 2, "--dry-run")[0] == 0 and not (tmp_path / "shards").exists()
+    told(tmp_path, path, 3)
+    before = texts(tmp_path)
+    status, out, _ = told(tmp_path, path, 2, "--dry-run")
+    assert status == 0 and out.count(" moves from server 3 to server ") == 2 and texts(tmp_path) == before
+    assert told(tmp_path, path, 2)[1] == out
+
+
+def test_a_server_that_is_taken_out(users: Any, tmp_path: pathlib.Path) -> None:
+    """The others keep their numbers and their users."""
+    path = users(9)
+    told(tmp_path, path, 3)
+    before = spread(tmp_path)
+    status, out, _ = told(tmp_path, path, 3, "--without", 2)
+    after = spread(tmp_path)
+    assert status == 0 and re.findall("^server (.) at", out, re.M) == ["1", "3"]
+    assert set(re.findall(r"^(\w+) moves from server 2", out, re.M)) == set(before[2])
+    assert list(after) == [1, 3] and set(before[1]) <= set(after[1]) and set(before[3]) <= set(after[3])
+    assert not (tmp_path / "shards" / "server2.env").exists()
+    assert re.findall("^backend (.*)$", texts(tmp_path)["servers.cfg"], re.M) == ["server1", "server3"]
+    assert " server2\n" not in texts(tmp_path)["users.map"]
+
+
 @pytest.mark.parametrize(
     "count, servers, words, cause",
     [
         (129, 2, [], "there are 129 users, and 2 servers have room for 128"),
+        (129, 3, ["--without", "1"], "there are 129 users, and 2 servers have room for 128"),
         (2, 3, [], "server 3 would have no user, and a server has at least one"),
         (3, 2, ["--move", "eve=1"], "there is no user eve to move"),
         (66, 2, ["--move", *(f"user{number}=1" for number in range(65))], "server 1 would have 65 users, and a server has at most 64"),
@@ -174,6 +229,10 @@ def test_a_file_that_is_none_of_users(tmp_path: pathlib.Path, text: Any, cause: 
         ["users", "2", "--host", "here"],
         ["users", "2", "--move", "ann"],
         ["users", "2", "--move", "ann=3"],
+        ["users", "2", "--move", "ann=2", "--without", "2"],
+        ["users", "2", "--without", "3"],
+        ["users", "2", "--without", "1", "2"],
+        ["--certificate", "a", "--dry-run"],
         ["--certificate", "a b"],
     ],
 )
