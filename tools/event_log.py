@@ -5,6 +5,8 @@ import logging.handlers
 import sys
 import time
 
+from user_files import Fault
+
 # Where a log cannot be written, connections are passed on all the same.
 logging.raiseExceptions = False
 
@@ -13,10 +15,13 @@ class EventLog:
     """Events that are written behind what a file has, or to standard output for `-`. A file that was moved is begun anew."""
 
     def __init__(self, path: str):
-        """Raises OSError if the file cannot be written."""
+        """Raises Fault if the file cannot be written."""
         self._handler: logging.Handler = logging.StreamHandler(sys.stdout)
-        if path != "-":
-            self._handler = logging.handlers.WatchedFileHandler(path, encoding="utf-8")
+        try:
+            if path != "-":
+                self._handler = logging.handlers.WatchedFileHandler(path, encoding="utf-8")
+        except OSError as error:
+            raise Fault(f"cannot write {path}: {error.strerror}") from error
 
     def note(self, event: str, **known: object) -> None:
         """Writes an event with its time, in UTC. What is None is left out."""

@@ -13,6 +13,7 @@ from typing import Dict, List, Optional, Sequence, TextIO, Tuple
 from admission import Account, Closings, Limits, Whose, close_unanswered, first_bytes
 from event_log import EventLog
 from proxy_header import source_of
+from user_files import Fault
 
 PIECE = 1 << 16
 MAX_LINE = 4096
@@ -241,6 +242,11 @@ class Board:
             connection.hear_client(first)
             return True
 
+    def turns_away(self, connection: Connection) -> None:
+        """Notes that a connection is closed for the number of those of its user, or of all."""
+        with self._lock:
+            self._closings.add(Whose(user=connection.user) if connection.user else Whose(host=connection.host))
+
     def is_passed(self) -> None:
         """Notes that the server has a connection more."""
         with self._lock:
@@ -250,6 +256,11 @@ class Board:
         self.notes("in", **connection.known())
         if not self._is_screen:
             self.says(connection.text())
+
+    def leaves_out(self, connection: Connection) -> None:
+        """Has a connection counted no more, and nothing told of its end."""
+        with self._lock:
+            self._open.remove(connection)
 
     def ends(self, connection: Connection) -> None:
         with self._lock:
@@ -472,9 +483,12 @@ def address_of(word: str) -> Address:
 
 
 def listener_at(address: Address) -> socket.socket:
-    """A socket that listens."""
+    """A socket that listens. Raises Fault if it cannot."""
     family = socket.AF_INET6 if ":" in address[0] else socket.AF_INET
-    return socket.create_server(address, family=family, backlog=128)
+    try:
+        return socket.create_server(address, family=family, backlog=128)
+    except OSError as error:
+        raise Fault(f"cannot listen on {written(address)}: {cause_of(error)}") from error
 
 
 def cause_of(error: OSError) -> str:

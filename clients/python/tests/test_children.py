@@ -1,5 +1,6 @@
 """The token of a user, in the environment of whoever says it there, is not handed to programs that are begun from there."""
 import asyncio
+import contextlib
 import os
 import pathlib
 import subprocess
@@ -12,7 +13,7 @@ import ensemble_jobs
 import pytest
 
 from ljclient import Job, ensemble, locate, run
-from support import DIMER, SECONDS, TOKEN, TOP, wait_until
+from support import DIMER, SECONDS, TOKEN, TOP, present, wait_until
 from terminals import environment
 
 sys.path.append(str(TOP / "tools"))
@@ -129,6 +130,51 @@ def test_the_server_that_is_kept(program: Program, tmp_path: pathlib.Path) -> No
 def test_other_programs_of_the_tools(monkeypatch: pytest.MonkeyPatch) -> None:
     monkeypatch.setenv("LJSERVE_TOKEN", TOKEN)
     assert children.environment() == {name: value for name, value in os.environ.items() if name != "LJSERVE_TOKEN"}
+
+
+# A parent that begins a program so that this ends with it, and tells its number.
+PARENT = """\
+import subprocess, sys, time
+from children import ending_with_parent
+print(subprocess.Popen(ending_with_parent(["sleep", "600"])).pid, flush=True)
+time.sleep(600)
+"""
+
+
+def is_there(process: int) -> bool:
+    """Whether a program runs, and was not only ended."""
+    with contextlib.suppress(OSError):
+        return pathlib.Path(f"/proc/{process}/stat").read_text().rpartition(")")[2].split()[0] != "Z"
+    return False
+
+
+def test_a_program_that_ends_with_its_parent() -> None:
+    environment = {**os.environ, "PYTHONPATH": str(TOP / "tools")}
+    with subprocess.Popen([sys.executable, "-c", PARENT], stdout=subprocess.PIPE, text=True, env=environment) as parent:
+        child = int(present(parent.stdout).readline())
+        wait_until(lambda: pathlib.Path(f"/proc/{child}/comm").read_text() == "sleep\n")
+        parent.kill()
+    wait_until(lambda: not is_there(child))
+
+
+def test_a_program_whose_parent_has_ended_before_is_not_begun(program: Program) -> None:
+    *words, _, path = children.ending_with_parent([str(program.path)])
+    assert subprocess.run([*words, "1", path], timeout=SECONDS).returncode == 1
+    assert not program.path.with_suffix(".told").exists()
+
+
+def test_a_program_is_begun_as_without_a_launcher() -> None:
+    """It heeds the same signals, and has the same number as what was begun."""
+    words = ["grep", "-E", "^(Sig(Blk|Ign|Cgt)|Seccomp|NoNewPrivs)", "/proc/self/status"]
+    told = [subprocess.run(each, capture_output=True, timeout=SECONDS).stdout for each in (words, children.ending_with_parent(words))]
+    assert told[0] == told[1] != b""
+    with subprocess.Popen(children.ending_with_parent(["sh", "-c", "echo $$"]), stdout=subprocess.PIPE, text=True) as child:
+        assert present(child.stdout).readline() == f"{child.pid}\n"
+
+
+def test_a_program_that_cannot_be_begun() -> None:
+    done = subprocess.run(children.ending_with_parent(["./none"]), capture_output=True, text=True, timeout=SECONDS)
+    assert (done.returncode, done.stderr) == (1, "cannot start ./none: No such file or directory\n")
 
 
 def test_the_program_of_the_small_client(program: Program, tmp_path: pathlib.Path) -> None:

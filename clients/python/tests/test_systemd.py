@@ -49,7 +49,7 @@ def test_systemd_takes_each_line_of_a_unit(unit: str, tmp_path: pathlib.Path) ->
     stand_in.write_text("#!/bin/sh\n")
     stand_in.chmod(0o755)
     name = pathlib.Path(unit).name.replace("ljserve.ljserve-keep", "ljserve-keep")
-    text = re.sub(r"(?:/opt/ljserve/(?:bin|tools)|/usr/bin)/(?:ljserve\S*|keep)", str(stand_in), (PACKAGING / unit).read_text())
+    text = re.sub(r"(?:/opt/ljserve/(?:bin|tools)|/usr/bin)/(?:ljserve\S*|keep|users)", str(stand_in), (PACKAGING / unit).read_text())
     (tmp_path / name).write_text(text)
     words = ["systemd-analyze", "verify", "--man=no", str(tmp_path / name.replace("@", "@1"))]
     done = subprocess.run(words, capture_output=True, text=True, timeout=2 * SECONDS)
@@ -58,7 +58,7 @@ def test_systemd_takes_each_line_of_a_unit(unit: str, tmp_path: pathlib.Path) ->
 
 def copying(unit: str) -> List[str]:
     """The lines of a unit that root runs, as the shell takes them."""
-    lines = re.findall(r"^Exec(?:StartPre|Reload)=\+(.*)$", (PACKAGING / unit).read_text(), re.M)
+    lines = re.findall(r"^Exec(?:StartPre|Reload)=\+(/bin/sh .*)$", (PACKAGING / unit).read_text(), re.M)
     named = re.sub(r"(--re[ug]id|-o) ljserve", rf"\1 {SERVICE}", "\n".join(lines)).replace("%%", "%").replace("%i", "1")
     return named.splitlines()
 
@@ -129,3 +129,14 @@ def test_users_that_cannot_be_read_leave_the_copy_as_it_is(unit: str, folder: Fo
         folder.users.rename(folder.path / "away")
         assert folder.run(line) != 0 and folder.copy.read_text() == USERS
         (folder.path / "away").rename(folder.users)
+
+
+@pytest.mark.parametrize("unit", KEEPING)
+def test_users_with_a_fault_are_not_taken(unit: str, folder: Folder) -> None:
+    """systemd leaves out all that is behind a command that fails: the copy, and what tells the service."""
+    check, *others = re.findall(r"^ExecReload=\+?(.*)$", (PACKAGING / unit).read_text(), re.M)
+    assert [each.split()[0] for each in others] == ["/bin/sh", "/bin/kill"]
+    check = re.sub("/usr/bin/ljserve-|/opt/ljserve/tools/", f"{TOP}/tools/", check).replace("%i", "1")
+    assert folder.run(check) == 0
+    folder.users.write_text(USERS + USERS)
+    assert folder.run(check) == 1
