@@ -6,7 +6,7 @@ import contextlib
 import socket
 import threading
 from http.server import BaseHTTPRequestHandler, ThreadingHTTPServer
-from typing import Callable, Dict, Iterator, List, Optional, Sequence, Tuple
+from typing import Callable, Dict, Iterator, List, Mapping, Optional, Sequence, Tuple
 
 from server_process import Server, server_at
 from watching import Address, Board, Totals
@@ -15,9 +15,12 @@ PLACES = 64
 STATES = ("new", "waits", "in", "denied")
 KIND = "text/plain; version=0.0.4; charset=utf-8"
 SECONDS_FOR_REQUEST = 10.0
+METRICS = "/metrics"
 Labels = Dict[str, str]
-Sample = Tuple[Labels, int]
+Sample = Tuple[Labels, float]
 Metric = Tuple[str, str, str, Sequence[Sample]]
+# The status of an answer, and its text.
+Page = Callable[[], Tuple[int, str]]
 
 
 class Metrics:
@@ -36,7 +39,7 @@ class Metrics:
         with self._lock:
             totals, server = self._board.totals(), server_at(self._server)
             left = self._left(totals.passed, server)
-        return "".join(map(written, (*of_connections(totals), *of_server(server, totals, left), *of_users(totals))))
+        return text_of([*of_connections(totals), *of_server(server, totals, left), *of_users(totals)])
 
     def _left(self, passed: int, server: Optional[Server]) -> Optional[int]:
         """How many connections the server still accepts. A new process has had those since the last time at most."""
@@ -76,6 +79,10 @@ def of_users(totals: Totals) -> Iterator[Metric]:
     yield "ljserve_steps_total", "counter", "Steps that ADVANCE and START were answered for, by user.", steps
 
 
+def text_of(metrics: Sequence[Metric]) -> str:
+    return "".join(map(written, metrics))
+
+
 def written(metric: Metric) -> str:
     """A metric with its lines of HELP and TYPE."""
     name, kind, about, samples = metric
@@ -95,15 +102,15 @@ def escaped(value: str) -> str:
 
 
 class Endpoint(ThreadingHTTPServer):
-    """An address at which a text is told to who asks for /metrics."""
+    """An address at which pages are told to who asks for them by their paths."""
 
     daemon_threads = True
 
-    def __init__(self, listener: socket.socket, text: Callable[[], str]):
+    def __init__(self, listener: socket.socket, pages: Mapping[str, Page]):
         super().__init__(listener.getsockname()[:2], Answer, bind_and_activate=False)
         self.socket.close()
         self.socket = listener
-        self.text = text
+        self.pages = pages
 
     def handle_error(self, request: object, client_address: object) -> None:
         """One who asks and is gone is no matter."""
@@ -116,10 +123,12 @@ class Answer(BaseHTTPRequestHandler):
     timeout = SECONDS_FOR_REQUEST
 
     def do_GET(self) -> None:
-        is_known = self.path.partition("?")[0] == "/metrics"
-        body = (self.server.text() if is_known else "Metrics are at /metrics.\n").encode()
-        self.send_response(200 if is_known else 404)
-        self.send_header("Content-Type", KIND if is_known else "text/plain; charset=utf-8")
+        path = self.path.partition("?")[0]
+        page = self.server.pages.get(path)
+        status, text = page() if page else (404, f"Metrics are at {METRICS}.\n")
+        body = text.encode()
+        self.send_response(status)
+        self.send_header("Content-Type", KIND if page and path == METRICS else "text/plain; charset=utf-8")
         self.send_header("Content-Length", str(len(body)))
         self.end_headers()
         with contextlib.suppress(OSError):
@@ -129,6 +138,6 @@ class Answer(BaseHTTPRequestHandler):
         """Nothing is noted of requests."""
 
 
-def tell(listener: socket.socket, metrics: Metrics) -> None:
-    """Tells metrics to all who ask, beside what else the program does."""
-    threading.Thread(target=Endpoint(listener, metrics.text).serve_forever, daemon=True).start()
+def tell(listener: socket.socket, pages: Mapping[str, Page]) -> None:
+    """Tells pages to all who ask, beside what else the program does."""
+    threading.Thread(target=Endpoint(listener, pages).serve_forever, daemon=True).start()

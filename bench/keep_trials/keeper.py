@@ -48,10 +48,12 @@ class Keeper:
 
     def __init__(
         self, top: pathlib.Path, program: str, users: Dict[str, Quota], options: Sequence[str] = (), tool: Sequence[str] = TOOL,
-        more: Sequence[str] = ("--workers", "2"), prepare: Optional[Callable[[], None]] = None,
+        more: Sequence[str] = ("--workers", "2"), prepare: Optional[Callable[[], None]] = None, store: str = "",
     ):  # fmt: skip
-        """`more` are the words of the server behind its users, and `prepare` is called in the process of the front."""
+        """`more` are the words of the server behind its users, and `prepare` is called in the process of the front. What is kept is in
+        a folder if no other store is said."""
         self.folder, self.users, self.log = top / "kept", top / "users", top / "log"
+        self.store = store or str(self.folder)
         self.program, self.options, self.tool, self.more, self.prepare = program, options, tool, more, prepare
         self.errors = top / "errors"
         self.put_users(users)
@@ -64,7 +66,7 @@ class Keeper:
 
     def begin(self) -> None:
         """Begins the front, and waits until it listens."""
-        kept = ["127.0.0.1:0", str(self.folder), "--log", str(self.log), *self.options]
+        kept = ["127.0.0.1:0", self.store, "--log", str(self.log), *self.options]
         words = [*self.tool, *kept, "--", self.program, "serve", "--users", str(self.users), *self.more]
         before = len(self.events("listens"))
         with open(self.errors, "ab") as errors:
@@ -128,7 +130,7 @@ class Keeper:
                 return replies.read()
 
     def status(self) -> Tuple[int, str]:
-        done = subprocess.run([*self.tool, "--status", str(self.folder)], capture_output=True, text=True, timeout=SECONDS)
+        done = subprocess.run([*self.tool, "--status", self.store], capture_output=True, text=True, timeout=SECONDS)
         return done.returncode, done.stdout + done.stderr
 
     def end(self) -> int:

@@ -1,17 +1,26 @@
-"""Kills of the server, or of front and server together, while users work: none of them may be told anything that cannot be."""
+"""Kills of servers and fronts while users work: none of them may be told anything that cannot be."""
+import contextlib
 import pathlib
 import random
+import signal
 import tempfile
 import time
-from typing import Dict, List, Sequence
+from functools import partial
+from typing import Callable, Dict, List, Sequence
 
+from keep_trials.cluster import Cluster
+from keep_trials.fronts import Fronts
 from keep_trials.keeper import TOOL, Keeper, patched, until
-from keep_trials.visitor import Visitor, quota_of
+from keep_trials.visitor import Entrance, Visitor, quota_of
 
 USERS = 8
 SECONDS_BETWEEN = (0.02, 0.4)
+SECONDS_AFTER_PROMOTION = 2.0
 # How often users break their connections off, and whether a kill may end these.
 KINDS = {"server": (0.0, False), "ends": (0.15, False), "both": (0.0, True)}
+# Of two fronts over PostgreSQL one is killed with its server, or now and then its server alone; or the database, which its standby
+# follows.
+FRONTS, DATABASES, OF_SERVERS = "fronts", "databases", 0.2
 # How often a kill waits until all is put back, so that others come in the middle of that.
 OFTEN_READY = 0.75
 # A front that takes a snapshot after a few records or a moment of computing, so that kills come within many of them.
@@ -21,30 +30,54 @@ OFTEN = patched("import keeping.user; keeping.user.MAX_RECORDS, keeping.user.SEC
 def kill(program: str, kind: str, kills: int, seed: str, options: Sequence[str] = (), is_often: bool = False) -> Dict[str, int]:
     """Has users work while so many kills of a kind happen, with many snapshots or as many as is usual. Returns what was done. Raises
     what a user found at fault."""
-    names = [f"user{number}" for number in range(USERS)]
+    users = {name: quota_of(seed, name) for name in (f"user{number}" for number in range(USERS))}
+    rnd, tool = random.Random(seed), OFTEN if is_often else TOOL
     with tempfile.TemporaryDirectory() as top:
-        users = {name: quota_of(seed, name) for name in names}
-        with Keeper(pathlib.Path(top), program, users, options, OFTEN if is_often else TOOL) as keeper:
-            breaks, may_be_cut = KINDS[kind]
-            visitors = [Visitor(keeper, name, seed, breaks, may_be_cut) for name in names]
-            for visitor in visitors:
-                visitor.start()
-            kill_in_turn(keeper, kind, kills, random.Random(seed), visitors)
-            return ended(visitors)
+        if kind == FRONTS:
+            with contextlib.closing(Cluster()) as cluster, Fronts(pathlib.Path(top), cluster, program, users, options, tool) as fronts:
+                return work(fronts, kills, seed, rnd, 0.0, True, partial(fronts.kill_one, rnd, OF_SERVERS))
+        if kind == DATABASES:
+            with contextlib.closing(Cluster()) as one, contextlib.closing(Cluster(one)) as other:
+                with Fronts(pathlib.Path(top), one, program, users, options, tool, others=[other]) as fronts:
+                    return work(fronts, kills, seed, rnd, 0.0, False, partial(kill_first, [one, other]))
+        with Keeper(pathlib.Path(top), program, users, options, tool) as keeper:
+            return work(keeper, kills, seed, rnd, *KINDS[kind], partial(kill_and_begin, keeper, kind))
 
 
-def kill_in_turn(keeper: Keeper, kind: str, kills: int, rnd: random.Random, visitors: List[Visitor]) -> None:
+def work(
+    entrance: Entrance, kills: int, seed: str, rnd: random.Random, breaks: float, may_be_cut: bool, kill_one: Callable[[], None]
+) -> Dict[str, int]:
+    """Has users come in while so many kills happen. Returns what they did."""
+    visitors = [Visitor(entrance, f"user{number}", seed, breaks, may_be_cut) for number in range(USERS)]
+    for visitor in visitors:
+        visitor.start()
     for _ in range(kills):
         if rnd.random() < OFTEN_READY:
-            until(lambda: keeper.is_ready() or any(each.fault for each in visitors))
+            until(lambda: entrance.is_ready() or any(each.fault for each in visitors))
         time.sleep(rnd.uniform(*SECONDS_BETWEEN))
         if any(each.fault for each in visitors):
-            return
-        if kind == "both":
-            keeper.kill()
-            keeper.begin()
-        else:
-            keeper.kill_server()
+            break
+        kill_one()
+    return ended(visitors)
+
+
+def kill_first(clusters: List[Cluster]) -> None:
+    """Kills a database, has its standby go on, and then the other way round."""
+    first, second = clusters
+    first.end(signal.SIGQUIT)
+    second.promote()
+    time.sleep(SECONDS_AFTER_PROMOTION)
+    first.follow(second)
+    clusters.reverse()
+
+
+def kill_and_begin(keeper: Keeper, kind: str) -> None:
+    """Kills the server, or the front with it."""
+    if kind == "both":
+        keeper.kill()
+        keeper.begin()
+    else:
+        keeper.kill_server()
 
 
 def ended(visitors: List[Visitor]) -> Dict[str, int]:

@@ -6,10 +6,10 @@ import struct
 import sys
 import threading
 import time
-from typing import List, Optional, Sequence
+from typing import List, Optional, Protocol, Sequence
 
 from keep_trials.account import QUESTIONS, Account, Wrong
-from keep_trials.keeper import SECONDS, TOP, Keeper, Quota
+from keep_trials.keeper import SECONDS, TOP, Quota
 
 sys.path += [str(TOP / "tools"), str(TOP / "conformance")]
 from chance import Chance, bounded  # noqa: E402
@@ -26,12 +26,22 @@ def quota_of(seed: str, name: str) -> Quota:
     return quota
 
 
+class Entrance(Protocol):
+    """Where a visitor comes in."""
+
+    def raw(self, name: str) -> socket.socket:
+        """A connection that has said who it is."""
+
+    def is_ready(self) -> bool:
+        """Whether who comes is let in at once."""
+
+
 class Visitor(threading.Thread):
     """Visits a front until it is told to end. `breaks` says how often it breaks its connection off, of 1."""
 
-    def __init__(self, keeper: Keeper, name: str, seed: str, breaks: float, may_be_cut: bool):
+    def __init__(self, entrance: Entrance, name: str, seed: str, breaks: float, may_be_cut: bool):
         super().__init__(daemon=True)
-        self.keeper, self.name, self.breaks, self.may_be_cut = keeper, name, breaks, may_be_cut
+        self.entrance, self.name, self.breaks, self.may_be_cut = entrance, name, breaks, may_be_cut
         self.fault: Optional[BaseException] = None
         self.is_to_end = False
         self.commands = self.checks = self.connections = 0
@@ -99,7 +109,7 @@ class Visitor(threading.Thread):
         end = time.monotonic() + SECONDS
         while time.monotonic() < end:
             try:
-                stream = self.keeper.raw(self.name)
+                stream = self.entrance.raw(self.name)
             except OSError:
                 time.sleep(0.02)
                 continue

@@ -236,7 +236,7 @@ def first_server(block: Any, folder: Any) -> None:
     """The unit begins a server of the users that were made."""
     done_as_root(block, folder)
     users = folder.path / "etc" / "ljserve" / "users"
-    command = command_of(folder, "ljserve-keep.service").replace("${RUNTIME_DIRECTORY}/users", str(users))
+    command = command_of(folder, "ljserve-keep.service").replace("${RUNTIME_DIRECTORY}/users", str(users)).replace(":9402", ":0")
     hello, told = first_user(users)
     with begun(command.replace("${STATE_DIRECTORY}", str(folder.path / "kept")), folder) as connection:
         assert is_told(connection, f"{hello}LIST\n") == f"{told}OK LIST 0\n"
@@ -253,7 +253,7 @@ def servers_behind_haproxy(block: Any, folder: Any) -> None:
     assert [len((shards / f"users{number}").read_text().splitlines()) for number in (1, 2, 3)] == [50, 50, 50]
     hello, told = first_user(shards / "users2")
     env = dict(line.split("=") for line in (shards / "server2.env").read_text().splitlines())
-    env |= {"LISTEN": "127.0.0.1:4000", "STATE_DIRECTORY": str(folder.path / "kept")}
+    env |= {"LISTEN": "127.0.0.1:4000", "STATE_DIRECTORY": str(folder.path / "kept"), "METRICS": "127.0.0.1:0"}
     command = command_of(folder, "ljserve-keep@.service").replace("${RUNTIME_DIRECTORY}/users", env["USERS"])
     with begun(re.sub(r"\$\{(\w+)\}", lambda name: str(env[name[1]]), command), folder) as connection:
         assert is_told(connection, f"{hello}LIST\n") == f"{told}OK LIST 0\n"
@@ -526,7 +526,8 @@ BLOCKS = {
         "apt-get install python3": first_server,
         "apt-get install haproxy": servers_behind_haproxy,
         "tools/keep 127.0.0.1": "clients/python/tests/test_keep.py runs it, at ports that are free",
-        "0.0.0.0:4000  3 open": "clients/python/tests/test_watch.py compares such lines, whose times and addresses differ",
+        "tools/keep 192.0.2.1": "clients/python/tests/test_keep_fronts.py runs two, over a database of its own",
+        "0.0.0.0:4000  2 open": "clients/python/tests/test_watch.py compares such lines, whose times and addresses differ",
         "tools/watch --metrics": "clients/python/tests/test_watch_metrics.py runs it, at ports that are free",
         "apt install ./": "clients/python/tests/test_debian_packages.py installs both, in a root of its own",
         "cat /etc/ljserve/users": "clients/python/tests/test_debian_packages.py reads the token there, and lets the prompt read it",

@@ -1,4 +1,4 @@
-"""Both ends of what passes: the connection of a client, and that of a user to the server."""
+"""The ends of what passes: the connection of a client, and that of a user to the server, or of a client to another front."""
 from __future__ import annotations
 
 import asyncio
@@ -7,10 +7,11 @@ from typing import TYPE_CHECKING, Optional
 from keeping.accounts import DENIED
 from keeping.items import MAX_BODY, MAX_ITEMS, MAX_LINE, Item, ItemReader, ReplyReader, words_of
 from proxy_header import NotWhole, source_of_bytes
-from watching import prepare, written
+from watching import address_of, prepare, written
 
 if TYPE_CHECKING:
     from keeping.front import Front
+    from keeping.place import Owner
     from keeping.server import Server
     from keeping.user import User
 
@@ -30,11 +31,12 @@ class Client(asyncio.Protocol):
         self._transport: asyncio.Transport
         self._reader = ItemReader()
         self._next: Optional[Item] = None
-        self._first = b""
+        self._first = self._header = b""
         self._has_header = front.has_header
-        self._is_over = self._is_lost = self._has_sent_all = False
-        self._is_paused = False
+        self._is_over = self._has_sent_all = False
+        self._is_paused = self.is_lost = self.is_left_out = False
         self.user: Optional[User] = None
+        self.passed: Optional[Passed] = None
         self.is_full = False
 
     # What happens.
@@ -50,7 +52,9 @@ class Client(asyncio.Protocol):
     def data_received(self, data: bytes) -> None:
         if self._is_over:
             return
-        if self.user is None:
+        if self.passed is not None:
+            self.passed.transport.write(data)
+        elif self.user is None:
             self._first += data
             self._hear_first()
         else:
@@ -68,32 +72,58 @@ class Client(asyncio.Protocol):
         """Takes the header of PROXY and the first line, when they are whole."""
         if self._has_header and not self._takes_header():
             return
-        line, end, rest = self._first.partition(b"\n")
+        line, end, _ = self._first.partition(b"\n")
         if not end and len(line) <= MAX_LINE:
             return
         self._timer.cancel()
         self.seen.hear_client(line + b"\n")
-        self.user = self._front.user_of(line) if end else None
-        if self.user is None and words_of(line) == CHECK and not self._front.is_well():
-            self.abort()
-        elif self.user is None:
+        name = self._front.name_of(line) if end else None
+        if name is not None:
+            self._front.find(name, self)
+        elif words_of(line) == CHECK:
+            self._front.leaves_out(self)
+            self.deny() if self._front.is_well() else self.abort()
+        else:
             self.deny()
-        if self.user is None:
-            return
-        self._first = b""
+
+    def enter(self, user: User) -> None:
+        """Has it be with its user."""
+        self.user = user
+        rest, self._first = self._first.partition(b"\n")[2], b""
+        self.read_on()
         self._hear(rest)
-        self.user.enter(self)
+        user.enter(self)
+
+    def wait(self) -> None:
+        """Reads no more for now."""
+        self._transport.pause_reading()
+
+    def read_on(self) -> None:
+        self._transport.resume_reading()
+
+    async def pass_on(self, owner: Owner, seconds: float) -> None:
+        """Has another front have it. Raises OSError or `asyncio.TimeoutError` if that is not reached."""
+        header = (self._header or b"PROXY UNKNOWN\r\n") if owner.has_header else b""
+        passed = Passed(self, header + self._first)
+        await asyncio.wait_for(asyncio.get_running_loop().create_connection(lambda: passed, *address_of(owner.address)), seconds)
+        if self.is_lost:
+            passed.transport.abort()
+        else:
+            self.passed, self._first = passed, b""
+            self.read_on()
+            self._front.leaves_out(self)
 
     def _takes_header(self) -> bool:
         """Takes the header off if it is whole. A connection without one is closed."""
         try:
-            source, self._first = source_of_bytes(self._first)
+            source, rest = source_of_bytes(self._first)
         except NotWhole:
             return False
         except ValueError as error:
             self.seen.refusal = f"no PROXY header: {error}"
             self.abort()
             return False
+        self._header, self._first = self._first[: len(self._first) - len(rest)], rest
         self._has_header = False
         self.seen.origin = source or self.seen.origin
         return True
@@ -101,6 +131,9 @@ class Client(asyncio.Protocol):
     def eof_received(self) -> bool:
         """The client sends no more. Who waits and has sent nothing behind its first line is taken as gone."""
         self._has_sent_all = self.seen.is_gone = True
+        if self.passed is not None:
+            self.passed.transport.write_eof()
+            return True
         is_waiting = self.user is not None and self in self.user.waiting
         if self.user is None or self._is_over or is_waiting and not self._reader.held:
             self._transport.close()
@@ -110,19 +143,25 @@ class Client(asyncio.Protocol):
 
     def connection_lost(self, error: Optional[Exception]) -> None:
         self._timer.cancel()
-        self._is_lost, self.is_full = True, False
+        self.is_lost, self.is_full = True, False
         self._next = None
+        if self.passed is not None:
+            self.passed.transport.abort() if error else self.passed.transport.close()
         if self.user is not None:
             self.user.leave(self)
         self._front.ends(self)
 
     def pause_writing(self) -> None:
-        self.is_full = True
-        if self.user is not None:
-            self.user.go_on()
+        self._be_full(True)
 
     def resume_writing(self) -> None:
-        self.is_full = False
+        self._be_full(False)
+
+    def _be_full(self, is_full: bool) -> None:
+        """Notes whether it takes no more replies for now."""
+        self.is_full = is_full
+        if self.passed is not None:
+            (self.passed.transport.pause_reading if is_full else self.passed.transport.resume_reading)()
         if self.user is not None:
             self.user.go_on()
 
@@ -137,11 +176,15 @@ class Client(asyncio.Protocol):
         return item
 
     def _cut(self) -> Optional[Item]:
-        return None if self._is_lost else self._reader.next()
+        return None if self.is_lost else self._reader.next()
+
+    def take_no_more(self) -> None:
+        """Takes no more items, so that the connection ends behind the last reply."""
+        self._reader.end()
 
     def has_ended(self) -> bool:
         """Whether no more items will come."""
-        if not (self._is_lost or self._has_sent_all or self._reader.has_ended):
+        if not (self.is_lost or self._has_sent_all or self._reader.has_ended):
             return False
         self._next = self._next or self._cut()
         return self._next is None
@@ -151,8 +194,9 @@ class Client(asyncio.Protocol):
         self._front.is_let_in(self)
 
     def tell(self, replies: bytes) -> None:
-        if not self._is_lost:
-            self.seen.hear_server(replies)
+        if not self.is_lost:
+            if not self.is_left_out:
+                self.seen.hear_server(replies)
             self._transport.write(replies)
 
     def deny(self) -> None:
@@ -162,7 +206,7 @@ class Client(asyncio.Protocol):
     def finish(self) -> None:
         """Ends the connection behind what was told, or without what is not read in ten seconds. What is still sent is read for a
         second, so that the last reply is not lost."""
-        if self._is_lost or self._is_over:
+        if self.is_lost or self._is_over:
             return
         self._is_over = True
         asyncio.get_running_loop().call_later(SECONDS_TO_READ, self._transport.abort)
@@ -174,10 +218,45 @@ class Client(asyncio.Protocol):
             self._transport.resume_reading()
         asyncio.get_running_loop().call_later(SECONDS_AFTER_END, self._transport.close)
 
+    def turn_away(self) -> None:
+        """Ends the connection at once, since there are too many."""
+        self._front.turns_away(self)
+        self.abort()
+
     def abort(self) -> None:
         """Ends the connection at once."""
         self._is_over = True
         self._transport.abort()
+
+
+class Passed(asyncio.Protocol):
+    """The connection of a client to the front that has its user. What comes passes as it is."""
+
+    def __init__(self, client: Client, first: bytes):
+        self._client, self._first = client, first
+        self.transport: asyncio.Transport
+
+    def connection_made(self, transport: asyncio.BaseTransport) -> None:
+        assert isinstance(transport, asyncio.Transport)
+        self.transport = transport
+        prepare(transport.get_extra_info("socket"))
+        transport.write(self._first)
+
+    def data_received(self, data: bytes) -> None:
+        self._client.tell(data)
+
+    def eof_received(self) -> bool:
+        self._client.finish()
+        return True
+
+    def connection_lost(self, error: Optional[Exception]) -> None:
+        self._client.abort() if error else self._client.finish()
+
+    def pause_writing(self) -> None:
+        self._client.wait()
+
+    def resume_writing(self) -> None:
+        self._client.read_on()
 
 
 class Link(asyncio.Protocol):

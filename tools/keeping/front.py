@@ -7,25 +7,31 @@ import pathlib
 import signal
 import socket
 import time
-from typing import Dict, NamedTuple, Optional, Set
+from typing import Coroutine, Dict, NamedTuple, Optional, Set
 
 from keeping.accounts import Accounts, accounts_at, user_of
+from keeping.allowance import Allowances
 from keeping.ends import Client, Link
-from keeping.journal import take_over_all
+from keeping.place import Owner, Place
 from keeping.server import Server, Words, begin, how_it_ended, trial_of, version_of
-from keeping.status import STATUS, Folder
-from keeping.store import Damaged, SqliteStore
+from keeping.status import Known
+from keeping.store import Damaged, Fenced, Store, StoreFault
 from keeping.user import User
 from keeping.writer import Writer
 from user_files import Fault
-from watching import Board, Connection, written
+from watching import Board, Connection
 
 MAX_OPEN = 1000
 SECONDS_BETWEEN_TRIES = 0.01
 SECONDS_OF_A_START = 1.0
 SECONDS_TO_SETTLE = 10.0
+SECONDS_OF_A_STATUS = 1.0
 # The server is asked once a second, is not well without an answer for so long, and then is ended.
 SECONDS_BETWEEN_QUESTIONS, SECONDS_TO_ANSWER, SECONDS_TO_END = 1.0, 3.0, 10.0
+# A place that others share is asked so often whether this front may go on, and for so long when it does not answer.
+SECONDS_BETWEEN_HOLDS, SECONDS_TO_HOLD = 0.5, 60.0
+# So long it is tried to reach the front that has a user.
+SECONDS_TO_FIND, SECONDS_TO_PASS_ON = 60.0, 2.0
 VERSION, TRIAL = "version", "trial"
 # The status of a server whose words or users are none.
 BAD_WORDS = 2
@@ -36,47 +42,54 @@ class Options(NamedTuple):
     """What the command line says."""
 
     listener: socket.socket
-    folder: Folder
+    place: Place
     words: Words
     sync: str
     has_header: bool
+    at: str
+    steps_a_day: Optional[int]
 
 
 class Front:
     """Lets users in, each to its own records and its own connection to the server."""
 
     def __init__(self, options: Options, board: Board):
-        """Raises Fault if the users cannot be read, or StoreFault."""
+        """Has one be at its place, which has begun."""
         self.has_header = options.has_header
-        self._options, self._board = options, board
-        self._folder = options.folder
-        self._store = SqliteStore(options.folder.path, options.sync == "group")
-        self._writer = Writer(self._store, options.sync, self.fail)
+        self._options, self._board, self._place = options, board, options.place
+        self._store = Store(self._place.base)
+        sync = "group" if self._place.is_shared else options.sync
+        self._writer = Writer(self._store, sync, self.fail, self.may_tell)
         self._accounts: Accounts = {}
+        self._served: Accounts = {}
         self._users: Dict[str, User] = {}
         self._refused: Dict[str, str] = {}
+        self._allowances = Allowances(options.steps_a_day)
         self._clients: Set[Client] = set()
+        self._claims: Dict[str, "asyncio.Task[Optional[Owner]]"] = {}
+        self._tasks: Set["asyncio.Task[None]"] = set()
+        self._held = 0.0
         self._server: Optional[Server] = None
         self._is_ending = asyncio.Event()
         self._status = 0
         self._answered = 0.0
         self._known = {"since": time.time(), "process": os.getpid(), "begun": 0, "last_end": "", "end": ""}
-        self._known |= {"at": written(options.listener.getsockname()), "has_header": options.has_header}
-        self._take_users(accounts_at(pathlib.Path(options.words.users)))
+        self._known |= {"at": options.at, "has_header": options.has_header}
 
     # Users.
 
-    def _take_users(self, accounts: Accounts) -> None:
+    async def _take_users(self, accounts: Accounts) -> None:
         """Has these users in place of those there were. Who was stopped is tried again."""
         before, self._accounts, self._refused = self._accounts, accounts, {}
         for user in [*self._users.values()]:
             self._give_up(user)
             if user.name in accounts and before[user.name].token != accounts[user.name].token:
                 user.abort_clients()
-        for name in take_over_all(self._folder.path, self._store, self._refuse):
+        for name in self._place.take_over(self._store, self._refuse):
             self._note("journal taken over", user=name)
-        for name in [each for each in accounts if each not in self._users and each not in self._refused]:
-            self._open(name)
+        if not self._place.is_shared:
+            for name in [each for each in accounts if each not in self._users and each not in self._refused]:
+                await self._claim(name)
 
     def _give_up(self, user: User) -> None:
         """Lets go of a user that is none any more, or was stopped, unless something of it is being written."""
@@ -85,14 +98,28 @@ class Front:
         if user.stopped and not user.is_busy():
             del self._users[user.name]
 
-    def _open(self, name: str) -> None:
-        """Reads what is kept of a user. Where that is damaged it stops that user alone."""
+    async def _claim(self, name: str) -> Optional[Owner]:
+        """Has a user here, unless another front has it, and returns that. What is damaged stops that user alone."""
+        if owner := await asyncio.to_thread(self._place.claim, name):
+            return owner
         try:
-            kept = self._store.read(name)
+            kept = await asyncio.to_thread(self._store.read, name)
         except Damaged as error:
+            await asyncio.to_thread(self._place.release, name)
             self._refuse(name, f"what is kept is damaged: {error}")
         else:
-            self._users[name] = User(name, kept, self._store, self._writer, self._note, self._renew)
+            told = await asyncio.to_thread(self._place.told) if self._options.steps_a_day else []
+            if name not in self._users and name in self._accounts:
+                self._users[name] = user = User(name, kept, self._store, self._writer, self._note, self._renew)
+                user.allowance = self._allowances.of(name, told)
+                if self._server is not None and self._served is self._accounts:
+                    self._begin_task(self._connect(user, True))
+        return None
+
+    def _begin_task(self, work: Coroutine[object, object, None]) -> None:
+        task = asyncio.create_task(work)
+        self._tasks.add(task)
+        task.add_done_callback(self._tasks.discard)
 
     def _refuse(self, name: str, why: str) -> None:
         self._refused[name] = why
@@ -104,15 +131,55 @@ class Front:
         self._clients.add(client)
         self._board.begins(client.seen)
         if len(self._clients) > MAX_OPEN:
-            client.abort()
+            client.turn_away()
+
+    def turns_away(self, client: Client) -> None:
+        self._board.turns_away(client.seen)
 
     def ends(self, client: Client) -> None:
         self._clients.discard(client)
-        self._board.ends(client.seen)
+        if not client.is_left_out:
+            self._board.ends(client.seen)
 
-    def user_of(self, line: bytes) -> Optional[User]:
-        name = user_of(line, self._accounts)
-        return self._users.get(name) if name else None
+    def leaves_out(self, client: Client) -> None:
+        """Counts a client no more that another front has, or that is a check."""
+        client.is_left_out = True
+        self._board.leaves_out(client.seen)
+
+    def name_of(self, line: bytes) -> Optional[str]:
+        return user_of(line, self._accounts)
+
+    def find(self, name: str, client: Client) -> None:
+        """Has a client be with its user, here or at another front."""
+        if self._is_ending.is_set() or not self.may_tell():
+            client.abort()
+        elif name in self._users:
+            client.enter(self._users[name])
+        elif name in self._refused or name not in self._accounts:
+            client.deny()
+        else:
+            client.wait()
+            self._begin_task(self._find(name, client))
+
+    async def _find(self, name: str, client: Client) -> None:
+        end = time.monotonic() + SECONDS_TO_FIND
+        while time.monotonic() < end and not client.is_lost:
+            if name not in self._claims:
+                self._claims[name] = asyncio.create_task(self._claim(name))
+                self._claims[name].add_done_callback(lambda _: self._claims.pop(name))
+            try:
+                owner = await self._claims[name]
+                if owner is not None:
+                    await client.pass_on(owner, SECONDS_TO_PASS_ON)
+                elif not client.is_lost:
+                    self.find(name, client)
+                return
+            except (OSError, asyncio.TimeoutError, StoreFault):
+                await asyncio.sleep(SECONDS_BETWEEN_TRIES)
+            except Exception:
+                client.abort()
+                raise
+        client.abort()
 
     def is_let_in(self, client: Client) -> None:
         self._board.is_passed()
@@ -123,19 +190,27 @@ class Front:
 
     # The server.
 
-    async def run(self) -> int:
-        """Serves until it is told to end, and returns the exit status."""
+    def heed_signals(self) -> None:
+        """Has signals begin it anew, or end it, in the loop that runs now."""
         loop = asyncio.get_running_loop()
         loop.add_signal_handler(signal.SIGHUP, self._begin_anew)
         loop.add_signal_handler(signal.SIGTERM, self._end)
         loop.add_signal_handler(signal.SIGINT, self._end)
+
+    async def run(self) -> int:
+        """Serves until it is told to end, and returns the exit status."""
+        loop = asyncio.get_running_loop()
+        await self._take_users(accounts_at(pathlib.Path(self._options.words.users)))
+        await self._hold()
         listening = await loop.create_server(lambda: Client(self), sock=self._options.listener, backlog=128)
-        tasks = [asyncio.create_task(work) for work in (self._own_servers(), self._writer.sync_on())]
+        works = self._own_servers(), self._writer.sync_on(), self._hold_on(), self._look_after()
+        tasks = [asyncio.create_task(work) for work in works]
         await self._is_ending.wait()
-        listening.close()
         if not self._status:
             await self._settle()
-        for task in tasks:
+        # Where nobody listens no more is told, so that another front takes over at once.
+        listening.close()
+        for task in [*tasks, *self._tasks]:
             task.cancel()
         await asyncio.gather(*tasks, return_exceptions=True)
         await self._close()
@@ -154,11 +229,36 @@ class Front:
             self._server.kill()
             await self._server.ended()
             self._server = None
+        self._writer.close()
+        self._put_status()
+        self._place.close()
         for client in [*self._clients]:
             client.abort()
-        self._writer.close()
-        self._store.close()
-        self._put_status()
+
+    async def _hold_on(self) -> None:
+        while self._place.is_shared:
+            await asyncio.sleep(SECONDS_BETWEEN_HOLDS)
+            await self._hold()
+
+    async def _hold(self) -> None:
+        """Asks whether this front may go on, and does what waited for that."""
+        asked, might_tell = time.monotonic(), self.may_tell()
+        try:
+            if await asyncio.to_thread(self._place.hold):
+                self._held = asked
+        except Fenced as fault:
+            self.fail(str(fault))
+        except StoreFault as fault:
+            if asked > self._held + SECONDS_TO_HOLD:
+                self.fail(str(fault))
+        self._end_kicked()
+        if not might_tell:
+            for user in self._users.values():
+                user.go_on()
+
+    def may_tell(self) -> bool:
+        """Whether nobody can have taken over yet, so that what needs no record may be told."""
+        return time.monotonic() < self._held + self._place.seconds_of_lease
 
     async def _own_servers(self) -> None:
         """Begins a server, and another one when it has ended."""
@@ -178,7 +278,7 @@ class Front:
     async def _own_server(self) -> str:
         """Begins a server, connects all users to it, and returns how it has ended."""
         await self._unless_otherwise()
-        accounts = self._accounts
+        self._served = accounts = self._accounts
         self._server = server = await begin(self._options.words, accounts)
         if accounts is not self._accounts:
             server.kill()
@@ -191,6 +291,7 @@ class Front:
         others.cancel()
         for user in self._users.values():
             user.lose_link()
+        await asyncio.gather(others, return_exceptions=True)
         return ended
 
     async def _watch(self, server: Server) -> None:
@@ -208,12 +309,14 @@ class Front:
             if time.monotonic() > self._answered + SECONDS_TO_END:
                 self._note("server does not answer", process=server.process.pid)
                 server.kill()
+                return
             await asyncio.sleep(SECONDS_BETWEEN_TRIES)
 
     def is_well(self) -> bool:
-        """Whether there is a server that answers."""
+        """Whether there is a server that answers, and users are let in."""
         server, silent = self._server, time.monotonic() - self._answered
-        return server is not None and server.is_there() and (not server.watcher or silent < SECONDS_TO_ANSWER)
+        answers = server is not None and server.is_there() and (not server.watcher or silent < SECONDS_TO_ANSWER)
+        return answers and self.may_tell() and not self._is_ending.is_set()
 
     async def _connect(self, user: User, is_new: bool) -> None:
         """Connects a user to the server, as soon as that listens."""
@@ -246,18 +349,16 @@ class Front:
     async def _note_version(self) -> None:
         """Has a file name the version of the program, and notes if that is another."""
         version = await version_of(self._options.words.program)
-        before = self._folder.text(VERSION)
+        before = await asyncio.to_thread(self._place.text, VERSION)
         if before != version:
             if before:
                 self._note("program", version=version, before=before)
-            self._folder.put(VERSION, version)
+            await asyncio.to_thread(self._place.put, VERSION, version)
 
     async def _unless_otherwise(self) -> None:
         """Tries the program. Raises Fault if it computes otherwise than the first one did whose sessions are kept here."""
         trial = await trial_of(self._options.words.program)
-        if not self._folder.text(TRIAL):
-            self._folder.put(TRIAL, trial)
-        elif self._folder.text(TRIAL) != trial:
+        if await asyncio.to_thread(self._place.first, TRIAL, trial) != trial:
             raise Fault(f"{self._options.words.program} computes otherwise than the program before: begin that one, or another folder")
 
     # What it is told from outside.
@@ -269,8 +370,8 @@ class Front:
         """Reads the users again, and ends the server when all have settled, so that another one is begun. Its program may be new."""
         try:
             await self._unless_otherwise()
-            self._take_users(accounts_at(pathlib.Path(self._options.words.users)))
-        except Fault as fault:
+            await self._take_users(accounts_at(pathlib.Path(self._options.words.users)))
+        except (Fault, StoreFault) as fault:
             self._note("not begun anew", why=str(fault))
             return
         server = self._server
@@ -291,6 +392,7 @@ class Front:
         self._status = status
         self._known["end"] = why
         self._note("failed", why=why)
+        self._place.give_up()
         self._is_ending.set()
         for client in [*self._clients]:
             client.abort()
@@ -301,8 +403,26 @@ class Front:
         self._board.says(" ".join([event, *(f"{name} {value}" for name, value in known.items())]))
         self._put_status()
 
-    def _put_status(self) -> None:
+    def known(self) -> Known:
+        """What is told of all."""
         users = {name: each.known() for name, each in self._users.items() if name in self._accounts}
         users |= {name: {"state": "stopped", "why": why} for name, why in self._refused.items() if name in self._accounts}
         server = self._server.process.pid if self._server else None
-        self._folder.put(STATUS, json.dumps({**self._known, "server": server, "users": users}))
+        syncs = {"syncs": self._writer.syncs, "sync_seconds": round(self._writer.seconds, 3)}
+        return {**self._known, **syncs, "server": server, "users": users}
+
+    def _put_status(self) -> None:
+        self._place.tell(json.dumps(self.known()))
+
+    async def _look_after(self) -> None:
+        """Ends connections that are to be ended, and tells the status as it is."""
+        while True:
+            await asyncio.sleep(SECONDS_OF_A_STATUS)
+            self._end_kicked()
+            self._put_status()
+
+    def _end_kicked(self) -> None:
+        for name in self._place.kicked():
+            if name in self._users:
+                self._users[name].abort_clients(has_right=True)
+                self._note("kicked", user=name)

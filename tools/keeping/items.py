@@ -71,9 +71,13 @@ class ItemReader:
         self._left -= 1
         del self._held[: len(item.raw)]
         if item.last_reply:
-            self.has_ended = True
-            self._held.clear()
+            self.end()
         return item
+
+    def end(self) -> None:
+        """Drops what was not cut, and all that comes."""
+        self.has_ended = True
+        self._held.clear()
 
     def _first(self) -> Optional[Item]:
         """The item that begins what is held, if it is whole."""

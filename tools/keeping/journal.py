@@ -13,7 +13,8 @@ import pathlib
 from typing import Callable, Iterator, List
 
 from keeping.items import Told
-from keeping.store import Change, Damaged, SqliteStore, sync_folder
+from keeping.sqlite import sync_folder
+from keeping.store import Change, Damaged, Store
 
 HEAD = "ljserve journal 1 {}\n"
 SUFFIX = ".journal"
@@ -58,18 +59,18 @@ def names_in(folder: pathlib.Path) -> List[str]:
     return sorted(path.name[: -len(SUFFIX)] for path in folder.glob(f"*{SUFFIX}"))
 
 
-def take_over(folder: pathlib.Path, name: str, store: SqliteStore) -> None:
+def take_over(folder: pathlib.Path, name: str, store: Store) -> None:
     """Has the records of a journal in a store. Raises `Damaged`, OSError or `StoreFault`, and leaves it where it is."""
     put_in(folder, name, store, [*whole_records(path_of(folder, name).read_bytes(), name)])
 
 
-def put_in(folder: pathlib.Path, name: str, store: SqliteStore, records: List[Told]) -> None:
+def put_in(folder: pathlib.Path, name: str, store: Store, records: List[Told]) -> None:
     """Has these records of a journal in a store, and then the journal in the folder of those that were taken over. Where that was
     broken off in between, they are there already."""
     found = store.read(name)
     if not found.seq and not found.records:
         store.write([Change(name, records)])
-        store.sync()
+        store.base.sync()
     elif found.seq or found.records != records:
         raise Damaged(f"the store has other records: move {path_of(folder, name)} away, or begin with another folder")
     (folder / BEFORE).mkdir(mode=0o700, exist_ok=True)
@@ -78,7 +79,7 @@ def put_in(folder: pathlib.Path, name: str, store: SqliteStore, records: List[To
     sync_folder(folder)
 
 
-def take_over_all(folder: pathlib.Path, store: SqliteStore, refuse: Callable[[str, str], None]) -> List[str]:
+def take_over_all(folder: pathlib.Path, store: Store, refuse: Callable[[str, str], None]) -> List[str]:
     """Takes over all journals of a folder, but for those that cannot be, which is told. Returns whose were taken over."""
     taken = []
     for name in names_in(folder):

@@ -1,15 +1,19 @@
 """What an operator does with a store: copies it, cuts off what was changed, and moves a user from one to another."""
 import contextlib
 import json
+import os
 import pathlib
+import socket
 import sys
 from typing import Callable, Dict, Iterable, Iterator, List, Tuple
 
 from keeping.items import Told
 from keeping.journal import names_in, path_of, put_in, whole_records
+from keeping.kick import kick
+from keeping.place import FILE, database_at, is_address, place_of, shown_place
 from keeping.sessions import shown
-from keeping.status import Folder
-from keeping.store import FILE, Change, Damaged, Kept, Part, Snapshot, SqliteStore, SNAPSHOT_FAULT, check_of
+from keeping.sqlite import Sqlite
+from keeping.store import SNAPSHOT_FAULT, Change, Damaged, Kept, Part, Snapshot, Store, check_of
 from user_files import Fault
 
 FORMAT = "ljserve user 2"
@@ -17,36 +21,43 @@ MOST_SHOWN = 20
 
 
 @contextlib.contextmanager
-def opened(path: pathlib.Path) -> Iterator[SqliteStore]:
-    """The store of a folder, which a front may have at the same time. Raises Fault if there is none."""
-    if not (path / FILE).exists():
-        raise Fault(f"{path} has no store: begin the front once, which makes it of journals too")
-    with contextlib.closing(SqliteStore(path)) as store:
-        yield store
+def opened(place: str) -> Iterator[Store]:
+    """The store of a place, which a front may have at the same time. Raises Fault if there is none."""
+    file = pathlib.Path(place, FILE)
+    if not is_address(place) and not file.exists():
+        raise Fault(f"{place} has no store: begin the front once, which makes it of journals too")
+    with contextlib.closing(database_at(place).base if is_address(place) else Sqlite(file)) as base:
+        yield Store(base)
 
 
 @contextlib.contextmanager
-def alone(path: pathlib.Path) -> Iterator[SqliteStore]:
-    """The store of a folder which no front has meanwhile. It is made if it is not there."""
-    with contextlib.closing(Folder(path)), contextlib.closing(SqliteStore(path)) as store:
-        yield store
+def alone(place: str, name: str) -> Iterator[Store]:
+    """The store of a place where no front has a user meanwhile. It is made if it is not there."""
+    with contextlib.closing(place_of(place, True)) as own:
+        own.begin(f"{socket.gethostname()}, process {os.getpid()}", False)
+        if owner := own.claim(name):
+            raise Fault(f"the front at {owner.address} has {name}: end it first")
+        yield Store(own.base)
 
 
-def back_up(path: pathlib.Path, to: str) -> None:
+def back_up(place: str, to: str) -> None:
     """Writes a copy of a store to a file, which is there when it is whole. A front may go on meanwhile."""
     copy = pathlib.Path(f"{to}.new")
     if pathlib.Path(to).exists():
         raise Fault(f"{to} is there already: name another file")
     copy.unlink(missing_ok=True)
-    with opened(path) as store:
-        store.back_up(copy)
+    with opened(place) as store, contextlib.closing(Sqlite(copy)) as base:
+        store.copy_into(base)
     copy.replace(to)
-    print(f"{to} has all that is kept in {path}. To go back to it, put it into an empty folder as {FILE}, and begin with that")
+    print(
+        f"{to} has all that is kept in {shown_place(place)}. To go back to it, put it into an empty folder as {FILE}, and begin with that"
+    )
 
 
-def repair(path: pathlib.Path, name: str) -> None:
+def repair(place: str, name: str) -> None:
     """Cuts what is kept of a user at the last whole record, also in a journal of before. What goes is told first."""
-    with alone(path) as store:
+    path = pathlib.Path(place)
+    with alone(place, name) as store:
         if name in names_in(path):
             whole, fault = whole_of(whole_records(path_of(path, name).read_bytes(), name))
             tell_loss(name, whole, fault, [])
@@ -86,15 +97,15 @@ def tell_loss(name: str, whole: List[Told], fault: str, lost: List[Told]) -> Non
     sys.stdout.flush()
 
 
-def export(path: pathlib.Path, name: str) -> None:
+def export(place: str, name: str) -> None:
     """Prints what is kept of a user as JSON, each byte of items and replies as a character. A front may go on meanwhile."""
-    with opened(path) as store:
+    with opened(place) as store:
         try:
             kept = store.read_whole(name)
         except Damaged as damage:
             raise Fault(f"what is kept of {name} is damaged: {damage}") from damage
     if not kept.seq and not kept.records:
-        raise Fault(f"{path} has nothing of {name}")
+        raise Fault(f"{shown_place(place)} has nothing of {name}")
     parts, records = [[texted(each) for each in part] for part in kept.parts], [[texted(each) for each in told] for told in kept.records]
     known = {
         "format": FORMAT,
@@ -114,7 +125,7 @@ def texted(value: object) -> object:
     return value.decode("latin-1") if isinstance(value, bytes) else value
 
 
-def import_user(path: pathlib.Path, file: str) -> None:
+def import_user(place: str, file: str) -> None:
     """Puts a user that was printed by `export` into a store, which has nothing of that user."""
     try:
         told = json.loads(pathlib.Path(file).read_text())
@@ -129,14 +140,14 @@ def import_user(path: pathlib.Path, file: str) -> None:
         raise Fault(f"{file} is not what --export prints") from error
     if not is_whole:
         raise Fault(f"{file} was changed, or is of another format than {FORMAT!r}")
-    with alone(path) as store:
-        if name in store.names() or name in names_in(path):
-            raise Fault(f"{path} has something of {name} already")
+    with alone(place, name) as store:
+        if name in store.names() or name in names_in(pathlib.Path(place)):
+            raise Fault(f"{shown_place(place)} has something of {name} already")
         store.read(name)
         store.write([Change(name, kept.records, Snapshot(seq, parts, [part.id for part in parts], kept.running) if seq else None)])
-    print(f"{path} has {name} now")
+    print(f"{shown_place(place)} has {name} now")
 
 
-COMMANDS: Dict[str, Callable[[pathlib.Path, str], None]] = {
-    "backup": back_up, "repair": repair, "export": export, "import_user": import_user,
+COMMANDS: Dict[str, Callable[[str, str], None]] = {
+    "backup": back_up, "repair": repair, "export": export, "import_user": import_user, "kick": kick,
 }  # fmt: skip

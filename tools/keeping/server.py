@@ -1,21 +1,19 @@
 """The server that is owned: a child that is ended with its parent, whatever ends that."""
 import asyncio
 import contextlib
-import ctypes
 import hashlib
 import os
 import shutil
 import signal
 import socket
 import subprocess
-from typing import Callable, Dict, List, Sequence
+from typing import Any, Dict, List, Sequence
 
-from children import environment
+from children import ending_with_parent, environment
 from keeping.accounts import Accounts, new_tokens, server_text, with_watcher
 from user_files import Fault
 
 MAX_CONNECTIONS = 1_000_000
-SET_PDEATHSIG = 1
 SECONDS_FOR_VERSION = 30.0
 # The program of a repository is built first.
 SECONDS_FOR_TRIAL = 7200.0
@@ -68,6 +66,11 @@ def how_it_ended(status: int) -> str:
     return f"it ended with status {status}" if status >= 0 else f"it was ended by signal {-status}"
 
 
+async def begun(words: Sequence[str], **streams: Any) -> asyncio.subprocess.Process:
+    """A program that was begun, which leads a group and ends with this process. Raises OSError."""
+    return await asyncio.create_subprocess_exec(*ending_with_parent(words), env=environment(), start_new_session=True, **streams)
+
+
 async def begin(words: Words, accounts: Accounts) -> Server:
     """Begins a server on a port that is free. Raises Fault if there is no such program."""
     with socket.create_server(("127.0.0.1", 0)) as free:
@@ -77,15 +80,7 @@ async def begin(words: Words, accounts: Accounts) -> Server:
     users = os.memfd_create("users", 0)
     try:
         os.write(users, server_text(accounts, tokens))
-        process = await asyncio.create_subprocess_exec(
-            *words.command(port, users),
-            stdin=subprocess.DEVNULL,
-            stdout=subprocess.DEVNULL,
-            pass_fds=[users],
-            env=environment(),
-            preexec_fn=dying_with_parent(),
-            start_new_session=True,
-        )
+        process = await begun(words.command(port, users), stdin=subprocess.DEVNULL, stdout=subprocess.DEVNULL, pass_fds=[users])
     except OSError as error:
         raise Fault(f"cannot start {words.program}: {error.strerror}") from error
     finally:
@@ -93,25 +88,10 @@ async def begin(words: Words, accounts: Accounts) -> Server:
     return Server(process, port, tokens, watcher)
 
 
-def dying_with_parent() -> Callable[[], None]:
-    """What a child does so that the system kills it when this process ends."""
-    prctl, parent = ctypes.CDLL(None, use_errno=True).prctl, os.getpid()
-
-    def prepare() -> None:
-        prctl(SET_PDEATHSIG, signal.SIGKILL)
-        if os.getppid() != parent:
-            os._exit(1)
-
-    return prepare
-
-
 async def output_of(program: str, word: str, sent: bytes, seconds: float) -> bytes:
     """What a program prints that is called with a word, or nothing if it does not end in time."""
     try:
-        process = await asyncio.create_subprocess_exec(
-            program, word, stdin=subprocess.PIPE, stdout=subprocess.PIPE, stderr=subprocess.DEVNULL,
-            preexec_fn=dying_with_parent(), start_new_session=True, env=environment(),
-        )  # fmt: skip
+        process = await begun([program, word], stdin=subprocess.PIPE, stdout=subprocess.PIPE, stderr=subprocess.DEVNULL)
     except OSError:
         return b""
     try:

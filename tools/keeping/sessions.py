@@ -438,15 +438,24 @@ def read_all(sessions: Sessions, stored: int) -> Task[List[Part]]:
 
 
 def tell_again(sessions: Sessions, records: Sequence[Told], number: int) -> Task[None]:
-    """Tells a server the records behind the one of this number. ADVANCE is told as START, so that all sessions go on at once."""
+    """Tells a server the records behind the one of this number. ADVANCE is told as START, so that all sessions go on at once, and
+    then waited for."""
+    is_waited_for: Dict[bytes, bool] = {}
     for first in range(0, len(records), BURST):
         told = [as_start(record) for record in records[first : first + BURST]]
         replies = yield [record.item for record in told]
-        for at, (record, reply) in enumerate(zip(told, replies), number + first + 1):
-            found = sessions.hear(words_of(record.item.partition(b"\n")[0]), reply, at)
+        for at, (record, reply) in enumerate(zip(told, replies), first):
+            words = words_of(record.item.partition(b"\n")[0])
+            found = sessions.hear(words, reply, number + at + 1)
             if found != record.reply:
                 text = f"{shown(found)} in place of {shown(record.reply)}, when told again"
                 raise (NoMemory if found == NO_MEMORY else Otherwise)(text)
+            if words[0] == b"START":
+                is_waited_for[words[1]] = record is not records[at]
+    for session in sessions.by_name.values():
+        if session.has_pending and is_waited_for.get(session.name):
+            yield from asked([b"MEASURE %s\n" % session.name])
+            session.has_pending = False
 
 
 def as_start(record: Told) -> Told:

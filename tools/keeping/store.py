@@ -2,38 +2,35 @@
 
 A snapshot has a part for each session and each branch, with the number of the record that made it. Records are numbered from 1. The
 hash of each is over the one before it too, and that of the snapshot over all of its parts, so a row that was changed or is missing is
-found, and stops its user alone. A store of another kind has the functions of `Store`.
+found, and stops its user alone. The words of SQL are those of SQLite; another database (`Base`) says them in its own way.
 """
-import contextlib
 import hashlib
-import os
-import pathlib
-import sqlite3
-import threading
-from typing import Dict, Iterable, Iterator, List, NamedTuple, Optional, Protocol, Sequence, Tuple
+from typing import Any, ContextManager, Dict, Iterable, Iterator, List, NamedTuple, Optional, Protocol, Sequence, Tuple
 
 from keeping.items import Told
 
-FILE = "kept.sqlite"
-FORMAT = 2
 BYTES_OF_CHAIN = 16
 SNAPSHOT_FAULT = "its snapshot was changed"
-# Another process has the database for itself for a moment at most, as while it is opened.
-SECONDS_TO_WAIT = 10.0
 SCHEMA = """
 create table if not exists record (
-    name text not null, seq integer not null, item blob not null, reply blob not null, chain blob not null,
+    name text not null, seq bigint not null, item blob not null, reply blob not null, chain blob not null,
     primary key (name, seq)
 ) without rowid;
-create table if not exists snapshot (name text primary key, seq integer not null, running blob not null, chain blob not null)
+create table if not exists snapshot (name text primary key, seq bigint not null, running blob not null, chain blob not null)
     without rowid;
 create table if not exists part (
-    name text not null, id integer not null, session integer not null, text blob not null, step integer not null,
-    direction integer not null, measured blob not null, symbols blob not null, frames blob not null, hash blob not null,
+    name text not null, id bigint not null, session bigint not null, text blob not null, step bigint not null,
+    direction bigint not null, measured blob not null, symbols blob not null, frames blob not null, hash blob not null,
     primary key (name, id)
 );
 """
+# What inserts a row into each table.
+INSERTS = {
+    table: f"insert into {table} values ({', '.join('?' * columns)})" for table, columns in (("record", 5), ("snapshot", 4), ("part", 10))
+}
 HEAD = "id, session, cast(text as blob), step, direction, cast(measured as blob)"
+Row = Tuple[Any, ...]
+Statement = Tuple[str, Row]
 
 
 class Damaged(Exception):
@@ -42,6 +39,10 @@ class Damaged(Exception):
 
 class StoreFault(Exception):
     """A store cannot be used."""
+
+
+class Fenced(StoreFault):
+    """Another front has taken over."""
 
 
 class Part(NamedTuple):
@@ -83,23 +84,31 @@ class Change(NamedTuple):
     snapshot: Optional[Snapshot] = None
 
 
-class Store(Protocol):
-    """A store. Threads may call it at the same time."""
+class Base(Protocol):
+    """A database. Threads may call it at the same time, and each call may raise `StoreFault`."""
 
-    def read(self, name: str) -> Kept:
-        """What is kept of a user, which is read before anything is written. Raises `Damaged` if it was changed, or `StoreFault`."""
+    def rows(self, words: str, values: Row = ()) -> List[Row]:
+        """What is found."""
 
-    def part(self, name: str, id: int) -> Part:
-        """A whole part. Raises `Damaged` if it was changed, or `StoreFault`."""
+    def write(self, statements: Sequence[Statement]) -> None:
+        """Has all of that done in order, or none of it."""
 
-    def write(self, changes: Sequence[Change]) -> None:
-        """Writes changes, all or none. Raises `StoreFault`."""
+    def view(self) -> ContextManager[None]:
+        """Within it all that is found is of one moment."""
 
     def sync(self) -> None:
-        """Has what was written on the disk. Raises `StoreFault`."""
+        """Has what was written on the disk."""
 
     def close(self) -> None:
         """Ends the use of it."""
+
+
+class End(NamedTuple):
+    """Where the records of a user end, or those of a snapshot: the last number, its hash, and those of all parts."""
+
+    seq: int
+    chain: bytes
+    hashes: Dict[int, bytes]
 
 
 def first_chain(name: str) -> bytes:
@@ -131,109 +140,71 @@ def check_of(name: str, kept: Kept) -> bytes:
     return chain
 
 
-class SqliteStore:
-    """A store in a file of a folder. One process may write it at a time."""
+class Store:
+    """What is kept in a database. One process may write what is kept of a user at a time."""
 
-    def __init__(self, folder: pathlib.Path, sync_each: bool = True):
-        """Opens or begins it. With `sync_each` each transaction is on the disk when it is written. Raises `StoreFault`."""
-        self._path = folder / FILE
-        self._lock = threading.RLock()
-        self._ends: Dict[str, Tuple[int, bytes]] = {}
-        self._wal: Optional[int] = None
-        with self._use("use"):
-            self._base = self._connected()
-            self._base.execute("pragma journal_mode=wal")
-            self._base.execute("pragma synchronous=full")
-            (version,) = self._base.execute("pragma user_version").fetchone()
-            if version > FORMAT:
-                raise StoreFault(f"{self._path} has format {version}, and this program has {FORMAT}")
-            if version < FORMAT:
-                self._base.executescript(f"begin immediate; {SCHEMA} pragma user_version={FORMAT}; commit")
-                sync_folder(folder)
-            if not sync_each:
-                # It is left to `sync` to have what was written on the disk, and to put pages into the file of the database.
-                self._base.executescript("pragma synchronous=normal; pragma wal_autocheckpoint=0")
-                self._syncing = self._connected()
-                self._wal = os.open(f"{self._path}-wal", os.O_RDONLY | os.O_CLOEXEC)
-
-    def _connected(self) -> sqlite3.Connection:
-        return sqlite3.connect(self._path, SECONDS_TO_WAIT, isolation_level=None, check_same_thread=False)
-
-    @contextlib.contextmanager
-    def _use(self, what: str, begin: str = "") -> Iterator[None]:
-        """Has the database for itself, in a transaction if it is said how that begins: all that is written in it is, or nothing."""
-        with self._lock:
-            before, is_outer = self._ends.copy(), begin and not self._base.in_transaction
-            try:
-                if is_outer:
-                    self._base.execute(begin)
-                yield
-                if is_outer:
-                    self._base.execute("commit")
-            except BaseException as error:
-                self._ends = before
-                if is_outer:
-                    with contextlib.suppress(sqlite3.Error):
-                        self._base.execute("rollback")
-                if isinstance(error, (sqlite3.Error, OSError)):
-                    raise StoreFault(f"cannot {what} {self._path}: {getattr(error, 'strerror', None) or error}") from error
-                raise
+    def __init__(self, base: Base):
+        self.base = base
+        self._ends: Dict[str, End] = {}
 
     def names(self) -> List[str]:
         """The users of whom there is something."""
-        with self._use("read"):
-            return [name for (name,) in self._base.execute("select name from record union select name from snapshot order by name")]
+        words = " union ".join(f"select name from {table}" for table in INSERTS)
+        return [name for (name,) in self.base.rows(f"{words} order by name")]
 
-    def rows(self, name: str) -> List[Tuple[int, bytes, bytes, bytes]]:
+    def rows(self, name: str) -> List[Row]:
         """Number, item, reply and hash of each record of a user, as they stand."""
         words = "select seq, cast(item as blob), cast(reply as blob), cast(chain as blob) from record where name = ? order by seq"
-        with self._use("read"):
-            return self._base.execute(words, (name,)).fetchall()
+        return self.base.rows(words, (name,))
 
     def records(self, name: str) -> Iterator[Told]:
         """The records of a user up to the first one that is not what was written. Raises `Damaged` there."""
-        seq, _, chain = self._begin_of(name)
+        (seq, chain, hashes), _ = self._begin_of(name)
         for number, item, reply, found in self.rows(name):
             record = Told(item, reply)
             seq, chain = seq + 1, next_chain(chain, record)
             if (number, found) != (seq, chain):
                 raise Damaged(f"record {seq} was changed or is missing")
             yield record
-        self._ends[name] = seq, chain
+        self._ends[name] = End(seq, chain, hashes)
 
-    def _begin_of(self, name: str) -> Tuple[int, bytes, bytes]:
-        """The number before the first record, what runs then, and the hash. Raises `Damaged` if they are not those of the parts."""
+    def _begin_of(self, name: str) -> Tuple[End, bytes]:
+        """What is before the first record, and what runs then. Raises `Damaged` if the parts are others than there were."""
         words = "select seq, cast(running as blob), cast(chain as blob) from snapshot where name = ?"
-        with self._use("read"):
-            found, hashes = self._base.execute(words, (name,)).fetchone(), self._hashes(name)
-        seq, running, chain = found or (0, b"", first_chain(name))
+        found, hashes = self.base.rows(words, (name,)), self._hashes(name)
+        seq, running, chain = found[0] if found else (0, b"", first_chain(name))
         if (found or hashes) and chain != snapshot_chain(name, seq, running, hashes.values()):
             raise Damaged(SNAPSHOT_FAULT)
-        return seq, running, chain
+        return End(seq, chain, hashes), running
 
     def _hashes(self, name: str) -> Dict[int, bytes]:
-        return dict(self._base.execute("select id, cast(hash as blob) from part where name = ? order by id", (name,)).fetchall())
+        words = "select id, cast(hash as blob) from part where name = ? order by id"
+        return {id: found for id, found in self.base.rows(words, (name,))}
 
     def read(self, name: str) -> Kept:
-        with self._use("read", "begin"):
-            records = [*self.records(name)]
-            rows = self._base.execute(f"select {HEAD} from part where name = ? order by id", (name,)).fetchall()
-            seq, running, _ = self._begin_of(name)
-        return Kept(seq, [Part(*row) for row in rows], records, running if not records else b"")
+        """What is kept of a user, which is read before anything is written. Raises `Damaged` if it was changed."""
+        with self.base.view():
+            return self._read(name)
+
+    def _read(self, name: str) -> Kept:
+        records = [*self.records(name)]
+        parts = [Part(*row) for row in self.base.rows(f"select {HEAD} from part where name = ? order by id", (name,))]
+        end, running = self._begin_of(name)
+        return Kept(end.seq, parts, records, running if not records else b"")
 
     def read_whole(self, name: str) -> Kept:
         """The same, with whole parts."""
-        with self._use("read", "begin"):
-            kept = self.read(name)
+        with self.base.view():
+            kept = self._read(name)
             return kept._replace(parts=[self.part(name, part.id) for part in kept.parts])
 
     def part(self, name: str, id: int) -> Part:
+        """A whole part. Raises `Damaged` if it was changed."""
         words = f"select {HEAD}, cast(symbols as blob), cast(frames as blob), cast(hash as blob) from part where name = ? and id = ?"
-        with self._use("read"):
-            row = self._base.execute(words, (name, id)).fetchone()
-        if row is None or hash_of(Part(*row[:-1])) != row[-1]:
-            raise Damaged(f"what record {id} made was changed")
-        return Part(*row[:-1])
+        for *row, found in self.base.rows(words, (name, id)):
+            if hash_of(part := Part(*row)) == found:
+                return part
+        raise Damaged(f"what record {id} made was changed")
 
     def whole_parts(self, name: str) -> Tuple[List[Part], List[int]]:
         """The parts that were not changed, but for branches of sessions that were, and the ids of all others."""
@@ -247,67 +218,46 @@ class SqliteStore:
         return left, lost + [part.id for part in parts if part not in left]
 
     def write(self, changes: Sequence[Change]) -> None:
-        if len(changes) == 1 and len(changes[0].records) == 1 and changes[0].snapshot is None:
-            # A transaction of one row needs no words about it.
-            try:
-                with self._lock:
-                    self._write(changes[0])
-            except sqlite3.Error as error:
-                raise StoreFault(f"cannot write {self._path}: {error}") from error
-            return
-        with self._use("write", "begin immediate"):
-            for change in changes:
-                self._write(change)
+        """Writes changes, of each user one at most, all or none."""
+        statements: List[Statement] = []
+        ends = {change.name: self._written(change, statements) for change in changes}
+        self.base.write(statements)
+        self._ends.update(ends)
 
-    def _write(self, change: Change) -> None:
-        if change.snapshot is not None:
-            self._put(change.name, change.snapshot)
-        seq, chain = self._ends[change.name]
+    def _written(self, change: Change, statements: List[Statement]) -> End:
+        """Adds what writes a change, and returns where that ends."""
+        name = change.name
+        end = self._put(name, change.snapshot, statements) if change.snapshot is not None else self._ends[name]
+        seq, chain, hashes = end
         for record in change.records:
             seq, chain = seq + 1, next_chain(chain, record)
-            self._base.execute("insert into record values (?, ?, ?, ?, ?)", (change.name, seq, record.item, record.reply, chain))
-        self._ends[change.name] = seq, chain
+            statements.append((INSERTS["record"], (name, seq, record.item, record.reply, chain)))
+        return End(seq, chain, hashes)
 
-    def _put(self, name: str, snapshot: Snapshot) -> None:
-        """Puts a snapshot in place of the one before it and of the records that it counts for."""
-        rows = [(name, *part, hash_of(part)) for part in snapshot.parts]
-        self._base.executemany("insert or replace into part values (?, ?, ?, ?, ?, ?, ?, ?, ?, ?)", rows)
-        left = ", ".join(map(str, snapshot.ids))
-        self._base.execute(f"delete from part where name = ? and id not in ({left})", (name,))
-        self._base.execute("delete from record where name = ? and seq <= ?", (name, snapshot.seq))
-        chain = snapshot_chain(name, snapshot.seq, snapshot.running, self._hashes(name).values())
-        self._base.execute("insert or replace into snapshot values (?, ?, ?, ?)", (name, snapshot.seq, snapshot.running, chain))
-        self._ends[name] = snapshot.seq, chain
+    def _put(self, name: str, snapshot: Snapshot, statements: List[Statement]) -> End:
+        """Adds what puts a snapshot in place of the one before it and of the records that it counts for."""
+        seq, running = snapshot.seq, snapshot.running
+        anew = {part.id: hash_of(part) for part in snapshot.parts}
+        hashes = {**(self._ends[name].hashes if name in self._ends else {}), **anew}
+        hashes = {id: hashes[id] for id in sorted(snapshot.ids)}
+        stay = ", ".join(map(str, [0, *(id for id in snapshot.ids if id not in anew)]))
+        chain = snapshot_chain(name, seq, running, hashes.values())
+        statements += [
+            (f"delete from part where name = ? and id not in ({stay})", (name,)),
+            *((INSERTS["part"], (name, *part, anew[part.id])) for part in snapshot.parts),
+            ("delete from record where name = ? and seq <= ?", (name, seq)),
+            ("delete from snapshot where name = ?", (name,)),
+            (INSERTS["snapshot"], (name, seq, running, chain)),
+        ]
+        return End(seq, chain, hashes)
 
     def cut(self, name: str, seq: int) -> None:
         """Takes away the records of a user behind one."""
-        with self._use("write"):
-            self._base.execute("delete from record where name = ? and seq > ?", (name, seq))
+        self.base.write([("delete from record where name = ? and seq > ?", (name, seq))])
 
-    def sync(self) -> None:
-        if self._wal is not None:
-            try:
-                os.fdatasync(self._wal)
-                self._syncing.execute("pragma wal_checkpoint(passive)")
-            except (sqlite3.Error, OSError) as error:
-                raise StoreFault(f"cannot write {self._path}: {error}") from error
-
-    def back_up(self, path: pathlib.Path) -> None:
-        """Writes all that is there now into a database of its own. Raises `StoreFault`."""
-        with self._use("copy"), contextlib.closing(sqlite3.connect(path)) as copy:
-            self._base.backup(copy)
-
-    def close(self) -> None:
-        if self._wal is not None:
-            os.close(self._wal)
-            self._syncing.close()
-        self._base.close()
-
-
-def sync_folder(folder: pathlib.Path) -> None:
-    """Has the names of a folder on the disk."""
-    descriptor = os.open(folder, os.O_RDONLY | os.O_DIRECTORY | os.O_CLOEXEC)
-    try:
-        os.fsync(descriptor)
-    finally:
-        os.close(descriptor)
+    def copy_into(self, other: Base) -> None:
+        """Writes all that is there now, as it stands, into a database that has nothing."""
+        with self.base.view():
+            for name in self.names():
+                for table, insert in INSERTS.items():
+                    other.write([(insert, row) for row in self.base.rows(f"select * from {table} where name = ?", (name,))])

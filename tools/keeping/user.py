@@ -9,6 +9,7 @@ from collections import deque
 from functools import partial
 from typing import Callable, Deque, Dict, List, Optional
 
+from keeping.allowance import Allowance
 from keeping.ends import Client, Link
 from keeping.items import Item, Told, words_of
 from keeping.sessions import KEPT, Long, NoMemory, Otherwise, Sessions, Task, drop_all, put_back, read_all, shown, tell_again
@@ -37,6 +38,7 @@ class User:
     def __init__(self, name: str, kept: Kept, store: Store, writer: Writer, note: Note, renew: Callable[["User"], None]):
         self.name, self.records, self.number = name, kept.records, kept.seq + len(kept.records)
         self.stopped = ""
+        self.allowance: Optional[Allowance] = None
         self.waiting: Deque[Client] = deque()
         self.client: Optional[Client] = None
         self.link: Optional[Link] = None
@@ -61,7 +63,8 @@ class User:
         self._timer: Optional[asyncio.TimerHandle] = None
         # What was computed since a snapshot is not known here, so there soon is another one.
         self._is_wanted = bool(kept.records)
-        self._since = self._seconds = 0.0
+        self._since = self._put_back_since = 0.0
+        self._seconds = SECONDS_OF_BUDGET if kept.records else 0.0
         self._bytes = sum(len(record.item) for record in kept.records)
 
     # What happens.
@@ -71,7 +74,7 @@ class User:
         if self.stopped:
             client.deny()
         elif len(self.waiting) >= MAX_WAITING:
-            client.abort()
+            client.turn_away()
         else:
             self.waiting.append(client)
             self.go_on()
@@ -87,6 +90,7 @@ class User:
         self.link = link
         if is_new:
             self.is_ready = self.is_settling = False
+            self._put_back_since = time.monotonic()
         self.go_on()
 
     def lose_link(self) -> None:
@@ -133,10 +137,10 @@ class User:
         self.abort_clients()
         self._note("stopped", user=self.name, why=why)
 
-    def abort_clients(self) -> None:
-        """Ends the user's connections."""
+    def abort_clients(self, has_right: bool = False) -> None:
+        """Ends the user's connections. Those that wait are denied, unless they have the right to be there."""
         for client in self.waiting:
-            client.deny()
+            (client.abort if has_right else client.deny)()
         self.waiting.clear()
         if self.client is not None:
             self.client.abort()
@@ -183,13 +187,23 @@ class User:
     def _next(self) -> Optional[Item]:
         if self._long is not None:
             return None if self._sent else self._long.next_piece(self.sessions, time.monotonic())
-        item = self._again.popleft() if self._again else self.client.next_item() if self.client is not None else None
+        item = self._again.popleft() if self._again else self._of_client()
         if item is None or self._is_near_an_end:
             return item and item._replace(last_reply=self.sessions.refusal(item.words) or item.last_reply)
         if item.words and item.words[0] == b"ADVANCE" and (long := Long.of(item, self.sessions)):
             self._long = long
             return long.next_piece(self.sessions, time.monotonic())
         return item
+
+    def _of_client(self) -> Optional[Item]:
+        """The next item of the client, whose connection ends in its place if it asks for more steps than are left today."""
+        item = self.client.next_item() if self.client is not None else None
+        if item is None or self.client is None or self.allowance is None or self.allowance.takes(item.words):
+            return item
+        self.client.take_no_more()
+        if self.allowance.use_up():
+            self._note("no steps left today", user=self.name)
+        return None
 
     def _take(self, reply: bytes) -> None:
         """Takes the reply to the first item that is on its way. Raises `Otherwise` if it cannot be that."""
@@ -210,6 +224,8 @@ class User:
             self._written.append(record)
             if self._is_near_an_end or item.words[0] == b"RESTORE":
                 self._is_near_an_end = self.sessions.are_near_an_end()
+        elif self.allowance is not None:
+            self.allowance.gives_back(item.words)
         self._hold(reply)
         self._answer_last()
 
@@ -224,10 +240,11 @@ class User:
 
     def _keep(self) -> None:
         """Has what was replied written, and tells it then."""
-        if self._is_writing or not (self._written or self._held or self._snapshot):
+        has_change = bool(self._written or self._snapshot)
+        if self._is_writing or not (has_change or self._held and self._writer.may_tell()):
             return
         held, self._held = self._held, []
-        if not self._written and self._snapshot is None:
+        if not has_change:
             self._tell(held)
             return
         change = Change(self.name, self._written, self._snapshot)
@@ -375,7 +392,15 @@ class User:
     def known(self) -> Dict[str, object]:
         """What the status has of it."""
         state = "stopped" if self.stopped else "ready" if self.is_ready else "is put back"
-        return {"state": state, "why": self.stopped or None, "records": len(self.records)}
+        known = {"state": state, "why": self.stopped or None, "records": len(self.records), "bytes": self._bytes}
+        return {**known, "left": round(self._seconds_left(), 1), "today": self.allowance.known() if self.allowance else {}}
+
+    def _seconds_left(self) -> float:
+        """About how long it is still put back: what was computed since its snapshot is computed again."""
+        if self.stopped or self.is_ready:
+            return 0.0
+        gone = time.monotonic() - self._put_back_since if self.link is not None else 0.0
+        return max(self._seconds - gone, 0.0)
 
     def is_busy(self) -> bool:
         """Whether something of it is being written."""

@@ -3,6 +3,7 @@ import asyncio
 import contextlib
 import queue
 import threading
+import time
 from typing import Callable, List, NamedTuple, Optional
 
 from keeping.store import Change, Store, StoreFault
@@ -23,12 +24,15 @@ class Writer:
     """Writes changes of all users. A fault of it is told once, and nothing is done after it.
 
     For `group` a thread writes all that came since its last transaction in the next one. For `second` each change is written at
-    once, where a transaction waits for no disk, and a thread has them on the disk each second.
+    once, where a transaction waits for no disk, and a thread has them on the disk each second. `syncs` is how often it was waited for
+    the disk, and `seconds` how long in all.
     """
 
-    def __init__(self, store: Store, sync: str, fail: Callable[[str], None]):
-        self._store, self._sync, self._fail = store, sync, fail
+    def __init__(self, store: Store, sync: str, fail: Callable[[str], None], may_tell: Callable[[], bool]):
+        """`may_tell` says whether what needs no write may be told."""
+        self._store, self._sync, self._fail, self.may_tell = store, sync, fail, may_tell
         self._has_failed = self._is_dirty = False
+        self.syncs, self.seconds = 0, 0.0
         self._loop: asyncio.AbstractEventLoop
         self._queue: "queue.SimpleQueue[Optional[Work]]" = queue.SimpleQueue()
         self._thread: Optional[threading.Thread] = None
@@ -67,11 +71,17 @@ class Writer:
     def _write_all(self, works: List[Work]) -> None:
         """Writes changes in one transaction, and has the loop do what follows."""
         try:
-            self._store.write([work.change for work in works])
+            self._timed(lambda: self._store.write([work.change for work in works]))
         except Exception as error:
             self._loop.call_soon_threadsafe(self._has_failed_by, str(error) or repr(error))
             return
         self._loop.call_soon_threadsafe(self._are_done, works)
+
+    def _timed(self, sync: Callable[[], None]) -> None:
+        """Does what waits for the disk."""
+        begun = time.monotonic()
+        sync()
+        self.syncs, self.seconds = self.syncs + 1, self.seconds + time.monotonic() - begun
 
     def _are_done(self, works: List[Work]) -> None:
         """Does what follows. A fault there is that of one user."""
@@ -94,7 +104,7 @@ class Writer:
             if self._is_dirty:
                 self._is_dirty = False
                 try:
-                    await asyncio.get_running_loop().run_in_executor(None, self._store.sync)
+                    await asyncio.get_running_loop().run_in_executor(None, self._timed, self._store.base.sync)
                 except StoreFault as fault:
                     self._has_failed_by(str(fault))
 
@@ -104,4 +114,4 @@ class Writer:
             self._queue.put(None)
             self._thread.join()
         with contextlib.suppress(StoreFault):
-            self._store.sync()
+            self._store.base.sync()

@@ -9,12 +9,16 @@ from support import DIMER, PROGRAM, SECONDS, TOP
 
 sys.path += [str(TOP / "bench"), str(TOP / "tools")]
 from keep_trials import keeper  # noqa: E402
+from keep_trials.cluster import Cluster, missing  # noqa: E402
+from keep_trials.fronts import Fronts  # noqa: E402
 from keep_trials.keeper import TOKEN, USUAL, patched, until  # noqa: E402
 
 LOAD = f"LOAD a 256 1 131072 rest {len(DIMER)}\n{DIMER}".encode()
 LOADED = b"OK LOAD a 0 2\n"
 HELLO = b"OK HELLO ann\n"
-__all__ = ["HELLO", "LOAD", "LOADED", "TOKEN", "TOP", "USUAL", "Keeper", "first_line", "patched", "until"]
+__all__ = [
+    "HELLO", "LOAD", "LOADED", "TOKEN", "TOP", "USUAL", "Cluster", "Fronts", "Keeper", "first_line", "missing", "patched", "until",
+]  # fmt: skip
 
 
 class Keeper(keeper.Keeper):

@@ -3,6 +3,7 @@ import contextlib
 import json
 import os
 import pathlib
+import re
 import resource
 import signal
 import socket
@@ -34,6 +35,7 @@ def test_a_user_goes_on_when_the_server_was_killed(tmp_path: pathlib.Path) -> No
         status, text = keeper.status()
         assert status == 0 and "last end of the server: it was ended by signal 9" in text
         assert [each["why"] for each in keeper.events("server ended")] == ["it was ended by signal 9"]
+    assert keeper.errors.read_text() == ""
 
 
 @pytest.mark.parametrize("sync", SYNCS)
@@ -68,13 +70,13 @@ def test_what_is_in_flight_is_done_once(tmp_path: pathlib.Path) -> None:
 
 # A front whose store waits for a file when it writes, and one that waits for it when it has written things on the disk.
 WAITING = """
-import os, pathlib, time, keeping.store
-def wait(*words, write=keeping.store.SqliteStore.{function}):
+import os, pathlib, time, keeping.sqlite
+def wait(*words, write=keeping.sqlite.Sqlite.{function}):
     pathlib.Path({noted!r}).touch()
     while not os.path.exists({go!r}):
         time.sleep(0.01)
     return write(*words)
-keeping.store.SqliteStore.{function} = wait
+keeping.sqlite.Sqlite.{function} = wait
 """
 
 
@@ -467,6 +469,7 @@ WORDS = {
     "no users": ["127.0.0.1:0", "kept", "--", PROGRAM, "serve"],
     "--listen": ["127.0.0.1:0", "kept", "--", PROGRAM, "serve", "--users", "x", "--listen", "127.0.0.1:4001"],
     "no program": ["127.0.0.1:0", "kept", "--", "./none", "serve", "--users", "x"],
+    "no steps a day": ["--steps-a-day", "0", "127.0.0.1:0", "kept", "--", PROGRAM, "serve", "--users", "x"],
     "another --sync": ["--sync", "never", "127.0.0.1:0", "kept", "--", PROGRAM, "serve", "--users", "x"],
 }
 
@@ -495,6 +498,9 @@ def test_what_cannot_be_begun(tmp_path: pathlib.Path, kept: Any) -> None:
     assert (status, err) == (1, "keep: the mode of open lets others in: `chmod 700` leaves it to its owner\n")
     status, err = ended(tmp_path, ["127.0.0.1:0", "kept", *server[:-1], "none"])
     assert (status, err) == (2, "keep: cannot read none: No such file or directory\n")
+    (tmp_path / "bad").write_text(f"ann {TOKEN} 8 16384\n")
+    status, err = ended(tmp_path, ["127.0.0.1:0", "kept", *server[:-1], "bad"])
+    assert (status, err) == (2, "keep: bad: line 1: it has 4 words, and not 5: name, token, sessions, atoms, branches\n")
     status, err = ended(tmp_path, ["--status", "none"])
     assert (status, err) == (1, "keep: cannot read none: No such file or directory\n")
 
@@ -553,6 +559,21 @@ def test_eight_connections_of_a_user_wait(tmp_path: pathlib.Path) -> None:
         assert first_line(waiting[0]) == HELLO
 
 
+# A front that takes its time between that it says that it listens and that it serves.
+SLOW = """
+import time, keeping.front
+async def late(front, run=keeping.front.Front.run):
+    time.sleep(0.5)
+    return await run(front)
+keeping.front.Front.run = late
+"""
+
+
+def test_it_ends_in_order_as_soon_as_it_says_that_it_listens(tmp_path: pathlib.Path) -> None:
+    with Keeper(tmp_path, tool=patched(SLOW)) as keeper:
+        assert (keeper.end(), keeper.known()["end"]) == (0, "it was told to end")
+
+
 def test_a_token_that_was_changed_ends_connections(tmp_path: pathlib.Path) -> None:
     with Keeper(tmp_path) as keeper, keeper.raw("ann") as first, keeper.raw("ann") as second:
         first.sendall(LOAD)
@@ -563,6 +584,69 @@ def test_a_token_that_was_changed_ends_connections(tmp_path: pathlib.Path) -> No
         assert first_line(first) == b"" and first_line(second) == DENIED
         assert keeper.told(b"", "ann") == DENIED
         assert keeper.told(b"LIST\n", "ann", other) == HELLO + b"OK LIST 1\na 0 2 0\n"
+
+
+def test_who_is_kicked_may_come_again(tmp_path: pathlib.Path) -> None:
+    with Keeper(tmp_path, users=("ann", "ben")) as keeper, keeper.raw("ben") as other:
+        assert first_line(other) == b"OK HELLO ben\n"
+        with keeper.raw("ann") as first, keeper.raw("ann") as second:
+            first.sendall(LOAD)
+            assert (first_line(first), first_line(first)) == (HELLO, LOADED)
+            status, err = ended(tmp_path, ["kept", "--kick", "ann"])
+            assert (status, err) == (0, "")
+            assert (first_line(first), first_line(second)) == (b"", b"")
+        assert [each["user"] for each in keeper.events("kicked")] == ["ann"]
+        assert keeper.told(b"LIST\n", "ann") == HELLO + b"OK LIST 1\na 0 2 0\n"
+        other.sendall(b"LIST\n")
+        assert first_line(other) == b"OK LIST 0\n"
+        assert ended(tmp_path, ["kept", "--kick", "../ann"]) == (1, "keep: kept has no user ../ann\n")
+
+
+def test_steps_of_a_day(tmp_path: pathlib.Path) -> None:
+    """Who asks for more is told all up to there, and may come again for what needs none. An end of all does not give them back."""
+    with Keeper(tmp_path, "--steps-a-day", "10", users=("ann", "ben")) as keeper:
+        assert keeper.told(LOAD + b"ADVANCE b 9\n", "ann") == HELLO + LOADED + b"ERR 10 NO_SESSION\n"
+        assert keeper.told(b"ADVANCE a 6\nSTART a 5\nLIST\n", "ann") == HELLO + b"OK ADVANCE a 6\n"
+        assert keeper.told(b"START a 4\nADVANCE a 0\nADVANCE a 1\nLIST\n", "ann") == HELLO + b"OK START a 10\nOK ADVANCE a 10\n"
+        assert [each["user"] for each in keeper.events("no steps left today")] == ["ann"]
+        keeper.killed_server()
+        assert keeper.told(b"LIST\nADVANCE a 1\nLIST\n", "ann") == HELLO + b"OK LIST 1\na 10 2 0\n"
+        until(lambda: keeper.known()["users"]["ann"]["today"]["steps"] == 10)
+        status, text = keeper.status()
+        assert status == 0 and re.search("^ann +ready, [0-9]+ records, no steps left today$", text, re.M)
+        assert keeper.told(LOAD + b"ADVANCE a 10\n", "ben").endswith(b"OK ADVANCE a 10\n")
+        keeper.kill()
+        keeper.begin()
+        assert keeper.told(b"ADVANCE a 1\n", "ann") == HELLO
+
+
+def test_nobody_is_kicked_where_no_front_is(tmp_path: pathlib.Path) -> None:
+    tool = patched("import keeping.kick; keeping.kick.SECONDS_TO_WAIT = 0.2")
+    with Keeper(tmp_path, tool=tool) as keeper:
+        until(keeper.is_ready)
+        keeper.end()
+        done = subprocess.run([*tool, str(keeper.folder), "--kick", "ann"], capture_output=True, text=True, timeout=SECONDS)
+        assert (done.returncode, done.stderr) == (1, f"keep: no front uses {keeper.folder}\n")
+        assert not (keeper.folder / "ann.kick").exists()
+    assert ended(tmp_path, ["none", "--kick", "ann"]) == (1, "keep: cannot use none: No such file or directory\n")
+
+
+@pytest.mark.parametrize("last", [b"", b"BYE\n"], ids=["no more items", "BYE"])
+def test_who_never_reads_the_last_replies_is_let_go(tmp_path: pathlib.Path, last: Any) -> None:
+    """The user's next connection is let in meanwhile."""
+    small = "keeping.ends.prepare = lambda stream: stream.setsockopt(1, 7, 4096)"
+    tool = patched(f"import keeping.ends; keeping.ends.SECONDS_TO_READ = 2.0; {small}")
+    body = b"2000\n\n" + b"".join(b"A %d %d %d\n" % (n % 13, n // 13 % 13, n // 169) for n in range(2000))
+    with Keeper(tmp_path, tool=tool) as keeper, socket.socket() as deaf:
+        deaf.setsockopt(socket.SOL_SOCKET, socket.SO_RCVBUF, 4096)
+        deaf.connect(("127.0.0.1", keeper.port))
+        deaf.sendall(f"HELLO ann {TOKEN}\nLOAD a 13 1 1 rest {len(body)}\n".encode() + body + b"DUMP a\n" + last)
+        if not last:
+            deaf.shutdown(socket.SHUT_WR)
+        assert keeper.told(b"LIST\n", "ann") == HELLO + b"OK LIST 1\na 0 2000 0\n"
+        assert [each["commands"] for each in until(lambda: keeper.events("ended")[1:] and keeper.events("ended"))] == [1, 2 + bool(last)]
+        with deaf.makefile("rb") as replies:
+            assert 1000 < len(replies.read()) < 30_000  # the DUMP has twice as much
 
 
 def test_who_says_nothing_and_who_is_one_too_many(tmp_path: pathlib.Path) -> None:

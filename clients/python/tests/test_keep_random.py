@@ -15,7 +15,8 @@ sys.path += [str(TOP / "tools"), str(TOP / "conformance")]
 from chance import Chance, bounded  # noqa: E402
 from keeping import sessions, user  # noqa: E402
 from keeping.items import ItemReader  # noqa: E402
-from keeping.store import SqliteStore  # noqa: E402
+from keeping.sqlite import Sqlite  # noqa: E402
+from keeping.store import Store  # noqa: E402
 from reference import User as Reference  # noqa: E402
 from reference import replies_to  # noqa: E402
 from test_keep_user import Client, Link  # noqa: E402
@@ -30,6 +31,9 @@ class Late:
     def write(self, change: Any, then: Any) -> bool:
         self.given.append((change, then))
         return False
+
+    def may_tell(self) -> bool:
+        return True
 
     def work(self) -> None:
         change, then = self.given.pop(0)
@@ -95,9 +99,9 @@ def store(request: Any, tmp_path: pathlib.Path, monkeypatch: pytest.MonkeyPatch)
     monkeypatch.setattr(sessions, "FIRST_PIECE", 5)
     monkeypatch.setattr(user, "MAX_RECORDS", 6)
     monkeypatch.setattr(user, "SECONDS_OF_BUDGET", request.param)
-    with contextlib.closing(SqliteStore(tmp_path, sync_each=False)) as store:
-        store._base.execute("pragma synchronous=off")
-        yield store
+    with contextlib.closing(Sqlite(tmp_path / "kept.sqlite", sync_each=False)) as base:
+        base.rows("pragma synchronous=off")
+        yield Store(base)
 
 
 def script(seed: str, items: int = 40) -> Any:

@@ -213,6 +213,20 @@ def test_a_reply_that_cannot_be(line: Any, reply: Any) -> None:
         pair.sessions.hear(words_of(line), reply + b"\n", 2)
 
 
+def test_what_advance_was_told_for_is_waited_for() -> None:
+    """So that all is computed when the user is let in. What START was told for is not waited for."""
+    records = [Told(LOAD.replace(" a ", f" {name} ").encode(), f"OK LOAD {name} 0 2\n".encode()) for name in "abc"]
+    records += [Told(b"ADVANCE a 5\n", b"OK ADVANCE a 5\n"), Told(b"START b 5\n", b"OK START b 5\n")]
+    records += [Told(b"ADVANCE c 5\n", b"OK ADVANCE c 5\n"), Told(b"REVERSE c\n", b"OK REVERSE c 4\n")]
+    sessions = Sessions()
+    task = tell_again(sessions, records, 0)
+    assert len(next(task)) == 7
+    assert task.send([record.reply.replace(b"ADVANCE", b"START") for record in records]) == [b"MEASURE a\n"]
+    with pytest.raises(StopIteration):
+        task.send([b"OK MEASURE a 5 2 0 0 0 1 1\n"])
+    assert [session.has_pending for session in sessions.by_name.values()] == [False, True, False]
+
+
 @pytest.mark.parametrize("change", [{"measured": b"2 0 0 0 0 -1"}, {"frames": bytes(48)}], ids=lambda change: str([*change]))
 def test_what_is_put_back_is_measured(change: Any) -> None:
     pair = told(LOAD, "ADVANCE a 1")

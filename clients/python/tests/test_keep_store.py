@@ -1,7 +1,8 @@
-"""The store of `tools/keep`: what is read is what was written, all of it or none; journals of before are taken over; and what an
-operator does with it."""
+"""The store of `tools/keep`, in either database: what is read is what was written, all of it or none; what an operator does with it;
+and journals of before, which are taken over."""
 import contextlib
 import hashlib
+import itertools
 import os
 import pathlib
 import sqlite3
@@ -17,7 +18,9 @@ from support import SECONDS, TOP
 sys.path.append(str(TOP / "tools"))
 from keeping.items import Told  # noqa: E402
 from keeping.journal import take_over_all, whole_records  # noqa: E402
-from keeping.store import FILE, Change, Damaged, Kept, Part, Snapshot, SqliteStore, StoreFault  # noqa: E402
+from keeping.place import FILE, place_of, shown_place  # noqa: E402
+from keeping.sqlite import Sqlite  # noqa: E402
+from keeping.store import Change, Damaged, Kept, Part, Snapshot, Store, StoreFault  # noqa: E402
 
 RECORDS = [
     Told(b"LOAD a 256 1 1 rest 12\n1\nc\nX 0 0 \xff\n", b"OK LOAD a 0 1\n"),
@@ -38,9 +41,68 @@ def heads(parts: Any) -> List[Any]:
     return [part._replace(symbols=b"", frames=b"") for part in parts]
 
 
+class InSqlite:
+    """A folder with a store."""
+
+    def __init__(self, folder: pathlib.Path) -> None:
+        folder.mkdir(mode=0o700)
+        self.place = str(folder)
+
+    def base(self, sync_each: bool = True) -> Any:
+        return Sqlite(pathlib.Path(self.place, FILE), sync_each)
+
+    reader = base
+
+    def change(self, words: str, *values: Any) -> None:
+        with contextlib.closing(sqlite3.connect(pathlib.Path(self.place, FILE), isolation_level=None)) as base:
+            assert base.execute(words, values).rowcount
+
+
+class InPostgres:
+    """A database with a store."""
+
+    def __init__(self, cluster: Any) -> None:
+        self.cluster, self.place = cluster, cluster.new()
+        self.base().close()
+
+    def base(self, sync_each: bool = True) -> Any:
+        """That of a front that has begun."""
+        base = place_of(self.place, sync_each)
+        base.begin(f"127.0.0.1:{next(NUMBERS)}", False)
+        return base
+
+    def reader(self) -> Any:
+        return place_of(self.place, True)
+
+    def change(self, words: str, *values: Any) -> None:
+        assert self.cluster.ask(self.place, words.replace("?", "%s"), values) != [0]
+
+
+NUMBERS = itertools.count(1)
+
+
+KINDS = ("sqlite", "postgresql")
+
+
+@pytest.fixture(params=KINDS)
+def where(request: Any, tmp_path: pathlib.Path) -> Any:
+    """Each kind of store in turn."""
+    return place_of_kind(request.param, request, tmp_path / "kept")
+
+
+def place_of_kind(kind: Any, request: Any, folder: pathlib.Path) -> Any:
+    return InSqlite(folder) if kind == "sqlite" else InPostgres(request.getfixturevalue("cluster"))
+
+
+@contextlib.contextmanager
+def opened(where: Any, sync_each: bool = True) -> Iterator[Any]:
+    with contextlib.closing(where.base(sync_each)) as base:
+        yield Store(base)
+
+
 @pytest.fixture(params=[True, False], ids=["group", "second"])
-def store(request: Any, tmp_path: pathlib.Path) -> Iterator[Any]:
-    with contextlib.closing(SqliteStore(tmp_path, request.param)) as store:
+def store(request: Any, where: Any) -> Iterator[Any]:
+    with opened(where, request.param) as store:
         yield store
 
 
@@ -50,46 +112,48 @@ def written(store: Any, name: str = "ann", records: Any = RECORDS) -> None:
         store.write([Change(name, [record])])
 
 
-def again(folder: Any, name: str = "ann") -> Any:
+def whole(where: Any, name: str = "ann") -> Any:
     """What another one reads of a user."""
-    with contextlib.closing(SqliteStore(folder)) as other:
-        return other.read(name).records
+    with contextlib.closing(where.reader()) as other:
+        return Store(other).read_whole(name)
 
 
-def whole(folder: Any, name: str = "ann") -> Any:
-    with contextlib.closing(SqliteStore(folder)) as other:
-        return other.read_whole(name)
+def again(where: Any, name: str = "ann") -> Any:
+    return whole(where, name).records
 
 
-def change(folder: Any, words: str, *values: Any) -> None:
-    with contextlib.closing(sqlite3.connect(folder / FILE, isolation_level=None)) as base:
-        assert base.execute(words, values).rowcount
-
-
-def test_what_was_written_is_read(store: Any, tmp_path: pathlib.Path) -> None:
+def test_what_was_written_is_read(store: Any, where: Any) -> None:
     written(store)
     written(store, "ben", RECORDS[:1])
-    assert again(tmp_path) == RECORDS and again(tmp_path, "ben") == RECORDS[:1] and again(tmp_path, "cleo") == []
+    assert again(where) == RECORDS and again(where, "ben") == RECORDS[:1] and again(where, "cleo") == []
     assert store.names() == ["ann", "ben"]
-    assert store._base.execute("pragma synchronous").fetchone() == (1 if store._wal else 2,)
 
 
-def test_a_snapshot_is_in_place_of_the_records_that_it_counts_for(store: Any, tmp_path: pathlib.Path) -> None:
+@pytest.mark.parametrize("sync_each", [True, False])
+def test_when_it_is_on_the_disk(where: Any, sync_each: Any) -> None:
+    with opened(where, sync_each) as store:
+        if isinstance(where, InSqlite):
+            assert store.base.rows("pragma synchronous") == [(2 if sync_each else 1,)]
+        else:
+            assert store.base._writing.ask("show synchronous_commit") == [("on" if sync_each else "off",)]
+
+
+def test_a_snapshot_is_in_place_of_the_records_that_it_counts_for(store: Any, where: Any) -> None:
     written(store)
     written(store, "ben")
     store.write([SNAPSHOT])
-    assert store.read("ann") == Kept(9, heads(PARTS), RECORDS[1:]) and whole(tmp_path) == Kept(9, PARTS, RECORDS[1:])
-    assert store.part("ann", 3) == PARTS[1] and again(tmp_path, "ben") == RECORDS
+    assert store.read("ann") == Kept(9, heads(PARTS), RECORDS[1:]) and whole(where) == Kept(9, PARTS, RECORDS[1:])
+    assert store.part("ann", 3) == PARTS[1] and again(where, "ben") == RECORDS
     # What is left, with one part anew.
     anew = PARTS[0]._replace(step=8, frames=bytes(24))
     store.write([Change("ann", RECORDS[:1], Snapshot(11, [anew], [1, 3]))])
-    assert whole(tmp_path) == Kept(11, [anew, PARTS[1]], RECORDS[:1])
+    assert whole(where) == Kept(11, [anew, PARTS[1]], RECORDS[:1])
     store.write([Change("ann", (), Snapshot(12, [], []))])
-    assert whole(tmp_path) == Kept(12, [], []) and store.names() == ["ann", "ben"]
+    assert whole(where) == Kept(12, [], []) and store.names() == ["ann", "ben"]
 
 
 PART_CHANGES = {
-    "places": ("update part set frames = zeroblob(24) where id = 1", "what record 1 made was changed"),
+    "places": ("update part set frames = hash where id = 1", "what record 1 made was changed"),
     "a step": ("update part set step = 6 where id = 3", "what record 3 made was changed"),
     "a symbol": ("update part set symbols = 'Y' where id = 4", "what record 4 made was changed"),
     "a part that is missing": ("delete from part where id = 3", "its snapshot was changed"),
@@ -100,24 +164,23 @@ PART_CHANGES = {
 
 
 @pytest.mark.parametrize("words, why", PART_CHANGES.values(), ids=PART_CHANGES)
-def test_each_change_of_a_snapshot_is_damage(tmp_path: pathlib.Path, words: Any, why: Any) -> None:
-    with contextlib.closing(SqliteStore(tmp_path)) as store:
+def test_each_change_of_a_snapshot_is_damage(where: Any, words: Any, why: Any) -> None:
+    with opened(where) as store:
         store.read("ann")
         store.write([SNAPSHOT])
-    change(tmp_path, words)
+    where.change(words)
     with pytest.raises(Damaged, match=why):
-        whole(tmp_path)
+        whole(where)
 
 
-def test_changes_are_written_all_or_none(store: Any, tmp_path: pathlib.Path) -> None:
+def test_changes_are_written_all_or_none(store: Any, where: Any) -> None:
     written(store)
     store.read("ben")
-    wrong: Any = ("no bytes", None)
-    with pytest.raises(Exception):
-        store.write([Change("ann", RECORDS[:1], SNAPSHOT.snapshot), Change("ben", [wrong])])
-    assert again(tmp_path) == RECORDS
+    with pytest.raises(StoreFault):
+        store.base.write([("delete from record where seq = ?", (1,)), ("insert into snapshot values (?)", (1,))])
+    assert again(where) == RECORDS
     store.write([Change("ann", RECORDS[:1]), Change("ben", RECORDS)])
-    assert again(tmp_path) == [*RECORDS, RECORDS[0]] and again(tmp_path, "ben") == RECORDS
+    assert again(where) == [*RECORDS, RECORDS[0]] and again(where, "ben") == RECORDS
 
 
 CHANGES = {
@@ -132,50 +195,54 @@ CHANGES = {
 
 
 @pytest.mark.parametrize("words, value", CHANGES.values(), ids=CHANGES)
-def test_each_change_is_damage_of_its_user_alone(tmp_path: pathlib.Path, words: Any, value: Any) -> None:
-    with contextlib.closing(SqliteStore(tmp_path)) as store:
+def test_each_change_is_damage_of_its_user_alone(where: Any, words: Any, value: Any) -> None:
+    with opened(where) as store:
         written(store)
         written(store, "ben", [*RECORDS, RECORDS[1]])
-    change(tmp_path, words if "ben" in words else f"{words} and name = 'ann'", value)
+    where.change(words if "ben" in words else f"{words} and name = 'ann'", value)
     with pytest.raises(Damaged, match=f"^record {4 if 'ben' in words else min(value, 3) if 'number' in words else '.'} was"):
-        again(tmp_path)
-    assert len(again(tmp_path, "ben")) == (3 if "ben" in words else 4)
+        again(where)
+    assert len(again(where, "ben")) == (3 if "ben" in words else 4)
 
 
 def test_what_a_kill_within_a_transaction_leaves(tmp_path: pathlib.Path) -> None:
     """A process that was killed with half of a transaction written."""
+    where = InSqlite(tmp_path / "kept")
     code = (
-        "import os, pathlib, signal, sys; from keeping.store import *; from keeping.items import Told\n"
-        "store = SqliteStore(pathlib.Path(sys.argv[1])); store.read('ann'); store.write([Change('ann', [Told(b'1', b'')])])\n"
-        "class Kill:\n    reply = property(lambda _: os.kill(os.getpid(), signal.SIGKILL))\n"
-        "store.write([Change('ann', [Told(b'2', b''), Kill()])])\n"
+        "import os, pathlib, signal, sys; from keeping.sqlite import *; from keeping.store import *; from keeping.items import Told\n"
+        "store = Store(Sqlite(pathlib.Path(sys.argv[1], 'kept.sqlite')))\n"
+        "store.read('ann'); store.write([Change('ann', [Told(b'1', b'')])])\n"
+        "class Kill(bytes):\n    __conform__ = lambda *_: os.kill(os.getpid(), signal.SIGKILL)\n"
+        "store.write([Change('ann', [Told(b'2', b''), Told(Kill(b'3'), b'')])])\n"
     )
-    words = [sys.executable, "-c", code, str(tmp_path)]
+    words = [sys.executable, "-c", code, where.place]
     assert subprocess.run(words, env={**os.environ, "PYTHONPATH": str(TOP / "tools")}, timeout=SECONDS).returncode == -9
-    assert again(tmp_path) == [Told(b"1", b"")]
+    assert again(where) == [Told(b"1", b"")]
 
 
 def test_a_disk_that_is_full(tmp_path: pathlib.Path) -> None:
-    with contextlib.closing(SqliteStore(tmp_path)) as store:
+    where = InSqlite(tmp_path / "kept")
+    with opened(where) as store:
         written(store)
-        store._base.execute("pragma max_page_count=12")
+        store.base.rows("pragma max_page_count=12")
         with pytest.raises(StoreFault, match="cannot write .*kept.sqlite: database or disk is full"):
             store.write([Change("ann", [Told(bytes(100_000), b"")])])
-        assert again(tmp_path) == RECORDS
+        assert again(where) == RECORDS
         store.write([Change("ann", RECORDS)])
-    assert again(tmp_path) == RECORDS * 2
+    assert again(where) == RECORDS * 2
 
 
 def test_a_file_that_is_no_store(tmp_path: pathlib.Path) -> None:
     (tmp_path / FILE).write_text("none" * 1000)
     with pytest.raises(StoreFault, match="cannot use .*: file is not a database"):
-        SqliteStore(tmp_path)
-    (tmp_path / FILE).unlink()
-    SqliteStore(tmp_path).close()
-    with contextlib.closing(sqlite3.connect(tmp_path / FILE)) as base:
-        base.execute("pragma user_version=9")
+        Sqlite(tmp_path / FILE)
+
+
+def test_a_store_of_another_format(where: Any) -> None:
+    where.base().close()
+    where.change("pragma user_version=9" if isinstance(where, InSqlite) else "update format set number = 9")
     with pytest.raises(StoreFault, match="has format 9, and this program has 2"):
-        SqliteStore(tmp_path)
+        where.base()
 
 
 # Journals of before.
@@ -216,21 +283,23 @@ def test_each_changed_byte_of_a_journal_is_damage(bit: Any) -> None:
         list(whole_records(data, "bob"))
 
 
-def test_journals_are_taken_over_once_and_moved(store: Any, tmp_path: pathlib.Path) -> None:
+def test_journals_are_taken_over_once_and_moved(tmp_path: pathlib.Path) -> None:
+    where, folder = InSqlite(tmp_path / "kept"), tmp_path / "kept"
     refused: List[Any] = []
-    (tmp_path / "ann.journal").write_bytes(journal("ann", RECORDS))
-    (tmp_path / "ben.journal").write_bytes(journal("ben", RECORDS).replace(b"REVERSE", b"REVERSF"))
-    assert take_over_all(tmp_path, store, lambda *words: refused.append(words)) == ["ann"]
-    assert again(tmp_path) == RECORDS and again(tmp_path, "ben") == []
-    assert refused == [("ben", "its journal is damaged: the record at byte 106 was changed")]
-    assert sorted(os.listdir(tmp_path / "before")) == ["ann.journal"] and (tmp_path / "ben.journal").exists()
-    # As where the move was broken off, and as where another journal was put there.
-    (tmp_path / "ann.journal").write_bytes(journal("ann", RECORDS))
-    (tmp_path / "ben.journal").unlink()
-    assert take_over_all(tmp_path, store, lambda *words: refused.append(words)) == ["ann"]
-    (tmp_path / "ann.journal").write_bytes(journal("ann", RECORDS[:1]))
-    assert take_over_all(tmp_path, store, lambda *words: refused.append(words)) == []
-    assert "the store has other records" in refused[-1][1] and again(tmp_path) == RECORDS
+    with opened(where) as store:
+        (folder / "ann.journal").write_bytes(journal("ann", RECORDS))
+        (folder / "ben.journal").write_bytes(journal("ben", RECORDS).replace(b"REVERSE", b"REVERSF"))
+        assert take_over_all(folder, store, lambda *words: refused.append(words)) == ["ann"]
+        assert again(where) == RECORDS and again(where, "ben") == []
+        assert refused == [("ben", "its journal is damaged: the record at byte 106 was changed")]
+        assert sorted(os.listdir(folder / "before")) == ["ann.journal"] and (folder / "ben.journal").exists()
+        # As where the move was broken off, and as where another journal was put there.
+        (folder / "ann.journal").write_bytes(journal("ann", RECORDS))
+        (folder / "ben.journal").unlink()
+        assert take_over_all(folder, store, lambda *words: refused.append(words)) == ["ann"]
+        (folder / "ann.journal").write_bytes(journal("ann", RECORDS[:1]))
+        assert take_over_all(folder, store, lambda *words: refused.append(words)) == []
+        assert "the store has other records" in refused[-1][1] and again(where) == RECORDS
 
 
 # What an operator does.
@@ -242,76 +311,83 @@ def keep(*words: Any) -> Any:
 
 
 @pytest.fixture
-def folder(tmp_path: pathlib.Path) -> pathlib.Path:
-    """A folder with a store in which two users have something."""
-    folder = tmp_path / "kept"
-    folder.mkdir(mode=0o700)
-    with contextlib.closing(SqliteStore(folder)) as store:
+def full(where: Any) -> Any:
+    """A store in which two users have something."""
+    with opened(where) as store:
         written(store)
         written(store, "ben", RECORDS[:1])
-    return folder
+    return where
 
 
-def test_a_copy_of_the_store(folder: Any, tmp_path: pathlib.Path) -> None:
-    copy = tmp_path / "other" / FILE
-    copy.parent.mkdir(mode=0o700)
-    with contextlib.closing(SqliteStore(folder)) as store:
+def shown(where: Any) -> str:
+    return shown_place(where.place)
+
+
+def test_a_copy_of_the_store(full: Any, tmp_path: pathlib.Path) -> None:
+    other = InSqlite(tmp_path / "other")
+    copy = pathlib.Path(other.place, FILE)
+    with opened(full) as store:
         store.read("ann")
-        store.write([Change("ann", RECORDS[:1])])
-        done = keep(folder, "--backup", copy)
+        store.write([SNAPSHOT])
+        done = keep(full.place, "--backup", copy)
     assert (done.returncode, done.stderr) == (0, "") and stat.S_IMODE(copy.stat().st_mode) == 0o600
-    assert again(copy.parent) == [*RECORDS, RECORDS[0]] and os.listdir(copy.parent) == [FILE]
-    done = keep(folder, "--backup", copy)
+    assert os.listdir(other.place) == [FILE]
+    assert whole(other) == whole(full) and whole(other, "ben") == whole(full, "ben")
+    done = keep(full.place, "--backup", copy)
     assert (done.returncode, done.stderr) == (1, f"keep: {copy} is there already: name another file\n")
 
 
-def test_a_repair_says_what_goes_and_cuts_there(folder: Any) -> None:
-    change(folder, "update record set item = 'TUG a 0 2 0 0' where name = 'ann' and seq = 2")
-    done = keep(folder, "--repair", "ann")
-    assert (done.returncode, done.stdout) == (
+def test_a_repair_says_what_goes_and_cuts_there(full: Any) -> None:
+    full.change("update record set item = 'TUG a 0 2 0 0' where name = 'ann' and seq = 2")
+    done = keep(full.place, "--repair", "ann")
+    assert (done.returncode, done.stderr, done.stdout) == (
         0,
+        "",
         "ann: record 2 was changed or is missing. What stays: 1 records\n"
         "  goes: TUG a 0 2 0 0: OK REVERSE a -1\n  goes: TUG a 0 1 0 0: OK TUG a 0 -1\n",
     )
-    assert again(folder) == again(folder, "ben") == RECORDS[:1]
-    assert keep(folder, "--repair", "ann").stdout == "ann: nothing is damaged. What stays: 1 records\n"
+    assert again(full) == again(full, "ben") == RECORDS[:1]
+    assert keep(full.place, "--repair", "ann").stdout == "ann: nothing is damaged. What stays: 1 records\n"
 
 
-def test_a_repair_of_a_snapshot(folder: Any) -> None:
+def test_a_repair_of_a_snapshot(full: Any) -> None:
     """A session that was changed goes, with its branches and with all that was done since."""
-    with contextlib.closing(SqliteStore(folder)) as store:
+    with opened(full) as store:
         store.read("ann")
         store.write([SNAPSHOT])
-    change(folder, "update part set frames = zeroblob(24) where id = 1")
-    done = keep(folder, "--repair", "ann")
+    full.change("update part set frames = hash where id = 1")
+    done = keep(full.place, "--repair", "ann")
     assert (done.returncode, done.stdout) == (
         0,
         "ann: 1 sessions and branches stay, and 2 go: those of records [1, 3]\n"
         "ann: nothing else is damaged. What stays: 0 records\n"
         "  goes: REVERSE a: OK REVERSE a -1\n  goes: TUG a 0 1 0 0: OK TUG a 0 -1\n",
     )
-    assert whole(folder) == Kept(11, PARTS[2:], []) and again(folder, "ben") == RECORDS[:1]
+    assert whole(full) == Kept(11, PARTS[2:], []) and again(full, "ben") == RECORDS[:1]
 
 
-def test_a_repair_of_a_journal_of_before(folder: Any) -> None:
-    (folder / "cleo.journal").write_bytes(journal("cleo", RECORDS).replace(b"OK TUG", b"OK TUX"))
-    assert keep(folder, "--repair", "cleo").stdout.endswith("was changed. What stays: 2 records\n")
-    assert again(folder, "cleo") == RECORDS[:2] and not (folder / "cleo.journal").exists()
+def test_a_repair_of_a_journal_of_before(tmp_path: pathlib.Path) -> None:
+    where = InSqlite(tmp_path / "kept")
+    path = pathlib.Path(where.place, "cleo.journal")
+    path.write_bytes(journal("cleo", RECORDS).replace(b"OK TUG", b"OK TUX"))
+    assert keep(where.place, "--repair", "cleo").stdout.endswith("was changed. What stays: 2 records\n")
+    assert again(where, "cleo") == RECORDS[:2] and not path.exists()
 
 
+@pytest.mark.parametrize("kind", KINDS)
 @pytest.mark.parametrize("has_snapshot", [False, True])
-def test_a_user_moves_to_another_store(folder: Any, tmp_path: pathlib.Path, has_snapshot: Any) -> None:
-    with contextlib.closing(SqliteStore(folder)) as store:
+def test_a_user_moves_to_another_store(full: Any, tmp_path: pathlib.Path, request: Any, has_snapshot: Any, kind: Any) -> None:
+    with opened(full) as store:
         store.read("ann")
         store.write([SNAPSHOT] if has_snapshot else [])
-        done = keep(folder, "--export", "ann")
+        done = keep(full.place, "--export", "ann")
     assert done.returncode == 0
-    file, other = tmp_path / "ann.json", tmp_path / "other"
+    file, other = tmp_path / "ann.json", place_of_kind(kind, request, tmp_path / "other")
     file.write_text(done.stdout)
-    assert keep(other, "--import-user", file).stdout == f"{other} has ann now\n"
-    assert whole(other) == whole(folder)
-    assert keep(other, "--export", "ann").stdout == done.stdout
-    assert keep(other, "--import-user", file).stderr == f"keep: {other} has something of ann already\n"
+    assert keep(other.place, "--import-user", file).stdout == f"{shown(other)} has ann now\n"
+    assert whole(other) == whole(full)
+    assert keep(other.place, "--export", "ann").stdout == done.stdout
+    assert keep(other.place, "--import-user", file).stderr == f"keep: {shown(other)} has something of ann already\n"
 
 
 FILES = {
@@ -322,9 +398,9 @@ FILES = {
 
 
 @pytest.mark.parametrize("changed", FILES.values(), ids=FILES)
-def test_a_file_that_is_not_what_was_printed(folder: Any, tmp_path: pathlib.Path, changed: Any) -> None:
+def test_a_file_that_is_not_what_was_printed(full: Any, tmp_path: pathlib.Path, changed: Any) -> None:
     file = tmp_path / "ann.json"
-    file.write_text(changed(keep(folder, "--export", "ann").stdout))
+    file.write_text(changed(keep(full.place, "--export", "ann").stdout))
     done = keep(tmp_path / "other", "--import-user", file)
     assert (done.returncode, done.stderr) == (1, f"keep: {file} was changed, or is of another format than 'ljserve user 2'\n")
     file.write_text("{}")
@@ -332,9 +408,11 @@ def test_a_file_that_is_not_what_was_printed(folder: Any, tmp_path: pathlib.Path
     assert not (tmp_path / "other").exists()
 
 
-def test_what_cannot_be_done(folder: Any, tmp_path: pathlib.Path) -> None:
+def test_what_cannot_be_done(full: Any, tmp_path: pathlib.Path) -> None:
     assert keep(tmp_path, "--export", "ann").stderr.startswith(f"keep: {tmp_path} has no store")
-    assert keep(folder, "--export", "cleo").stderr == f"keep: {folder} has nothing of cleo\n"
-    change(folder, "delete from record where name = 'ann' and seq = 1")
-    assert keep(folder, "--export", "ann").stderr == "keep: what is kept of ann is damaged: record 1 was changed or is missing\n"
-    assert keep(folder, "--import-user", tmp_path / "none").stderr == f"keep: cannot read {tmp_path / 'none'}: No such file or directory\n"
+    assert keep(full.place, "--export", "cleo").stderr == f"keep: {shown(full)} has nothing of cleo\n"
+    full.change("delete from record where name = 'ann' and seq = 1")
+    why = "keep: what is kept of ann is damaged: record 1 was changed or is missing\n"
+    assert keep(full.place, "--export", "ann").stderr == why
+    none = tmp_path / "none"
+    assert keep(full.place, "--import-user", none).stderr == f"keep: cannot read {none}: No such file or directory\n"

@@ -4,12 +4,12 @@ from typing import Any
 
 import pytest
 
-from keepers import TOP
+from keepers import TOP, missing
 from support import PROGRAM
 
 sys.path.append(str(TOP / "conformance"))
 from keep_trials.account import Account, Wrong  # noqa: E402
-from keep_trials.kills import KINDS, kill  # noqa: E402
+from keep_trials.kills import FRONTS, KINDS, kill  # noqa: E402
 from keep_trials.streams import play  # noqa: E402
 from playing import stored  # noqa: E402
 
@@ -17,8 +17,10 @@ LONGEST = 20_000
 
 
 @pytest.mark.parametrize("is_often", [False, True], ids=["few snapshots", "many"])
-@pytest.mark.parametrize("kind", KINDS)
+@pytest.mark.parametrize("kind", [*KINDS, FRONTS])
 def test_a_few_kills(kind: Any, is_often: Any) -> None:
+    if kind == FRONTS and missing():
+        pytest.skip(missing())
     done = kill(PROGRAM, kind, 3, f"a few {kind}", is_often=is_often)
     assert min(done.values()) > 8
 

@@ -1,6 +1,7 @@
 """What one user of `tools/keep` does at each event, with ends and a writer that only note what is asked of them."""
 import asyncio
 import io
+import json
 import pathlib
 import sys
 from typing import Any, List
@@ -8,10 +9,11 @@ from typing import Any, List
 import pytest
 
 from keepers import HELLO, LOAD, LOADED, TOKEN
-from support import TOP
+from support import TOP, present
 
 sys.path += [str(TOP / "tools"), str(TOP / "conformance")]
 from keeping.accounts import accounts_at, server_text, user_of  # noqa: E402
+from keeping.allowance import Allowance, Allowances, today  # noqa: E402
 from keeping.items import ItemReader, ReplyReader  # noqa: E402
 from keeping.store import Kept  # noqa: E402
 from keeping.server import Words  # noqa: E402
@@ -39,6 +41,9 @@ class Client:
     def has_ended(self) -> Any:
         self.next = self.next or self.reader.next()
         return self.next is None and (self.has_sent_all or self.reader.has_ended)
+
+    def take_no_more(self) -> None:
+        self.reader.end()
 
     def let_in(self) -> None:
         self.told += HELLO
@@ -77,10 +82,14 @@ class Writer:
 
     def __init__(self) -> None:
         self.given: List[Any] = []
+        self.may = True
 
     def write(self, change: Any, then: Any) -> bool:
         self.given.append((change, then))
         return False
+
+    def may_tell(self) -> bool:
+        return self.may
 
     def done(self) -> Any:
         (change, then) = self.given.pop(0)
@@ -128,6 +137,18 @@ def test_what_changes_nothing_is_told_at_once(user: Any) -> None:
     assert client.told == HELLO + b"OK LIST 0\nERR 10 NO_SESSION\n" and not user.writer.given
 
 
+def test_what_changes_nothing_is_not_told_by_who_may_have_been_followed(user: Any) -> None:
+    client = Client(b"LIST\nLIST\n")
+    link = let_in(user, client)
+    user.writer.may = False
+    user.hear([b"OK LIST 0\n"])
+    user.hear([b"OK LIST 0\n"])
+    assert client.told == HELLO and not user.writer.given
+    user.writer.may = True
+    user.go_on()
+    assert client.told == HELLO + b"OK LIST 0\nOK LIST 0\n" and link.sent == b"LIST\nLIST\n"
+
+
 def test_a_new_server_is_told_what_was_kept_and_then_what_was_not_replied(user: Any) -> None:
     client = Client(LOAD + b"ADVANCE a 2\nREVERSE a\nLIST\n")
     let_in(user, client)
@@ -141,7 +162,9 @@ def test_a_new_server_is_told_what_was_kept_and_then_what_was_not_replied(user: 
     user.hear([LOADED])
     assert link.sent == LOAD + b"START a 2\n"
     user.hear([b"OK START a 2\n"])
-    assert link.sent == LOAD + b"START a 2\nREVERSE a\nLIST\n"
+    assert link.sent == LOAD + b"START a 2\nMEASURE a\n" and not user.is_ready
+    user.hear([b"OK MEASURE a 2 2 0 0 0 693842 -5399727\n"])
+    assert link.sent == LOAD + b"START a 2\nMEASURE a\nREVERSE a\nLIST\n" and user.is_ready
     assert client.told == HELLO + LOADED + b"OK ADVANCE a 2\n"
 
 
@@ -302,6 +325,47 @@ def test_another_connection_to_the_server_is_asked_for_when_one_is_used_up(user:
     another = Link()
     user.begin(another, False)
     assert another.sent == b"LIST\n"
+
+
+def test_steps_that_are_too_many_end_the_connection_behind_what_was_told(user: Any) -> None:
+    """They are counted when they are asked for, and given back when they are refused."""
+    user.allowance = Allowance(10)
+    client = Client(b"ADVANCE b 8\n")
+    link = let_in(user, client)
+    user.hear([b"ERR 10 NO_SESSION\n"])
+    client.reader.feed(LOAD + b"START a 9\nSTART a 2\nLIST\n")
+    user.go_on()
+    assert link.sent == b"ADVANCE b 8\n" + LOAD + b"START a 9\n" and client.is_over == ""
+    user.hear([LOADED, b"OK START a 9\n"])
+    user.writer.done()
+    assert client.told.endswith(b"OK START a 9\n") and client.is_over == "finished"
+    assert len(user.noted) == 2 and user.known()["today"] == {"day": today(), "steps": 9, "is_used_up": True}
+
+
+def test_what_was_on_its_way_is_not_counted_twice(user: Any) -> None:
+    user.allowance = Allowance(10)
+    client = Client(b"START a 10\n")
+    let_in(user, client)
+    user.lose_link()
+    link = Link()
+    user.begin(link, True)
+    assert link.sent == b"START a 10\n" and user.known()["today"]["steps"] == 10
+
+
+def test_steps_of_another_day(monkeypatch: pytest.MonkeyPatch) -> None:
+    allowance = Allowance(10)
+    now = [86400.0 * 7]
+    monkeypatch.setattr("time.time", lambda: now[0])
+    steps = [(b"START", b"a", b"4"), (b"ADVANCE", b"a", b"6"), (b"ADVANCE", b"a", b"0"), (b"ADVANCE", b"a", b"1000001"), (b"LIST",), ()]
+    assert [allowance.takes(words) for words in steps] == [True] * 6
+    assert not allowance.takes((b"START", b"a", b"1"))
+    assert allowance.use_up() and not allowance.use_up()
+    status = json.dumps({"users": {"ann": {"today": allowance.known()}, "ben": {"state": "stopped"}}})
+    several = [present(Allowances(10).of(name, [text])) for text, name in ((status, "ann"), (status, "ben"), (status, "cleo"), ("", "ann"))]
+    assert [each.takes((b"START", b"a", b"10")) for each in several] == [False, True, True, True]
+    assert Allowances(None).of("ann", [status]) is None
+    now[0] += 86400
+    assert allowance.known() == {} and allowance.takes((b"START", b"a", b"10")) and allowance.use_up()
 
 
 def test_who_is_a_user(tmp_path: pathlib.Path) -> None:
