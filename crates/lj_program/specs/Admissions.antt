@@ -2,6 +2,8 @@
 use Rattle.std.specs.Prelude.{◌≡◌, ◌<◌, ◌⊎◌, ℕ, List, Some, slice_get, IsSomeAnd}
 use Rattle.lj_session.specs.UserState.{Reached, UserState}
 use Rattle.lj_access.specs.UserRows.{CanEnter, HasEntered, Ticket, UserRow, home_of, tickets_out_of, with_home, with_row_changed, without_home}
+use Rattle.lj_access.specs.declared.user.User.{User}
+use Rattle.lj_program.specs.Homes.{EntersLatest}
 use Rattle.lj_program.specs.declared.serve.shared_directory.TheConstants.{MAX_WAITING}
 use Rattle.lj_program.specs.declared.serve.shared_directory.EntryOutcome.{EntryOutcome}
 use Rattle.lj_program.specs.declared.serve.shared_directory.EntryOutcome.TheVariants.{Entered, Closed, Waits}
@@ -10,21 +12,22 @@ use Rattle.lj_program.specs.declared.serve.shared_directory.EntryOutcome.TheVari
 abbrev pub IsCrowded : List UserRow → List ℕ → List ℕ → Type 0
 IsCrowded rows name token = IsSomeAnd (tickets_out_of rows name token) (λ out. MAX_WAITING < out)
 
--- The outcome is that of this ticket. A state lent to it is one that commands reach.
-abbrev pub IsOutcome : Ticket → EntryOutcome → Type 0
-IsOutcome ticket (Entered lent) = (lent.ticket ≡ ticket) × Reached lent.state
-IsOutcome ticket (Closed seen) = Unit {0}
-IsOutcome ticket (Waits waiting) = waiting.ticket ≡ ticket
+-- The outcome is that of this ticket, which is one of these users. A state lent to it is one that commands reach, and the latest in
+-- the history of its user.
+abbrev pub IsOutcome : {J : Type 0} → List User → Ticket → EntryOutcome J → Type 0
+IsOutcome users ticket (Entered lent seen) = (lent.ticket ≡ ticket) × Reached lent.state × EntersLatest users ticket lent.state seen
+IsOutcome users ticket (Closed seen) = Unit {0}
+IsOutcome users ticket (Waits waiting) = waiting.ticket ≡ ticket
 
 -- no ticket enters any more
-abbrev pub IsClosing : EntryOutcome → Type 0
-IsClosing (Entered lent) = ⊥
+abbrev pub IsClosing : {J : Type 0} → EntryOutcome J → Type 0
+IsClosing (Entered lent seen) = ⊥
 IsClosing (Closed seen) = Unit {0}
 IsClosing (Waits waiting) = ⊥
 
 -- a ticket that enters has the state that was at home; one that waits could not enter, and nothing has changed
-abbrev pub HasMoved : Ticket → EntryOutcome → List UserRow → List UserRow → Type 0
-HasMoved ticket (Entered lent) old new =
+abbrev pub HasMoved : {J : Type 0} → Ticket → EntryOutcome J → List UserRow → List UserRow → Type 0
+HasMoved ticket (Entered lent seen) old new =
     (home_of old ticket.user ≡ Some lent.state) × (new ≡ with_row_changed ticket.user without_home old)
 HasMoved ticket (Closed seen) old new = new ≡ old
 HasMoved ticket (Waits waiting) old new =

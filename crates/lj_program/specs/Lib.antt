@@ -4,3 +4,5 @@ pub mod NamedUsers
 pub mod Printed
 pub mod Limits
 pub mod Admissions
+pub mod Histories
+pub mod Homes

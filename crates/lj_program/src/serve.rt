@@ -2,6 +2,7 @@
 mod clock;
 mod connection_limit;
 mod first_line;
+mod history;
 mod lock_workers;
 mod queue_workers;
 mod server;

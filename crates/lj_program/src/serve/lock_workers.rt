@@ -1,7 +1,9 @@
 //! A pool behind a lock, as the worker pool of a server.
 ghost use Rattle.std.specs.Prelude.{◌≡◌, IfOk, sum};
 
+use crate::serve::history::HistoryIdentity;
 use crate::serve::server_backend::{PoolEnds, visit_over};
+use crate::serve::shared_directory::SharedDirectory;
 use crate::serve::visitor::Visitor;
 use crate::serve::worker_pool::WorkerPool;
 use lj_base::OutOfMemory;
@@ -62,13 +64,14 @@ impl<L: Ledger + Send> WorkerPool for LockWorkers<L> {
 
     ghost counted = { sum };
 
-    fn visit<'s, R: Wait + Clock + Log, S: Source, W: Sink>(
+    fn visit<'s, R: Wait + Clock + Log, J: HistoryIdentity, S: Source, W: Sink>(
         &'s self,
+        directory: &'s SharedDirectory<J>,
         visitor: &mut Visitor<'s, R>,
         lines: &mut LineReader<S>,
         writer: &mut W,
     ) -> Visited {
-        visit_over(self, visitor, lines, writer)
+        visit_over(self, directory, visitor, lines, writer)
     }
 
     fn work<R: Wait>(&self, rt: &R, state: Share<L>, table: &Table) -> Share<L> {

@@ -2,7 +2,9 @@
 ghost use Rattle.std.specs.Prelude.{◌≡◌, ◌+◌, IfOk};
 ghost use Rattle.std.specs.List.{sum_by};
 
+use crate::serve::history::HistoryIdentity;
 use crate::serve::server_backend::{PoolEnds, visit_over};
+use crate::serve::shared_directory::SharedDirectory;
 use crate::serve::visitor::Visitor;
 use crate::serve::worker_pool::WorkerPool;
 use lj_base::OutOfMemory;
@@ -86,13 +88,14 @@ impl<L: PoolIdentity + Send> WorkerPool for QueueWorkers<L> {
 
     ghost counted = { sum_by (λ state. state.0) };
 
-    fn visit<'s, R: Wait + Clock + Log, S: Source, W: Sink>(
+    fn visit<'s, R: Wait + Clock + Log, J: HistoryIdentity, S: Source, W: Sink>(
         &'s self,
+        directory: &'s SharedDirectory<J>,
         visitor: &mut Visitor<'s, R>,
         lines: &mut LineReader<S>,
         writer: &mut W,
     ) -> Visited {
-        visit_over(self, visitor, lines, writer)
+        visit_over(self, directory, visitor, lines, writer)
     }
 
     fn work<R: Wait>(

@@ -6,6 +6,8 @@ ghost use Rattle.lj_visit.specs.Visits.{IsVisit};
 ghost use Rattle.lj_wire.specs.declared.reader.phase.Phase.TheVariants.{Open};
 ghost use Rattle.lj_visit.specs.Events.Event.{withdrawn};
 
+use crate::serve::history::HistoryIdentity;
+use crate::serve::shared_directory::SharedDirectory;
 use crate::serve::visitor::Visitor;
 use lj_base::{Name, Token};
 use lj_end::PoolEnd;
@@ -32,22 +34,25 @@ pub trait PoolEnds<'s, R> {
 
 /// The backend of a visit over a pool of this server.
 #[derive(Drop)]
-pub struct ServerBackend<'v, 's, P, R> {
+pub struct ServerBackend<'v, 's, P, R, J: HistoryIdentity> {
     pub visitor: &'v mut Visitor<'s, R>,
+    pub directory: &'s SharedDirectory<J>,
     pub pool: &'s P,
 }
 
-impl<'s, P: PoolEnds<'s, R>, R: Wait + Clock + Log> Backend for ServerBackend<'_, 's, P, R> {
+impl<'s, P: PoolEnds<'s, R>, R: Wait + Clock + Log, J: HistoryIdentity> Backend
+    for ServerBackend<'_, 's, P, R, J> {
     type End = P::OpenedEnd;
 
     ghost events = { λ _. None };
 
     fn hello(&mut self, name: &Name, token: &Token) -> Result<LentTicket, NoTicket> {
-        self.visitor.hello(name, token)
+        self.visitor.hello(self.directory, name, token)
     }
 
     fn enter(&mut self, ticket: LentTicket, held: bool) -> Result<LentState, Shut> {
-        self.visitor.enter(ticket, held)
+        let (lent, _seen) = self.visitor.enter(self.directory, ticket, held)?;
+        Ok(lent)
     }
 
     fn open(&mut self, user: u8) -> UserEnd<P::OpenedEnd> {
@@ -63,18 +68,26 @@ impl<'s, P: PoolEnds<'s, R>, R: Wait + Clock + Log> Backend for ServerBackend<'_
     }
 
     fn leave(&mut self, lent: LentState) {
-        self.visitor.leave(lent);
+        let _seen = self.directory.leave(self.visitor.rt, lent);
     }
 
     fn close(&mut self) {
         self.pool.close_pool(self.visitor.rt);
-        self.visitor.directory.close(self.visitor.rt);
+        self.directory.close(self.visitor.rt);
     }
 }
 
 /// Answers a connection from its first line to its end, over an end of the pool.
-pub fn visit_over<'s, P: PoolEnds<'s, R>, R: Wait + Clock + Log, S: Source, W: Sink>(
+pub fn visit_over<
+    's,
+    P: PoolEnds<'s, R>,
+    R: Wait + Clock + Log,
+    J: HistoryIdentity,
+    S: Source,
+    W: Sink,
+>(
     pool: &'s P,
+    directory: &'s SharedDirectory<J>,
     visitor: &mut Visitor<'s, R>,
     lines: &mut LineReader<S>,
     writer: &mut W,
@@ -93,6 +106,10 @@ pub fn visit_over<'s, P: PoolEnds<'s, R>, R: Wait + Clock + Log, S: Source, W: S
           events = None;
         }) }
 {
-    let mut backend = ServerBackend { visitor, pool };
+    let mut backend = ServerBackend {
+        visitor,
+        directory,
+        pool,
+    };
     visit(&mut backend, lines, writer)
 }

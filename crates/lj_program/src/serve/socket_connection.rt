@@ -6,10 +6,10 @@ ghost use Rattle.lj_program.specs.Outcomes.{is_write_fault};
 use crate::serve::clock::{end_of, left_until};
 use crate::serve::connection_limit::ConnectionLimit;
 use crate::serve::first_line::{Deadline, Timed};
+use crate::serve::history::HistoryIdentity;
 use crate::serve::shared_directory::SharedDirectory;
 use crate::serve::visitor::Visitor;
 use crate::serve::worker_pool::WorkerPool;
-use lj_access::Directory;
 use lj_engine::Served;
 use lj_table::Table;
 use lj_visit::Visited;
@@ -30,20 +30,20 @@ const MAX_LINGERING_READS: usize = 65_536;
 
 /// What the threads of a server share.
 #[derive(Drop)]
-pub struct Server<P> {
+pub struct Server<P, J: HistoryIdentity> {
     pub alloc: Global,
-    pub directory: SharedDirectory,
+    pub directory: SharedDirectory<J>,
     pub pool: P,
     pub limit: ConnectionLimit,
     pub table: Table,
 }
 
-impl<P: WorkerPool> Server<P> {
+impl<P: WorkerPool, J: HistoryIdentity> Server<P, J> {
     /// Makes a server of the users of a directory over a pool, without connections.
-    pub fn new(alloc: Global, directory: Directory, pool: P) -> Server<P> {
+    pub fn new(alloc: Global, directory: SharedDirectory<J>, pool: P) -> Server<P, J> {
         Server {
             alloc,
-            directory: SharedDirectory::new(alloc, directory),
+            directory,
             pool,
             limit: ConnectionLimit::new(),
             table: Table::new(),
@@ -81,8 +81,10 @@ impl<P: WorkerPool> Server<P> {
             deadline: &deadline,
         }));
         let mut lines = LineReader::new(self.alloc, reader);
-        let mut visitor = Visitor::new(rt, &self.directory, stream, &deadline, number);
-        let visited = self.pool.visit(&mut visitor, &mut lines, writer);
+        let mut visitor = Visitor::new(rt, stream, &deadline, number);
+        let visited = self
+            .pool
+            .visit(&self.directory, &mut visitor, &mut lines, writer);
         send_last(visited, writer);
         visitor.note_end(visited);
         visited

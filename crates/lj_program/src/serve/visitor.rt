@@ -1,8 +1,10 @@
 //! One visit to a server.
 ghost use Rattle.std.specs.Prelude.{◌≡◌, IfOk};
 ghost use Rattle.lj_session.specs.UserState.{Reached};
+ghost use Rattle.lj_program.specs.Homes.{EntersLatest};
 
 use crate::serve::first_line::Deadline;
+use crate::serve::history::{HistoryIdentity, SeenHistory};
 use crate::serve::shared_directory::{EntryOutcome, SharedDirectory};
 use lj_base::{Name, Token};
 use lj_visit::{LentState, LentTicket, NoTicket, Shut, Visited};
@@ -19,11 +21,10 @@ const LOOK_SECONDS: u64 = 1;
 /// The most milliseconds that this check takes, if the client has sent nothing.
 const LOOK_MILLIS: u64 = 1;
 
-/// A connection, and the directory that it asks for a ticket.
+/// A connection that asks a directory for a ticket.
 #[derive(Drop)]
 pub struct Visitor<'s, R> {
     pub rt: &'s R,
-    pub directory: &'s SharedDirectory,
     pub stream: &'s TcpStream,
     pub deadline: &'s Deadline,
     pub number: u64,
@@ -32,16 +33,9 @@ pub struct Visitor<'s, R> {
 
 impl<'s, R: Wait + Clock + Log> Visitor<'s, R> {
     /// Makes a visitor who has not asked yet.
-    pub fn new(
-        rt: &'s R,
-        directory: &'s SharedDirectory,
-        stream: &'s TcpStream,
-        deadline: &'s Deadline,
-        number: u64,
-    ) -> Self {
+    pub fn new(rt: &'s R, stream: &'s TcpStream, deadline: &'s Deadline, number: u64) -> Self {
         Visitor {
             rt,
-            directory,
             stream,
             deadline,
             number,
@@ -50,41 +44,45 @@ impl<'s, R: Wait + Clock + Log> Visitor<'s, R> {
     }
 
     /// Lifts the deadline of the first line, and asks for a ticket of the user with this name and this token.
-    pub fn hello(&mut self, name: &Name, token: &Token) -> Result<LentTicket, NoTicket> {
+    pub fn hello<J: HistoryIdentity>(
+        &mut self,
+        directory: &SharedDirectory<J>,
+        name: &Name,
+        token: &Token,
+    ) -> Result<LentTicket, NoTicket> {
         self.deadline.lift(self.stream);
         self.name = Some(name.copy());
-        self.directory.hello(self.rt, name, token)
+        directory.hello(self.rt, name, token)
     }
 
-    /// Waits until the ticket enters. Each second it checks that the client is still there, unless bytes of it are held.
-    pub fn enter(&mut self, ticket: LentTicket, held: bool) -> Result<LentState, Shut>
-        ensures ticket { IfOk result (λ lent. lent.ticket ≡ ticket.ticket) }
-        ensures reached { IfOk result (λ lent. Reached lent.state) }
+    /// Waits until the ticket enters, and returns the state with what was seen of its history. Each second it checks that the client is
+    /// still there, unless bytes of it are held.
+    pub fn enter<J: HistoryIdentity>(
+        &mut self,
+        directory: &SharedDirectory<J>,
+        ticket: LentTicket,
+        held: bool,
+    ) -> Result<(LentState, SeenHistory<J>), Shut>
+        ensures ticket { IfOk result (λ entered. entered.0.ticket ≡ ticket.ticket) }
+        ensures reached { IfOk result (λ entered. Reached entered.0.state) }
+        ensures latest { IfOk result (λ entered. EntersLatest J.users ticket.ticket entered.0.state entered.1) }
     {
         let mut ticket = ticket;
         for _ in self.rt.forever() {
-            match self
-                .directory
-                .wait(self.rt, ticket, Duration::from_secs(LOOK_SECONDS))
-            {
-                EntryOutcome::Entered(lent) => return Ok(lent),
+            match directory.wait(self.rt, ticket, Duration::from_secs(LOOK_SECONDS)) {
+                EntryOutcome::Entered(lent, seen) => return Ok((lent, seen)),
                 EntryOutcome::Closed(seen) => return Err(Shut::Closed(seen)),
                 EntryOutcome::Waits(waiting) => ticket = waiting,
             }
             if held || is_there(self.stream) {
                 continue;
             }
-            match self.directory.give_up(self.rt, ticket) {
+            match directory.give_up(self.rt, ticket) {
                 Ok(()) => return Err(Shut::Gone),
                 Err(back) => ticket = back,
             }
         }
         unreachable!()
-    }
-
-    /// Takes a state home.
-    pub fn leave(&self, lent: LentState) {
-        self.directory.leave(self.rt, lent);
     }
 
     /// Logs that the user was let in.

@@ -3,6 +3,8 @@ ghost use Rattle.std.specs.Prelude.{◌≡◌, ℕ, IfOk, List, None};
 ghost use Rattle.lj_wire.specs.declared.reader.phase.Phase.TheVariants.{Open};
 ghost use Rattle.lj_visit.specs.Visits.{IsVisit};
 
+use crate::serve::history::HistoryIdentity;
+use crate::serve::shared_directory::SharedDirectory;
 use crate::serve::visitor::Visitor;
 use lj_base::OutOfMemory;
 use lj_table::Table;
@@ -32,9 +34,10 @@ pub trait WorkerPool: Drop {
     // how many results these states count
     ghost counted: { List Self.WorkerState → ℕ };
 
-    /// Answers a connection from its first line to its end, over an end of the pool.
-    fn visit<'s, R: Wait + Clock + Log, S: Source, W: Sink>(
+    /// Answers a connection from its first line to its end, over an end of the pool. The directory lets its user in.
+    fn visit<'s, R: Wait + Clock + Log, J: HistoryIdentity, S: Source, W: Sink>(
         &'s self,
+        directory: &'s SharedDirectory<J>,
         visitor: &mut Visitor<'s, R>,
         lines: &mut LineReader<S>,
         writer: &mut W,

@@ -1,11 +1,5 @@
-use Rattle.std.proofs.Common.{◌+◌}
+use Rattle.lj_program.specs.Histories.{book_at}
 use Rattle.lj_program.proofs.serve.server.serve_on.Given as goal
 
-abbrev pub ghosts-serve_by_lock : goal.ghosts-serve_by_lock
-ghosts-serve_by_lock g a = record { name = a.blank.name; parts = a.blank.parts }
-
-abbrev pub ghosts-serve_by_queue-L-Ledger : goal.ghosts-serve_by_queue-L-Ledger
-ghosts-serve_by_queue-L-Ledger g a = record { name = a.blank.name; parts = a.blank.parts }
-
-abbrev pub ghosts-serve_by_queue-L-PoolIdentity : goal.ghosts-serve_by_queue-L-PoolIdentity
-ghosts-serve_by_queue-L-PoolIdentity g a = record { table = a.blank.table; passes = a.workers + 64 }
+abbrev pub ghosts-serve_known : goal.ghosts-serve_known
+ghosts-serve_known g a = record { books = book_at a.histories; users = a.users.items }
