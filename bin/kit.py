@@ -32,7 +32,7 @@ CRATES = ["rtlib.guarded()", "rtlib.crates_below(top)", "rtlib.lock(crates)", "r
 MADE = ["rtlib.Crate.words(self,flags,tests,keeps,as_source)", "rtlib.Crate.call(self,words)", "rtlib.Crate.stamp(self|crate,made)"]
 KEPT = ["rtlib.Crate.is_built(self)", "rtlib.Crate.has_kept(self)", "rtlib.Crate.build_rlib(self,flags,anew)"]
 ONE = ["handles_of(root)", "Crate.compile(self,flags,to,tests)", "Crate.link(self,made,program)"]
-CALLED = {"gate": ["main(words)", *LANES, *EDITS], "planted": ["edits_alone(names)", *EDITS]}
+CALLED = {"gate": ["main(words)", *LANES, *EDITS], "planted": ["edits_alone(names)", *EDITS], "seen": ["read_edit(edit,folder)"]}
 CALLED |= {"build": [*LANES, "need(crate)", *CRATES, *MADE, *KEPT], "compile": ["processors()", *CRATES, *ONE]}
 
 

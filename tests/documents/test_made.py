@@ -114,7 +114,7 @@ def test_each_refusal_has_its_row() -> None:
 
 def test_each_wrong_body_is_listed() -> None:
     done = subprocess.run([TOP / "bin" / "wrong_bodies"], capture_output=True, text=True, timeout=120, check=True)
-    for kind, cell in (("must-fail", 1), ("planted", 2)):
+    for kind, cell in (("must-fail", 1), ("planted", 2), ("seen", 3)):
         told = [
             name for row in done.stdout.splitlines() if row.startswith("| `") for name in row.split(" | ")[cell].strip("| ").split("; ")
         ]

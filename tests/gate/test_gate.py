@@ -1,4 +1,4 @@
-"""What bin/gate, bin/build and bin/planted call of the kit's command is there, and what they do where it is not."""
+"""What bin/gate, bin/build, bin/planted and bin/seen call of the kit's command is there, and what they do where it is not."""
 from __future__ import annotations
 
 import os
@@ -113,14 +113,16 @@ def test_libraries_are_built_in_turn_where_a_function_is_missing(tmp_path: pathl
     assert error.startswith("build: warning: this kit has no need(crate), rtlib.guarded()") and error.count("\n") == 1
 
 
-@pytest.mark.parametrize("words", [["planted", "lj_end"], ["compile", "x86-64-v3", "out"]])
+@pytest.mark.parametrize("words", [["planted", "lj_end"], ["seen", "lj_lock"], ["compile", "x86-64-v3", "out"]])
 def test_nothing_is_done_where_a_function_is_missing(tmp_path: pathlib.Path, words: List[str]) -> None:
     put(tmp_path, GATE + EDITS + MUST_FAIL)
     status, out, error = begun(tmp_path, *words)
     assert (status, out, error.count("\n")) == (69, "", 1) and error.startswith(f"{words[0]}: warning: this kit has no ")
 
 
-@pytest.mark.parametrize("words", [["gate"], ["build", "/dev/null"], ["planted", "lj_end"], ["compile", "x86-64-v3", "out"]])
+@pytest.mark.parametrize(
+    "words", [["gate"], ["build", "/dev/null"], ["planted", "lj_end"], ["seen", "lj_lock"], ["compile", "x86-64-v3", "out"]]
+)
 def test_without_a_kit(tmp_path: pathlib.Path, words: List[str]) -> None:
     line = f"{words[0]}: the Rattle toolchain (the command rt) is not on the PATH\n"
     assert begun(tmp_path, *words) == (69, "", line)

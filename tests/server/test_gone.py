@@ -55,6 +55,21 @@ def test_each_way_to_go_gives_up_the_place(serve: Servers) -> None:
     server.finish(tiles=0)
 
 
+def test_a_client_that_waited_may_be_silent(serve: Servers) -> None:
+    """It waits until the server has looked whether it is there. The short time that such a look takes is no limit once it is let in."""
+    server = serve(user("A"), 2)
+    first = server.enter("A")
+    waiting = server.connect()
+    waiting.send(hello("A"))
+    assert waiting.is_quiet(LOOKED / 2)
+    first.leaves()
+    waiting.is_told(welcome("A"))
+    assert waiting.is_quiet()
+    waiting.says(b"LIST\n", b"OK LIST 0\n")
+    waiting.leaves()
+    server.finish(tiles=0)
+
+
 def test_commands_sent_with_hello_are_done(serve: Servers) -> None:
     server = serve(user("A"), 4)
     first = server.enter("A")

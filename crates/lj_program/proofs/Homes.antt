@@ -1,11 +1,11 @@
 -- Each state at home stays the latest in the history of its user.
-use Rattle.std.proofs.Common.{◌≡◌, ◌≢◌, ◌⊎◌, ℕ, zero, suc, ◌<◌, List, [], ◌∷◌, ◌++◌, length, map, slice_get, slice_set, slice_index_or, Option, Some, None, IsSomeAnd, IfSome, IfNone, All, refl, sym, ap, ◌∙◌, subst, arith, inl, inr}
-use Rattle.std.specs.Option.{option_map, option_and_then}
-use Rattle.std.proofs.lemmas.List.{length-set, length-map}
-use Rattle.std.proofs.lemmas.Option.{slice_get_past, slice_get_within}
-use Rattle.lj_session.specs.UserState.{UserState, empty_state}
+use Rattle.std.proofs.Common.{◌≡◌, ◌≢◌, ◌⊎◌, ℕ, zero, suc, ◌<◌, List, [], ◌∷◌, ◌++◌, length, slice_get, slice_set, Option, Some, None, IsSomeAnd, IfSome, IfNone, refl, sym, ap, ◌∙◌, subst, arith, inl, inr}
+use Rattle.std.specs.Option.{option_and_then}
+use Rattle.std.proofs.lemmas.List.{length-set}
+use Rattle.std.proofs.lemmas.Option.{slice_get_within}
+use Rattle.lj_session.specs.UserState.{UserState}
 use Rattle.lj_access.specs.declared.user.User.{User}
-use Rattle.lj_access.specs.UserRows.{UserRow, first_row, home_of, with_home, with_row_changed, with_row_changed_to, without_home}
+use Rattle.lj_access.specs.UserRows.{UserRow, home_of, with_home, with_row_changed, with_row_changed_to, without_home}
 use Rattle.lj_access.specs.Passing.{PassesOver, passed}
 use Rattle.lj_program.specs.Histories.{HasNoted, latest_state}
 use Rattle.lj_program.specs.Homes.{HomesAreLatest, first_state}

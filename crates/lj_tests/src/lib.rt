@@ -5,9 +5,13 @@
 #[cfg(test)]
 mod books;
 #[cfg(test)]
+mod flushes;
+#[cfg(test)]
 mod pending_steps;
 #[cfg(test)]
 mod queues;
+#[cfg(test)]
+mod released_boxes;
 #[cfg(test)]
 mod replays;
 #[cfg(test)]

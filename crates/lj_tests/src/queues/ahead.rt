@@ -3,7 +3,7 @@
 use super::over_queue::over_queue;
 use super::scenario::{Scenario, Seen};
 use super::test_pool::{Host, TestPool, TestWorkers};
-use super::{Counted, close_late, wait_for};
+use super::{Counted, check_both, close_late, wait_for};
 use arrayvec::{ArrayString, ArrayVec};
 use lj_pool::{Served, serve};
 use lj_quota::Quota;
@@ -149,4 +149,20 @@ fn fifteen_tasks_are_under_way_while_a_command_is_read(rt: HostRuntime) -> Resul
         assert_eq!(rt; seen, Seen::Ahead(outcome));
     }
     Ok(())
+}
+
+const ONE: StartsCase = StartsCase {
+    sessions: 1,
+    last: b"OK START s0 1",
+};
+
+/// No other has to be posted with it.
+#[test]
+fn a_task_alone_is_under_way_while_a_command_is_read(rt: HostRuntime) -> Result<(), Fail> {
+    let outcome = StartsOutcome {
+        lines: 3,
+        served: Served::Bye,
+        is_handed_back: true,
+    };
+    check_both(&rt, 0, Scenario::Ahead(ONE), (Seen::Ahead(outcome), 1))
 }

@@ -1,4 +1,4 @@
-use Rattle.std.proofs.Common.{◌≡◌, Some, None, slice_get, sym, ap, ◌∙◌}
+use Rattle.std.proofs.Common.{◌≡◌, Some, sym}
 use Rattle.lj_access.specs.UserRows.{home_of}
 use Rattle.lj_program.proofs.Homes.{history_there, lend_homes}
 use Rattle.lj_program.proofs.serve.shared_directory.DirectoryState.enter.Goals as goal
