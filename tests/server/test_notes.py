@@ -50,10 +50,13 @@ pytestmark = [
 
 
 def rest(client: socket.socket) -> bytes:
-    """All that is told until the end."""
+    """All that is told until the end, and a mark where no end comes."""
     told = b""
-    while piece := client.recv(1 << 16):
-        told += piece
+    try:
+        while piece := client.recv(1 << 16):
+            told += piece
+    except socket.timeout:
+        told += b" and no end"
     return told
 
 
