@@ -7,10 +7,12 @@ import shlex
 import stat
 import sys
 import tempfile
-from typing import Dict, Iterator, List, NamedTuple, Optional, Sequence, Set, TextIO
+from typing import Callable, Dict, Iterator, List, NamedTuple, Optional, Sequence, Set, TextIO
 
 MAX_USERS = 64
 MAX_SERVERS = 1000
+# The most users of a store.
+MAX_STORED = 64
 MAX_NUMBERS = {"sessions": 64, "atoms": 65536, "branches": 256}
 USUAL = [8, 16384, 16]
 TOKEN_LETTERS = "abcdefghijkmnpqrstuvwxyzABCDEFGHJKLMNPQRSTUVWXYZ23456789"
@@ -53,12 +55,12 @@ class Way(NamedTuple):
         return (", tls=True" if self.tls else "") + (f', ca="{self.ca}"' if self.ca else "")
 
 
-def names_of(words: Sequence[str], servers: int = 1) -> List[str]:
-    """The names that the words say: themselves, or those of so many students."""
+def names_of(words: Sequence[str], servers: int = 1, of_store: Optional[int] = None) -> List[str]:
+    """The names that the words say: themselves, or those of so many students, at servers or in a store."""
     is_count = len(words) == 1 and words[0].isascii() and words[0].isdecimal()
-    count, most = int(words[0]) if is_count else len(words), MAX_USERS * servers
+    count, most = int(words[0]) if is_count else len(words), of_store or MAX_USERS * servers
     if words and not 1 <= count <= most:
-        have = "a server has" if servers == 1 else f"{servers} servers have"
+        have = "a store has" if of_store else "a server has" if servers == 1 else f"{servers} servers have"
         raise ValueError(f"{have} 1 to {most} users, not {count}")
     if is_count:
         return [f"student{number:02}" for number in range(1, count + 1)]
@@ -140,12 +142,17 @@ def make_users(names: Sequence[str], quota: Sequence[int], way: Way, files: File
         warn_of_output(sys.stdout)
 
 
-def write_secrets(texts: Dict[str, str], may_replace: bool) -> None:
-    """Writes files that their owner alone can read: each of them whole, or none if one cannot be written."""
+def write_secrets(texts: Dict[str, str], may_replace: bool, first: Callable[[], None] = lambda: None) -> None:
+    """Writes files that their owner alone can read: each of them whole, or none if one cannot be written, or what is done first
+    cannot be."""
     if may_replace:
         texts = {replaceable(path): text for path, text in texts.items()}
     with contextlib.ExitStack() as stack:
         ready = [(path, stack.enter_context(written(path, text))) for path, text in texts.items()]
+        for path in texts:
+            if os.path.lexists(path) and not may_replace:
+                raise is_there(path)
+        first()
         new = []
         try:
             for path, temporary in ready:
@@ -185,6 +192,10 @@ def written(path: str, text: str) -> Iterator[str]:
             os.unlink(temporary)
 
 
+def is_there(path: str) -> Fault:
+    return Fault(f"{path} is there already: choose another name, or write it anew by --replace")
+
+
 def put(temporary: str, path: str, may_replace: bool) -> None:
     """Gives a file its name, at once. One that has it already stays, unless it may be replaced."""
     try:
@@ -194,7 +205,7 @@ def put(temporary: str, path: str, may_replace: bool) -> None:
             # Unlike a rename, it fails if the name is taken, also since a moment ago.
             os.link(temporary, path)
     except FileExistsError:
-        raise Fault(f"{path} is there already: choose another name, or write it anew by --replace") from None
+        raise is_there(path) from None
     except OSError as error:
         raise Fault(f"cannot write {path}: {error.strerror}") from error
 
@@ -204,7 +215,7 @@ def openness_of(mode: int) -> str:
     return " and ".join(word for word, bits in (("read", 0o044), ("change", 0o022)) if mode & bits)
 
 
-def warn_of_output(out: TextIO) -> None:
+def warn_of_output(out: TextIO, better: str = "--out") -> None:
     """Says if what was printed stands in a file that others can read."""
     try:
         status = os.fstat(out.fileno())
@@ -212,7 +223,7 @@ def warn_of_output(out: TextIO) -> None:
         return
     if stat.S_ISREG(status.st_mode) and openness_of(status.st_mode):
         told = f"the mode of the file that these tokens were printed into lets others {openness_of(status.st_mode)} it"
-        print(f"users: {told}; write it by --out FILE", file=sys.stderr)
+        print(f"users: {told}; write it by {better} FILE", file=sys.stderr)
 
 
 class Checked:
@@ -221,7 +232,8 @@ class Checked:
     With `apart` a token of two users is a fault too, which no server refuses.
     """
 
-    def __init__(self, apart: bool = False) -> None:
+    def __init__(self, apart: bool = False, most: int = MAX_USERS) -> None:
+        self._most = most
         self.lines: Dict[bytes, int] = {}
         self.faults: List[str] = []
         self._apart = apart
@@ -250,8 +262,8 @@ class Checked:
         """Why there is no place for a user of this name, if there is none."""
         if name in self.lines:
             return f"the name {name.decode()} is that of line {self.lines[name]}"
-        if len(self.lines) == MAX_USERS:
-            return f"there are {MAX_USERS} users already, the most that a server has"
+        if len(self.lines) == self._most:
+            return f"there are {self._most} users already, the most that a server has"
         self.lines[name] = number
         return None
 
@@ -296,14 +308,14 @@ def counted(count: int, what: str) -> str:
     return f"{count} {what}" + ("" if count == 1 else "s")
 
 
-def rows_of(path: str) -> List[List[bytes]]:
+def rows_of(path: str, most: int = MAX_USERS) -> List[List[bytes]]:
     """The words of each user of a file. Raises Fault if it cannot be read or something is wrong with it."""
     try:
         with open(path, "rb") as file:
             text = file.read()
     except OSError as error:
         raise Fault(f"cannot read {path}: {error.strerror}") from error
-    checked = Checked()
+    checked = Checked(most=most)
     checked.read(text)
     if checked.faults:
         raise Fault(f"{path}: {checked.faults[0]}")

@@ -7,9 +7,9 @@ import pathlib
 import signal
 import socket
 import time
-from typing import Coroutine, Dict, NamedTuple, Optional, Set
+from typing import Coroutine, Dict, NamedTuple, Optional, Sequence, Set
 
-from keeping.accounts import Accounts, accounts_at, user_of
+from keeping.accounts import Account, Accounts, accounts_at, changes_behind, is_one, user_of
 from keeping.allowance import Allowances
 from keeping.ends import Client, Link
 from keeping.place import Owner, Place
@@ -26,6 +26,7 @@ SECONDS_BETWEEN_TRIES = 0.01
 SECONDS_OF_A_START = 1.0
 SECONDS_TO_SETTLE = 10.0
 SECONDS_OF_A_STATUS = 1.0
+SECONDS_BETWEEN_LOOKS = 1.0
 # The server is asked once a second, is not well without an answer for so long, and then is ended.
 SECONDS_BETWEEN_QUESTIONS, SECONDS_TO_ANSWER, SECONDS_TO_END = 1.0, 3.0, 10.0
 # A place that others share is asked so often whether this front may go on, and for so long when it does not answer.
@@ -36,6 +37,7 @@ VERSION, TRIAL = "version", "trial"
 # The status of a server whose words or users are none.
 BAD_WORDS = 2
 HAS_BAD_WORDS = how_it_ended(BAD_WORDS)
+NOBODY = Account(b"", "")
 
 
 class Options(NamedTuple):
@@ -61,6 +63,7 @@ class Front:
         sync = "group" if self._place.is_shared else options.sync
         self._writer = Writer(self._store, sync, self.fail, self.may_tell)
         self._accounts: Accounts = {}
+        self._change = 0
         self._served: Accounts = {}
         self._users: Dict[str, User] = {}
         self._refused: Dict[str, str] = {}
@@ -78,30 +81,59 @@ class Front:
 
     # Users.
 
-    async def _take_users(self, accounts: Accounts) -> None:
-        """Has these users in place of those there were. Who was stopped is tried again."""
+    async def _take_stored(self) -> bool:
+        """Has the users be those of the store, if something has changed of these. Returns whether the store has any."""
+        number, changed, gone, aside = await asyncio.to_thread(changes_behind, self._store.base, self._change)
+        if number > self._change:
+            stay = {name: each for name, each in self._accounts.items() if self._change and name not in gone}
+            await self._take_users({**stay, **changed}, aside)
+            self._change = number
+        return bool(number)
+
+    async def _take_users(self, accounts: Accounts, aside: Sequence[str] = ()) -> None:
+        """Has these users in place of those there were. Who was stopped is tried again, and what is kept of some is put aside."""
         before, self._accounts, self._refused = self._accounts, accounts, {}
         for user in [*self._users.values()]:
-            self._give_up(user)
-            if user.name in accounts and before[user.name].token != accounts[user.name].token:
+            self._give_up(user, user.name in aside)
+            if before.get(user.name, NOBODY).token != accounts.get(user.name, NOBODY).token:
                 user.abort_clients()
+        for name in aside:
+            await self._put_aside(name)
         for name in self._place.take_over(self._store, self._refuse):
             self._note("journal taken over", user=name)
         if not self._place.is_shared:
             for name in [each for each in accounts if each not in self._users and each not in self._refused]:
                 await self._claim(name)
 
-    def _give_up(self, user: User) -> None:
+    def _give_up(self, user: User, is_aside: bool) -> None:
         """Lets go of a user that is none any more, or was stopped, unless something of it is being written."""
-        if user.name not in self._accounts and not user.stopped:
+        if (user.name not in self._accounts or is_aside) and not user.stopped:
             user.stop("it is no user any more")
         if user.stopped and not user.is_busy():
             del self._users[user.name]
 
+    async def _put_aside(self, name: str) -> None:
+        """Has what is kept of a user who was removed be out of the way, unless another front has it, and does so."""
+        if name in self._claims:
+            await asyncio.wait([self._claims[name]])
+        while name in self._users:
+            self._give_up(self._users[name], True)
+            await asyncio.sleep(SECONDS_BETWEEN_TRIES)
+        if await asyncio.to_thread(self._place.claim, name) is None:
+            await self._put_aside_here(name)
+
+    async def _put_aside_here(self, name: str) -> None:
+        if aside := await asyncio.to_thread(self._store.put_aside, name):
+            self._note("put aside", user=name, name=aside)
+
     async def _claim(self, name: str) -> Optional[Owner]:
         """Has a user here, unless another front has it, and returns that. What is damaged stops that user alone."""
+        account = self._accounts.get(name, NOBODY)
         if owner := await asyncio.to_thread(self._place.claim, name):
             return owner
+        await self._put_aside_here(name)
+        if self._change and not await asyncio.to_thread(is_one, self._store.base, name, account):
+            return None
         try:
             kept = await asyncio.to_thread(self._store.read, name)
         except Damaged as error:
@@ -109,7 +141,7 @@ class Front:
             self._refuse(name, f"what is kept is damaged: {error}")
         else:
             told = await asyncio.to_thread(self._place.told) if self._options.steps_a_day else []
-            if name not in self._users and name in self._accounts:
+            if name not in self._users and self._accounts.get(name) == account:
                 self._users[name] = user = User(name, kept, self._store, self._writer, self._note, self._renew)
                 user.allowance = self._allowances.of(name, told)
                 if self._server is not None and self._served is self._accounts:
@@ -159,9 +191,9 @@ class Front:
             client.deny()
         else:
             client.wait()
-            self._begin_task(self._find(name, client))
+            self._begin_task(self._find(name, self._accounts[name], client))
 
-    async def _find(self, name: str, client: Client) -> None:
+    async def _find(self, name: str, account: Account, client: Client) -> None:
         end = time.monotonic() + SECONDS_TO_FIND
         while time.monotonic() < end and not client.is_lost:
             if name not in self._claims:
@@ -171,8 +203,10 @@ class Front:
                 owner = await self._claims[name]
                 if owner is not None:
                     await client.pass_on(owner, SECONDS_TO_PASS_ON)
-                elif not client.is_lost:
-                    self.find(name, client)
+                elif name in self._users and self._accounts.get(name) == account and not client.is_lost:
+                    client.enter(self._users[name])
+                else:
+                    client.deny()
                 return
             except (OSError, asyncio.TimeoutError, StoreFault):
                 await asyncio.sleep(SECONDS_BETWEEN_TRIES)
@@ -200,10 +234,11 @@ class Front:
     async def run(self) -> int:
         """Serves until it is told to end, and returns the exit status."""
         loop = asyncio.get_running_loop()
-        await self._take_users(accounts_at(pathlib.Path(self._options.words.users)))
+        if not await self._take_stored():
+            await self._take_users(accounts_at(pathlib.Path(self._options.words.users)))
         await self._hold()
         listening = await loop.create_server(lambda: Client(self), sock=self._options.listener, backlog=128)
-        works = self._own_servers(), self._writer.sync_on(), self._hold_on(), self._look_after()
+        works = self._own_servers(), self._writer.sync_on(), self._hold_on(), self._look_after(), self._take_changes()
         tasks = [asyncio.create_task(work) for work in works]
         await self._is_ending.wait()
         if not self._status:
@@ -370,15 +405,27 @@ class Front:
         """Reads the users again, and ends the server when all have settled, so that another one is begun. Its program may be new."""
         try:
             await self._unless_otherwise()
-            await self._take_users(accounts_at(pathlib.Path(self._options.words.users)))
+            await self._take_users(self._accounts if self._change else accounts_at(pathlib.Path(self._options.words.users)))
         except (Fault, StoreFault) as fault:
             self._note("not begun anew", why=str(fault))
             return
+        await self._end_server()
+
+    async def _end_server(self) -> None:
         server = self._server
         self._note("begins anew")
         await self._settle()
         if server is not None:
             server.kill()
+
+    async def _take_changes(self) -> None:
+        """Has the users be those of the store soon after something was changed there."""
+        while True:
+            await asyncio.sleep(SECONDS_BETWEEN_LOOKS)
+            with contextlib.suppress(StoreFault):
+                before = self._change
+                if await self._take_stored() and self._change > before:
+                    await self._end_server()
 
     def _end(self) -> None:
         self._known["end"] = "it was told to end"

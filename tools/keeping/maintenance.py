@@ -7,10 +7,11 @@ import socket
 import sys
 from typing import Callable, Dict, Iterable, Iterator, List, Tuple
 
+from keeping.accounts import accounts_at, changes_behind
 from keeping.items import Told
 from keeping.journal import names_in, path_of, put_in, whole_records
 from keeping.kick import kick
-from keeping.place import FILE, database_at, is_address, place_of, shown_place
+from keeping.place import FILE, Folder, database_at, is_address, place_of, shown_place
 from keeping.sessions import shown
 from keeping.sqlite import Sqlite
 from keeping.store import SNAPSHOT_FAULT, Change, Damaged, Kept, Part, Snapshot, Store, check_of
@@ -21,13 +22,23 @@ MOST_SHOWN = 20
 
 
 @contextlib.contextmanager
-def opened(place: str) -> Iterator[Store]:
-    """The store of a place, which a front may have at the same time. Raises Fault if there is none."""
+def opened(place: str, is_made: bool = False) -> Iterator[Store]:
+    """The store of a place, which a front may have at the same time. Raises Fault if there is none, unless it is made then."""
+    if is_address(place):
+        with contextlib.closing(database_at(place)) as base:
+            if is_made:
+                base.make()
+            yield Store(base)
+        return
     file = pathlib.Path(place, FILE)
-    if not is_address(place) and not file.exists():
+    if not file.exists() and not is_made:
         raise Fault(f"{place} has no store: begin the front once, which makes it of journals too")
-    with contextlib.closing(database_at(place).base if is_address(place) else Sqlite(file)) as base:
-        yield Store(base)
+    if not file.exists():
+        # Also where root makes it, it is of the folder's owner.
+        with contextlib.closing(Folder(file.parent)):
+            os.chown(file, file.parent.stat().st_uid, file.parent.stat().st_gid)
+    with contextlib.closing(Sqlite(file)) as one:
+        yield Store(one)
 
 
 @contextlib.contextmanager
@@ -38,6 +49,17 @@ def alone(place: str, name: str) -> Iterator[Store]:
         if owner := own.claim(name):
             raise Fault(f"the front at {owner.address} has {name}: end it first")
         yield Store(own.base)
+
+
+def check_users(place: str, file: str) -> None:
+    """Raises Fault if a store has no users, and neither has a file."""
+    if is_address(place) or pathlib.Path(place, FILE).exists():
+        with opened(place, True) as store:
+            if changes_behind(store.base, 0).number:
+                return
+    if not file:
+        raise Fault(f"{place} has no users: add some by `tools/users --store {place}`, or say --users FILE behind --")
+    accounts_at(pathlib.Path(file))
 
 
 def back_up(place: str, to: str) -> None:
@@ -109,7 +131,7 @@ def export(place: str, name: str) -> None:
     parts, records = [[texted(each) for each in part] for part in kept.parts], [[texted(each) for each in told] for told in kept.records]
     known = {
         "format": FORMAT,
-        "name": name,
+        "name": name.partition(".")[0],
         "seq": kept.seq,
         "running": texted(kept.running),
         "parts": parts,

@@ -17,7 +17,7 @@ from psycopg2 import errors, extensions
 from keeping.place import KICK, STATUS, Owner, Place, answer_of
 from keeping.store import SCHEMA, Base, Fenced, Row, Statement, StoreFault
 
-FORMAT = 2
+FORMAT = 3
 # The class of the advisory locks of fronts. That of number 0 is for who makes the tables.
 LOCKS = 19_710_722
 SECONDS_TO_TRY = 60.0
@@ -39,6 +39,7 @@ TABLES = f"""
 select pg_advisory_xact_lock({LOCKS}, 0);
 create table if not exists format (number integer not null);
 insert into format select {FORMAT} where not exists (select from format);
+update format set number = {FORMAT} where number < {FORMAT};
 create table if not exists front (
     id serial primary key, address text not null, has_header boolean not null, dead boolean not null default false
 );
@@ -152,11 +153,15 @@ class Postgres(Place):
         self._writing, self._holding = Line(url, {} if sync_each else late), Line(url, late)
         self._lines = (self._reading, self._owning, self._writing, self._holding)
 
-    def begin(self, address: str, has_header: bool) -> None:
+    def make(self) -> None:
+        """Makes what is not there yet."""
         schema = TABLES + SCHEMA.replace(" blob", " bytea").replace(" without rowid", VACUUM)
         ((format,),) = self._owning.ask(f"{schema} select number from format", seconds=0)
         if format != FORMAT:
             raise StoreFault(f"the database has format {format}, and this program has {FORMAT}")
+
+    def begin(self, address: str, has_header: bool) -> None:
+        self.make()
         # Who was there at this address has ended.
         words = "update front set dead = true where address = %s; insert into front (address, has_header) values (%s, %s) returning id"
         ((self._front,),) = self._owning.ask(words, (address, address, has_header))
@@ -174,11 +179,13 @@ class Postgres(Place):
     def write(self, statements: Sequence[Statement]) -> None:
         # What is said again may have been done.
         again = {True: " on conflict do nothing", False: ""}
-        self._do(self._writing, [(said(words) + again[words.startswith("insert")], values) for words, values in statements])
+        is_insert = [words.startswith("insert") and " on conflict" not in words for words, _ in statements]
+        self._do(self._writing, [(said(words) + again[is_one], values) for is_one, (words, values) in zip(is_insert, statements)])
 
     def _do(self, line: Line, statements: Sequence[Statement], seconds: float = SECONDS_TO_TRY) -> None:
-        """Has statements done in one transaction, unless this front is dead."""
-        words, values = zip((FENCE, (self._front,)), *statements)
+        """Has statements done in one transaction, unless this front is dead. What is no front changes users, alone."""
+        fence: Statement = (FENCE, (self._front,)) if self._front else ("lock table account in exclusive mode", ())
+        words, values = zip(fence, *statements)
         line.ask("; ".join(words), [value for row in values for value in row], seconds)
 
     def sync(self) -> None:

@@ -30,12 +30,12 @@ class Words:
         for option in OWN:
             if option in words:
                 raise ValueError(f"leave out {option}: it is said to the server by what begins it")
-        if words.count("--users") != 1 or words[-1] == "--users":
-            raise ValueError("say --users FILE behind --")
+        if words.count("--users") > 1 or words[-1] == "--users":
+            raise ValueError("say --users FILE once behind --")
         if shutil.which(words[0]) is None:
             raise ValueError(f"there is no program {words[0]}")
-        at = words.index("--users")
-        self.program, self.users = words[0], words[at + 1]
+        at = words.index("--users") if "--users" in words else len(words)
+        self.program, self.users = words[0], "".join(words[at + 1 : at + 2])
         self._before, self._behind = list(words[:at]), list(words[at + 2 :])
 
     def command(self, port: int, users: int) -> List[str]:

@@ -8,7 +8,7 @@ from typing import ContextManager, Iterator, List, Optional, Sequence
 
 from keeping.store import SCHEMA, Row, Statement, StoreFault
 
-FORMAT = 2
+FORMAT = 3
 # Another process has the database for itself for a moment at most, as while it is opened.
 SECONDS_TO_WAIT = 10.0
 

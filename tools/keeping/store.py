@@ -23,6 +23,10 @@ create table if not exists part (
     direction bigint not null, measured blob not null, symbols blob not null, frames blob not null, hash blob not null,
     primary key (name, id)
 );
+create table if not exists account (
+    name text primary key, token text not null, quota text not null, changed bigint not null, removed text not null
+);
+create index if not exists account_changed on account (changed);
 """
 # What inserts a row into each table.
 INSERTS = {
@@ -112,8 +116,8 @@ class End(NamedTuple):
 
 
 def first_chain(name: str) -> bytes:
-    """What stands in place of a hash before the first record of a user."""
-    return hashlib.sha256(b"ljserve user %s" % name.encode()).digest()[:BYTES_OF_CHAIN]
+    """What stands in place of a hash before the first record of a user. It is the same for what was put aside as NAME.DATE."""
+    return hashlib.sha256(b"ljserve user %s" % name.partition(".")[0].encode()).digest()[:BYTES_OF_CHAIN]
 
 
 def next_chain(before: bytes, record: Told) -> bytes:
@@ -255,9 +259,21 @@ class Store:
         """Takes away the records of a user behind one."""
         self.base.write([("delete from record where name = ? and seq > ?", (name, seq))])
 
+    def put_aside(self, name: str) -> str:
+        """Has what is kept of a user who was removed be that of NAME.DATE. Returns that name, or nothing if none was removed."""
+        ((removed,),) = self.base.rows("select removed from account where name = ?", (name,)) or [("",)]
+        if not removed:
+            return ""
+        aside, is_one = f"{name}.{removed}", "exists (select name from account where name = ? and removed = ?)"
+        moves = [(f"update {table} set name = ? where name = ? and {is_one}", (aside, name, name, removed)) for table in INSERTS]
+        self.base.write([*moves, ("update account set removed = '' where name = ? and removed = ?", (name, removed))])
+        return aside
+
     def copy_into(self, other: Base) -> None:
         """Writes all that is there now, as it stands, into a database that has nothing."""
         with self.base.view():
+            accounts = self.base.rows("select * from account")
+            other.write([("insert into account values (?, ?, ?, ?, ?)", row) for row in accounts])
             for name in self.names():
                 for table, insert in INSERTS.items():
                     other.write([(insert, row) for row in self.base.rows(f"select * from {table} where name = ?", (name,))])

@@ -241,7 +241,7 @@ def test_a_file_that_is_no_store(tmp_path: pathlib.Path) -> None:
 def test_a_store_of_another_format(where: Any) -> None:
     where.base().close()
     where.change("pragma user_version=9" if isinstance(where, InSqlite) else "update format set number = 9")
-    with pytest.raises(StoreFault, match="has format 9, and this program has 2"):
+    with pytest.raises(StoreFault, match="has format 9, and this program has 3"):
         where.base()
 
 
