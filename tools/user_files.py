@@ -12,7 +12,7 @@ from typing import Callable, Dict, Iterator, List, NamedTuple, Optional, Sequenc
 MAX_USERS = 64
 MAX_SERVERS = 1000
 # The most users of a store.
-MAX_STORED = 64
+MAX_STORED = 100_000
 MAX_NUMBERS = {"sessions": 64, "atoms": 65536, "branches": 256}
 USUAL = [8, 16384, 16]
 TOKEN_LETTERS = "abcdefghijkmnpqrstuvwxyzABCDEFGHJKLMNPQRSTUVWXYZ23456789"
@@ -263,7 +263,7 @@ class Checked:
         if name in self.lines:
             return f"the name {name.decode()} is that of line {self.lines[name]}"
         if len(self.lines) == self._most:
-            return f"there are {self._most} users already, the most that a server has"
+            return f"there are {self._most} users already, the most that a {'server' if self._most == MAX_USERS else 'store'} has"
         self.lines[name] = number
         return None
 

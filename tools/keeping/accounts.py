@@ -1,8 +1,7 @@
-"""Who may come in: the users of a file or a store, the first line of a connection, and what a server is handed of the users."""
+"""Who may come in: the users of a file or a store, and the first line of a connection."""
 import hmac
 import pathlib
-import secrets
-from typing import Dict, Iterable, NamedTuple, Optional, Sequence, Tuple
+from typing import Dict, Iterable, NamedTuple, Optional, Sequence
 
 from keeping.items import MAX_LINE, words_of
 from keeping.store import Base, Row
@@ -25,8 +24,8 @@ def accounts_at(path: pathlib.Path, most: int = MAX_USERS) -> Accounts:
 
 
 class Changes(NamedTuple):
-    """What has changed of the users of a store up to a change of this number: who is one, who is none any more, and of whom something
-    is to be put aside, who may be one anew."""
+    """What has changed of the users of a store up to a change of this number: who is one, who is none any more, and of whom
+    something is to be put aside, who may be one anew."""
 
     number: int
     accounts: Accounts
@@ -63,19 +62,3 @@ def user_of(line: bytes, accounts: Accounts) -> Optional[str]:
     name = words[1].decode(errors="replace")
     token = accounts[name].token if name in accounts else b""
     return name if hmac.compare_digest(token, words[2]) and token else None
-
-
-def with_watcher(accounts: Accounts) -> Tuple[Accounts, str]:
-    """The users of a server, with one by which it is asked whether it answers, if there is room for that, and its name."""
-    name = next(name for name in map("watcher{}".format, range(MAX_USERS + 1)) if name not in accounts)
-    return ({**accounts, name: Account(b"", "0 0 0")}, name) if len(accounts) < MAX_USERS else (accounts, "")
-
-
-def new_tokens(accounts: Accounts) -> Dict[str, str]:
-    """Tokens for one server alone, so that nobody comes to it but through what has begun it."""
-    return {name: secrets.token_hex(16) for name in accounts}
-
-
-def server_text(accounts: Accounts, tokens: Dict[str, str]) -> bytes:
-    """The file of users that a server is handed."""
-    return "".join(f"{name} {tokens[name]} {each.quota}\n" for name, each in accounts.items()).encode()

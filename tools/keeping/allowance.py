@@ -1,7 +1,7 @@
 """How many steps each user may ask for in a day, where there is a limit."""
 import json
 import time
-from typing import Any, Dict, Iterable, List, Optional
+from typing import Any, Container, Dict, Iterable, List, Optional
 
 from keeping.items import Words
 from keeping.sessions import MAX_STEPS
@@ -70,10 +70,15 @@ class Allowances:
             self._by_name[name] = Allowance(self._most, **max(days, key=lambda each: (each.get("day", 0), each.get("steps", 0))))
         return self._by_name[name]
 
+    def known(self, users: Container[str]) -> Known:
+        """What the status has of all but some users, who stand there themselves."""
+        return {name: known for name, each in self._by_name.items() if name not in users and (known := each.known())}
+
 
 def today_in(status: str, name: str) -> Known:
     """What a status has of a user's steps."""
     try:
-        return dict(json.loads(status)["users"][name]["today"])
+        known = json.loads(status)
+        return dict(known["users"].get(name, {}).get("today") or known["today"][name])
     except (ValueError, KeyError):
         return {}

@@ -11,6 +11,7 @@ from watching import address_of, prepare, written
 
 if TYPE_CHECKING:
     from keeping.front import Front
+    from keeping.hosts import Seat
     from keeping.place import Owner
     from keeping.server import Server
     from keeping.user import User
@@ -265,10 +266,9 @@ class Link(asyncio.Protocol):
 
     most_items = MAX_ITEMS - 1
 
-    def __init__(self, user: User, server: Server, is_new: bool, front: Front):
-        self.user, self.server, self.is_new, self._front = user, server, is_new, front
+    def __init__(self, user: User, seat: Seat, server: Server, is_new: bool):
+        self.user, self.seat, self.server, self.is_new = user, seat, server, is_new
         self.left = self.most_items
-        self._hello = f"HELLO {user.name} {server.tokens[user.name]}\n".encode()
         self._reader = ReplyReader()
         self._transport: asyncio.Transport
         self._is_in = self._is_closed = self._is_held = False
@@ -276,7 +276,7 @@ class Link(asyncio.Protocol):
     def connection_made(self, transport: asyncio.BaseTransport) -> None:
         assert isinstance(transport, asyncio.Transport)
         self._transport = transport
-        transport.write(self._hello)
+        transport.write(self.server.hello(self.seat.name))
 
     def data_received(self, data: bytes) -> None:
         if self._is_closed:
@@ -288,8 +288,11 @@ class Link(asyncio.Protocol):
             self.user.hear(replies)
 
     def _begin(self, reply: bytes) -> None:
-        if reply != b"OK HELLO %s\n" % self.user.name.encode():
-            self._front.link_is_lost(self, False)
+        if self.user.seat is not self.seat:
+            self.close()
+            return
+        if reply != b"OK HELLO %s\n" % self.seat.name.encode():
+            self.seat.host.link_is_lost(self, False)
             return
         self._is_in = True
         self.user.begin(self, self.is_new)
@@ -297,7 +300,7 @@ class Link(asyncio.Protocol):
     def connection_lost(self, error: Optional[Exception]) -> None:
         if not self._is_closed:
             self._is_closed = True
-            self._front.link_is_lost(self, not self._is_in)
+            self.seat.host.link_is_lost(self, not self._is_in)
 
     def send(self, items: bytes) -> None:
         self._transport.write(items)

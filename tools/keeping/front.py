@@ -1,4 +1,4 @@
-"""A front: it owns a server, keeps what its users do, and begins another server when one has ended."""
+"""A front: it lets users in, has them at servers of its own (`hosts`), and keeps what they do."""
 import asyncio
 import contextlib
 import json
@@ -11,9 +11,10 @@ from typing import Coroutine, Dict, NamedTuple, Optional, Sequence, Set
 
 from keeping.accounts import Account, Accounts, accounts_at, changes_behind, is_one, user_of
 from keeping.allowance import Allowances
-from keeping.ends import Client, Link
+from keeping.ends import Client
+from keeping.hosts import Hosts
 from keeping.place import Owner, Place
-from keeping.server import Server, Words, begin, how_it_ended, trial_of, version_of
+from keeping.server import Words, how_it_ended, trial_of, version_of
 from keeping.status import Known
 from keeping.store import Damaged, Fenced, Store, StoreFault
 from keeping.user import User
@@ -23,12 +24,9 @@ from watching import Board, Connection
 
 MAX_OPEN = 1000
 SECONDS_BETWEEN_TRIES = 0.01
-SECONDS_OF_A_START = 1.0
 SECONDS_TO_SETTLE = 10.0
 SECONDS_OF_A_STATUS = 1.0
 SECONDS_BETWEEN_LOOKS = 1.0
-# The server is asked once a second, is not well without an answer for so long, and then is ended.
-SECONDS_BETWEEN_QUESTIONS, SECONDS_TO_ANSWER, SECONDS_TO_END = 1.0, 3.0, 10.0
 # A place that others share is asked so often whether this front may go on, and for so long when it does not answer.
 SECONDS_BETWEEN_HOLDS, SECONDS_TO_HOLD = 0.5, 60.0
 # So long it is tried to reach the front that has a user.
@@ -37,7 +35,7 @@ VERSION, TRIAL = "version", "trial"
 # The status of a server whose words or users are none.
 BAD_WORDS = 2
 HAS_BAD_WORDS = how_it_ended(BAD_WORDS)
-NOBODY = Account(b"", "")
+NOBODY = Account(b"", "0 0 0")
 
 
 class Options(NamedTuple):
@@ -53,7 +51,7 @@ class Options(NamedTuple):
 
 
 class Front:
-    """Lets users in, each to its own records and its own connection to the server."""
+    """Lets users in, each to its own records and its own connection to a server."""
 
     def __init__(self, options: Options, board: Board):
         """Has one be at its place, which has begun."""
@@ -64,7 +62,6 @@ class Front:
         self._writer = Writer(self._store, sync, self.fail, self.may_tell)
         self._accounts: Accounts = {}
         self._change = 0
-        self._served: Accounts = {}
         self._users: Dict[str, User] = {}
         self._refused: Dict[str, str] = {}
         self._allowances = Allowances(options.steps_a_day)
@@ -72,11 +69,10 @@ class Front:
         self._claims: Dict[str, "asyncio.Task[Optional[Owner]]"] = {}
         self._tasks: Set["asyncio.Task[None]"] = set()
         self._held = 0.0
-        self._server: Optional[Server] = None
-        self._is_ending = asyncio.Event()
+        self._hosts = Hosts(self, options.words)
+        self._is_ending, self._putting_aside = asyncio.Event(), asyncio.Lock()
         self._status = 0
-        self._answered = 0.0
-        self._known = {"since": time.time(), "process": os.getpid(), "begun": 0, "last_end": "", "end": ""}
+        self._known = {"since": time.time(), "process": os.getpid(), "end": ""}
         self._known |= {"at": options.at, "has_header": options.has_header}
 
     # Users.
@@ -85,32 +81,50 @@ class Front:
         """Has the users be those of the store, if something has changed of these. Returns whether the store has any."""
         number, changed, gone, aside = await asyncio.to_thread(changes_behind, self._store.base, self._change)
         if number > self._change:
-            stay = {name: each for name, each in self._accounts.items() if self._change and name not in gone}
-            await self._take_users({**stay, **changed}, aside)
+            accounts = {**(self._accounts if self._change else {}), **changed}
+            for name in gone:
+                accounts.pop(name, None)
+            await self._take_users(accounts, aside)
             self._change = number
         return bool(number)
 
     async def _take_users(self, accounts: Accounts, aside: Sequence[str] = ()) -> None:
         """Has these users in place of those there were. Who was stopped is tried again, and what is kept of some is put aside."""
-        before, self._accounts, self._refused = self._accounts, accounts, {}
+        before, self._accounts = self._accounts, accounts
+        again = [*self._refused, *(name for name, user in self._users.items() if user.stopped)]
+        self._refused = {}
         for user in [*self._users.values()]:
             self._give_up(user, user.name in aside)
-            if before.get(user.name, NOBODY).token != accounts.get(user.name, NOBODY).token:
+            old, new = before.get(user.name, NOBODY), accounts.get(user.name, NOBODY)
+            if old.token != new.token:
                 user.abort_clients()
+            if not user.stopped and user.quota != new.quota:
+                self._hosts.move(user, new.quota)
         for name in aside:
             await self._put_aside(name)
         for name in self._place.take_over(self._store, self._refuse):
-            self._note("journal taken over", user=name)
-        if not self._place.is_shared:
-            for name in [each for each in accounts if each not in self._users and each not in self._refused]:
-                await self._claim(name)
+            self.note("journal taken over", user=name)
+        await self._claim_all(again)
+
+    async def _claim_all(self, names: Sequence[str]) -> None:
+        """Has users here before they come."""
+        for name in names:
+            if name in self._accounts and name not in self._refused:
+                await self._claimed(name)
 
     def _give_up(self, user: User, is_aside: bool) -> None:
         """Lets go of a user that is none any more, or was stopped, unless something of it is being written."""
         if (user.name not in self._accounts or is_aside) and not user.stopped:
             user.stop("it is no user any more")
         if user.stopped and not user.is_busy():
-            del self._users[user.name]
+            self.forget(user)
+
+    def forget(self, user: User) -> None:
+        """Knows a user no more, who is read again when it comes."""
+        if user.stopped and user.seat is not None:
+            self._hosts.give_back(user)
+        del self._users[user.name]
+        self._store.forget(user.name)
 
     async def _put_aside(self, name: str) -> None:
         """Has what is kept of a user who was removed be out of the way, unless another front has it, and does so."""
@@ -123,12 +137,22 @@ class Front:
             await self._put_aside_here(name)
 
     async def _put_aside_here(self, name: str) -> None:
-        if aside := await asyncio.to_thread(self._store.put_aside, name):
-            self._note("put aside", user=name, name=aside)
+        async with self._putting_aside:
+            if aside := await asyncio.to_thread(self._store.put_aside, name):
+                self.note("put aside", user=name, name=aside)
+
+    def _claimed(self, name: str) -> "asyncio.Task[Optional[Owner]]":
+        """Claims a user, once at a time."""
+        if name not in self._claims:
+            self._claims[name] = asyncio.create_task(self._claim(name))
+            self._claims[name].add_done_callback(lambda _: self._claims.pop(name))
+        return self._claims[name]
 
     async def _claim(self, name: str) -> Optional[Owner]:
         """Has a user here, unless another front has it, and returns that. What is damaged stops that user alone."""
         account = self._accounts.get(name, NOBODY)
+        if name in self._users:
+            return None
         if owner := await asyncio.to_thread(self._place.claim, name):
             return owner
         await self._put_aside_here(name)
@@ -141,21 +165,21 @@ class Front:
             self._refuse(name, f"what is kept is damaged: {error}")
         else:
             told = await asyncio.to_thread(self._place.told) if self._options.steps_a_day else []
-            if name not in self._users and self._accounts.get(name) == account:
-                self._users[name] = user = User(name, kept, self._store, self._writer, self._note, self._renew)
-                user.allowance = self._allowances.of(name, told)
-                if self._server is not None and self._served is self._accounts:
-                    self._begin_task(self._connect(user, True))
+            if self._accounts.get(name) == account:
+                self._users[name] = user = User(name, kept, self._store, self._writer, self.note, self._hosts.renew)
+                user.allowance, user.quota = self._allowances.of(name, told), account.quota
+                self.begin_task(self._hosts.lend(user))
         return None
 
-    def _begin_task(self, work: Coroutine[object, object, None]) -> None:
+    def begin_task(self, work: Coroutine[object, object, None]) -> "asyncio.Task[None]":
         task = asyncio.create_task(work)
         self._tasks.add(task)
         task.add_done_callback(self._tasks.discard)
+        return task
 
     def _refuse(self, name: str, why: str) -> None:
         self._refused[name] = why
-        self._note("stopped", user=name, why=why)
+        self.note("stopped", user=name, why=why)
 
     # What clients ask of it.
 
@@ -191,23 +215,20 @@ class Front:
             client.deny()
         else:
             client.wait()
-            self._begin_task(self._find(name, self._accounts[name], client))
+            self.begin_task(self._find(name, self._accounts[name], client))
 
     async def _find(self, name: str, account: Account, client: Client) -> None:
         end = time.monotonic() + SECONDS_TO_FIND
         while time.monotonic() < end and not client.is_lost:
-            if name not in self._claims:
-                self._claims[name] = asyncio.create_task(self._claim(name))
-                self._claims[name].add_done_callback(lambda _: self._claims.pop(name))
             try:
-                owner = await self._claims[name]
+                owner = await self._claimed(name)
                 if owner is not None:
-                    await client.pass_on(owner, SECONDS_TO_PASS_ON)
-                elif name in self._users and self._accounts.get(name) == account and not client.is_lost:
-                    client.enter(self._users[name])
-                else:
-                    client.deny()
-                return
+                    return await client.pass_on(owner, SECONDS_TO_PASS_ON)
+                if name in self._refused or self._accounts.get(name) != account:
+                    return client.deny()
+                if name in self._users and not client.is_lost:
+                    return client.enter(self._users[name])
+                await asyncio.sleep(SECONDS_BETWEEN_TRIES)
             except (OSError, asyncio.TimeoutError, StoreFault):
                 await asyncio.sleep(SECONDS_BETWEEN_TRIES)
             except Exception:
@@ -236,16 +257,21 @@ class Front:
         loop = asyncio.get_running_loop()
         if not await self._take_stored():
             await self._take_users(accounts_at(pathlib.Path(self._options.words.users)))
+        # What they did since their snapshots takes its time, so it is computed before they come.
+        await self._claim_all([] if self._place.is_shared else await asyncio.to_thread(self._store.names_with_records))
+        if not self._users:
+            self._hosts.add(next(iter(self._accounts.values()), NOBODY).quota)
         await self._hold()
         listening = await loop.create_server(lambda: Client(self), sock=self._options.listener, backlog=128)
-        works = self._own_servers(), self._writer.sync_on(), self._hold_on(), self._look_after(), self._take_changes()
+        works = self._writer.sync_on(), self._hold_on(), self._look_after(), self._take_changes()
         tasks = [asyncio.create_task(work) for work in works]
         await self._is_ending.wait()
         if not self._status:
             await self._settle()
         # Where nobody listens no more is told, so that another front takes over at once.
         listening.close()
-        for task in [*tasks, *self._tasks]:
+        tasks += self._tasks
+        for task in tasks:
             task.cancel()
         await asyncio.gather(*tasks, return_exceptions=True)
         await self._close()
@@ -260,10 +286,7 @@ class Front:
             await asyncio.sleep(SECONDS_BETWEEN_TRIES)
 
     async def _close(self) -> None:
-        if self._server is not None:
-            self._server.kill()
-            await self._server.ended()
-            self._server = None
+        await self._hosts.close()
         self._writer.close()
         self._put_status()
         self._place.close()
@@ -295,102 +318,25 @@ class Front:
         """Whether nobody can have taken over yet, so that what needs no record may be told."""
         return time.monotonic() < self._held + self._place.seconds_of_lease
 
-    async def _own_servers(self) -> None:
-        """Begins a server, and another one when it has ended."""
-        while True:
-            begun = time.monotonic()
-            try:
-                ended = await self._own_server()
-            except Fault as fault:
-                ended = str(fault)
-            self._known["last_end"] = ended
-            self._note("server ended", why=ended)
-            if ended == HAS_BAD_WORDS and self._known["begun"] == 1:
-                self._fail(f"the server cannot be begun: {ended}", BAD_WORDS)
-            if time.monotonic() < begun + SECONDS_OF_A_START:
-                await asyncio.sleep(SECONDS_OF_A_START)
-
-    async def _own_server(self) -> str:
-        """Begins a server, connects all users to it, and returns how it has ended."""
-        await self._unless_otherwise()
-        self._served = accounts = self._accounts
-        self._server = server = await begin(self._options.words, accounts)
-        if accounts is not self._accounts:
-            server.kill()
-        self._known["begun"] = int(str(self._known["begun"])) + 1
-        self._note("server begun", process=server.process.pid)
-        connections = [self._connect(user, True) for user in self._users.values() if not user.stopped]
-        others = asyncio.gather(self._note_version(), self._watch(server), *connections, return_exceptions=True)
-        ended = await server.ended()
-        self._server = None
-        others.cancel()
-        for user in self._users.values():
-            user.lose_link()
-        await asyncio.gather(others, return_exceptions=True)
-        return ended
-
-    async def _watch(self, server: Server) -> None:
-        """Asks the server again and again, as a user of its own, and ends one that does not answer."""
-        self._answered = time.monotonic()
-        while server.watcher and server.is_there():
-            with contextlib.suppress(OSError, asyncio.TimeoutError):
-                reader, writer = await asyncio.open_connection("127.0.0.1", server.port)
-                with contextlib.closing(writer):
-                    writer.write(f"HELLO {server.watcher} {server.tokens[server.watcher]}\n".encode())
-                    while await asyncio.wait_for(reader.readline(), SECONDS_TO_END):
-                        self._answered = time.monotonic()
-                        await asyncio.sleep(SECONDS_BETWEEN_QUESTIONS)
-                        writer.write(b"LIST\n")
-            if time.monotonic() > self._answered + SECONDS_TO_END:
-                self._note("server does not answer", process=server.process.pid)
-                server.kill()
-                return
-            await asyncio.sleep(SECONDS_BETWEEN_TRIES)
-
     def is_well(self) -> bool:
         """Whether there is a server that answers, and users are let in."""
-        server, silent = self._server, time.monotonic() - self._answered
-        answers = server is not None and server.is_there() and (not server.watcher or silent < SECONDS_TO_ANSWER)
-        return answers and self.may_tell() and not self._is_ending.is_set()
+        return self._hosts.is_well() and self.may_tell() and not self._is_ending.is_set()
 
-    async def _connect(self, user: User, is_new: bool) -> None:
-        """Connects a user to the server, as soon as that listens."""
-        loop, server = asyncio.get_running_loop(), self._server
-        while server is not None and server is self._server and server.is_there():
-            try:
-                link = Link(user, server, is_new, self)
-                await loop.create_connection(lambda: link, "127.0.0.1", server.port)
-                return
-            except OSError:
-                await asyncio.sleep(SECONDS_BETWEEN_TRIES)
+    def has_ended(self, ended: str, begun: int) -> None:
+        """A server has ended, where so many were begun."""
+        if ended == HAS_BAD_WORDS and begun == 1:
+            self._fail(f"the server cannot be begun: {ended}", BAD_WORDS)
 
-    def _renew(self, user: User) -> None:
-        """Connects a user to the same server again."""
-        asyncio.get_running_loop().create_task(self._connect(user, False))
-
-    def link_is_lost(self, link: Link, had_no_place: bool) -> None:
-        """A server that has closed a connection may have done what it did not reply, so it is ended, and all is told again. One that
-        had no place for it has done nothing."""
-        if had_no_place:
-            asyncio.get_running_loop().create_task(self._connect_again(link))
-        elif self._server is not None:
-            self._server.kill()
-
-    async def _connect_again(self, link: Link) -> None:
-        await asyncio.sleep(SECONDS_BETWEEN_TRIES)
-        if self._server is link.server:
-            await self._connect(link.user, link.is_new)
-
-    async def _note_version(self) -> None:
+    async def note_version(self) -> None:
         """Has a file name the version of the program, and notes if that is another."""
         version = await version_of(self._options.words.program)
         before = await asyncio.to_thread(self._place.text, VERSION)
         if before != version:
             if before:
-                self._note("program", version=version, before=before)
+                self.note("program", version=version, before=before)
             await asyncio.to_thread(self._place.put, VERSION, version)
 
-    async def _unless_otherwise(self) -> None:
+    async def try_program(self) -> None:
         """Tries the program. Raises Fault if it computes otherwise than the first one did whose sessions are kept here."""
         trial = await trial_of(self._options.words.program)
         if await asyncio.to_thread(self._place.first, TRIAL, trial) != trial:
@@ -402,30 +348,23 @@ class Front:
         self._anew = asyncio.get_running_loop().create_task(self._begin_another())
 
     async def _begin_another(self) -> None:
-        """Reads the users again, and ends the server when all have settled, so that another one is begun. Its program may be new."""
+        """Reads the users again, and ends all servers when users have settled, so that others are begun. Their program may be new."""
         try:
-            await self._unless_otherwise()
+            await self.try_program()
             await self._take_users(self._accounts if self._change else accounts_at(pathlib.Path(self._options.words.users)))
         except (Fault, StoreFault) as fault:
-            self._note("not begun anew", why=str(fault))
+            self.note("not begun anew", why=str(fault))
             return
-        await self._end_server()
-
-    async def _end_server(self) -> None:
-        server = self._server
-        self._note("begins anew")
+        self.note("begins anew")
         await self._settle()
-        if server is not None:
-            server.kill()
+        self._hosts.end_all()
 
     async def _take_changes(self) -> None:
         """Has the users be those of the store soon after something was changed there."""
         while True:
             await asyncio.sleep(SECONDS_BETWEEN_LOOKS)
             with contextlib.suppress(StoreFault):
-                before = self._change
-                if await self._take_stored() and self._change > before:
-                    await self._end_server()
+                await self._take_stored()
 
     def _end(self) -> None:
         self._known["end"] = "it was told to end"
@@ -438,13 +377,13 @@ class Front:
     def _fail(self, why: str, status: int) -> None:
         self._status = status
         self._known["end"] = why
-        self._note("failed", why=why)
+        self.note("failed", why=why)
         self._place.give_up()
         self._is_ending.set()
         for client in [*self._clients]:
             client.abort()
 
-    def _note(self, event: str, **known: object) -> None:
+    def note(self, event: str, **known: object) -> None:
         """Says what happens to users and servers, and has it in the log and in the status."""
         self._board.notes(event, **known)
         self._board.says(" ".join([event, *(f"{name} {value}" for name, value in known.items())]))
@@ -454,9 +393,8 @@ class Front:
         """What is told of all."""
         users = {name: each.known() for name, each in self._users.items() if name in self._accounts}
         users |= {name: {"state": "stopped", "why": why} for name, why in self._refused.items() if name in self._accounts}
-        server = self._server.process.pid if self._server else None
         syncs = {"syncs": self._writer.syncs, "sync_seconds": round(self._writer.seconds, 3)}
-        return {**self._known, **syncs, "server": server, "users": users}
+        return {**self._known, **syncs, **self._hosts.known(), "users": users, "today": self._allowances.known(self._users)}
 
     def _put_status(self) -> None:
         self._place.tell(json.dumps(self.known()))
@@ -466,10 +404,13 @@ class Front:
         while True:
             await asyncio.sleep(SECONDS_OF_A_STATUS)
             self._end_kicked()
+            for user in self._users.values():
+                if user.stopped and user.seat is not None:
+                    self._hosts.give_back(user)
             self._put_status()
 
     def _end_kicked(self) -> None:
         for name in self._place.kicked():
             if name in self._users:
                 self._users[name].abort_clients(has_right=True)
-                self._note("kicked", user=name)
+                self.note("kicked", user=name)

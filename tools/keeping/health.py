@@ -57,7 +57,7 @@ def of_front(known: Known, is_well: bool, users_in: int) -> Iterator[Metric]:
     users = [*known["users"].values()]
     states = Counter(user["state"] for user in users)
     yield "ljserve_up", "gauge", "Whether the server answers.", [({}, int(is_well))]
-    yield "ljserve_restarts_total", "counter", "Servers that were begun after the first one.", [({}, max(known["begun"] - 1, 0))]
+    yield "ljserve_restarts_total", "counter", "Servers that were begun after one had ended.", [({}, known["restarts"])]
     yield "ljserve_users", "gauge", "Users, by state.", [({"state": label}, states[state]) for label, state in STATES.items()]
     yield "ljserve_users_in", "gauge", "Users who are in.", [({}, users_in)]
     for name, key, about in (

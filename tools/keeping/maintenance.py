@@ -52,14 +52,15 @@ def alone(place: str, name: str) -> Iterator[Store]:
 
 
 def check_users(place: str, file: str) -> None:
-    """Raises Fault if a store has no users, and neither has a file."""
+    """Raises Fault if something is wrong with a file of users, or if there is none and a store has no users."""
+    if file:
+        accounts_at(pathlib.Path(file))
+        return
     if is_address(place) or pathlib.Path(place, FILE).exists():
         with opened(place, True) as store:
             if changes_behind(store.base, 0).number:
                 return
-    if not file:
-        raise Fault(f"{place} has no users: add some by `tools/users --store {place}`, or say --users FILE behind --")
-    accounts_at(pathlib.Path(file))
+    raise Fault(f"{shown_place(place)} has no users: add some by `tools/users --store`, or say --users FILE behind --")
 
 
 def back_up(place: str, to: str) -> None:

@@ -3,14 +3,14 @@ import asyncio
 import contextlib
 import hashlib
 import os
+import secrets
 import shutil
 import signal
 import socket
 import subprocess
-from typing import Any, Dict, List, Sequence
+from typing import Any, List, Sequence
 
 from children import ending_with_parent, environment
-from keeping.accounts import Accounts, new_tokens, server_text, with_watcher
 from user_files import Fault
 
 MAX_CONNECTIONS = 1_000_000
@@ -18,6 +18,9 @@ SECONDS_FOR_VERSION = 30.0
 # The program of a repository is built first.
 SECONDS_FOR_TRIAL = 7200.0
 OWN = ("--listen", "--connections")
+# Names that a server lends, and that of who asks whether it answers.
+NAMES = [f"user{number}" for number in range(1, 63)]
+WATCHER = "watcher"
 
 
 class Words:
@@ -45,10 +48,14 @@ class Words:
 
 
 class Server:
-    """A server that was begun. `tokens` are those of its users, which nobody else knows. One of these is to ask whether it answers."""
+    """A server that was begun. `token` is that of all of its users, which nobody else knows."""
 
-    def __init__(self, process: asyncio.subprocess.Process, port: int, tokens: Dict[str, str], watcher: str):
-        self.process, self.port, self.tokens, self.watcher = process, port, tokens, watcher
+    def __init__(self, process: asyncio.subprocess.Process, port: int, token: str):
+        self.process, self.port, self._token = process, port, token
+
+    def hello(self, name: str) -> bytes:
+        """The first line of one of its users."""
+        return f"HELLO {name} {self._token}\n".encode()
 
     def is_there(self) -> bool:
         return self.process.returncode is None
@@ -71,21 +78,25 @@ async def begun(words: Sequence[str], **streams: Any) -> asyncio.subprocess.Proc
     return await asyncio.create_subprocess_exec(*ending_with_parent(words), env=environment(), start_new_session=True, **streams)
 
 
-async def begin(words: Words, accounts: Accounts) -> Server:
-    """Begins a server on a port that is free. Raises Fault if there is no such program."""
+def users_text(quota: str, token: str) -> bytes:
+    """The file of users that a server is handed."""
+    return "".join(f"{name} {token} {'0 0 0' if name == WATCHER else quota}\n" for name in (*NAMES, WATCHER)).encode()
+
+
+async def begin(words: Words, quota: str) -> Server:
+    """Begins a server of a quota on a port that is free. Raises Fault if there is no such program."""
     with socket.create_server(("127.0.0.1", 0)) as free:
         port = free.getsockname()[1]
-    accounts, watcher = with_watcher(accounts)
-    tokens = new_tokens(accounts)
+    token = secrets.token_hex(16)
     users = os.memfd_create("users", 0)
     try:
-        os.write(users, server_text(accounts, tokens))
+        os.write(users, users_text(quota, token))
         process = await begun(words.command(port, users), stdin=subprocess.DEVNULL, stdout=subprocess.DEVNULL, pass_fds=[users])
     except OSError as error:
         raise Fault(f"cannot start {words.program}: {error.strerror}") from error
     finally:
         os.close(users)
-    return Server(process, port, tokens, watcher)
+    return Server(process, port, token)
 
 
 async def output_of(program: str, word: str, sent: bytes, seconds: float) -> bytes:

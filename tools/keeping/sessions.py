@@ -452,8 +452,13 @@ def tell_again(sessions: Sessions, records: Sequence[Told], number: int) -> Task
                 raise (NoMemory if found == NO_MEMORY else Otherwise)(text)
             if words[0] == b"START":
                 is_waited_for[words[1]] = record is not records[at]
-    for session in sessions.by_name.values():
-        if session.has_pending and is_waited_for.get(session.name):
+    yield from wait_for(session for session in sessions.by_name.values() if is_waited_for.get(session.name))
+
+
+def wait_for(sessions: Iterable[Session]) -> Task[None]:
+    """Waits until no steps of some sessions are pending."""
+    for session in sessions:
+        if session.has_pending:
             yield from asked([b"MEASURE %s\n" % session.name])
             session.has_pending = False
 

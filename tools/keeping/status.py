@@ -43,9 +43,10 @@ def lines_of(known: Known, answer: Optional[bytes]) -> Iterator[str]:
     since = time.strftime("%Y-%m-%d %H:%M:%S", time.localtime(known["since"]))
     runs = f"runs since {since}, process {known['process']}, at {known['at']}"
     yield runs if answer is not None else f"does not run: {known['end'] or 'it was killed'}"
-    server = known["server"] if answer is not None else None
-    answers = "" if answer == DENIED or not server else ", does not answer"
-    yield f"server: {f'process {server}' if server else 'is not there'}, begun {known['begun']} times{answers}"
+    servers = [each for each in known["servers"] if each["process"]] if answer is not None else []
+    answers = "" if answer == DENIED or not servers else ", does not answer"
+    processes = f"process {', '.join(str(each['process']) for each in servers)}" if servers else "is not there"
+    yield f"server: {processes}, begun {known['begun']} times{answers}"
     if known["last_end"]:
         yield f"last end of the server: {known['last_end']}"
     for name, each in known["users"].items():

@@ -156,6 +156,14 @@ class Store:
         words = " union ".join(f"select name from {table}" for table in INSERTS)
         return [name for (name,) in self.base.rows(f"{words} order by name")]
 
+    def names_with_records(self) -> List[str]:
+        """The users of whom something was done since their snapshots."""
+        return [name for (name,) in self.base.rows("select distinct name from record order by name")]
+
+    def forget(self, name: str) -> None:
+        """Knows no more where the records of a user end, who is read again before anything is written."""
+        self._ends.pop(name, None)
+
     def rows(self, name: str) -> List[Row]:
         """Number, item, reply and hash of each record of a user, as they stand."""
         words = "select seq, cast(item as blob), cast(reply as blob), cast(chain as blob) from record where name = ? order by seq"

@@ -7,14 +7,17 @@ import asyncio
 import time
 from collections import deque
 from functools import partial
-from typing import Callable, Deque, Dict, List, Optional
+from typing import TYPE_CHECKING, Callable, Deque, Dict, List, Optional
 
 from keeping.allowance import Allowance
 from keeping.ends import Client, Link
 from keeping.items import Item, Told, words_of
-from keeping.sessions import KEPT, Long, NoMemory, Otherwise, Sessions, Task, drop_all, put_back, read_all, shown, tell_again
+from keeping.sessions import KEPT, Long, NoMemory, Otherwise, Sessions, Task, drop_all, put_back, read_all, shown, tell_again, wait_for
 from keeping.store import Change, Damaged, Kept, Snapshot, Store, StoreFault
 from keeping.writer import Writer
+
+if TYPE_CHECKING:
+    from keeping.hosts import Seat
 
 # As many connections of a user wait, and the next one is closed without a byte.
 MAX_WAITING = 8
@@ -37,7 +40,9 @@ class User:
 
     def __init__(self, name: str, kept: Kept, store: Store, writer: Writer, note: Note, renew: Callable[["User"], None]):
         self.name, self.records, self.number = name, kept.records, kept.seq + len(kept.records)
-        self.stopped = ""
+        self.stopped = self.quota = ""
+        self.seat: Optional[Seat] = None
+        self.away_since = time.monotonic()
         self.allowance: Optional[Allowance] = None
         self.waiting: Deque[Client] = deque()
         self.client: Optional[Client] = None
@@ -276,7 +281,7 @@ class User:
         if self.client is None or not self.is_ready or not self.client.has_ended() or not self._is_idle():
             return False
         self.client.finish()
-        self.client = None
+        self.client, self.away_since = None, time.monotonic()
         self._is_wanted = self.number != self._seq
         return True
 
@@ -401,6 +406,25 @@ class User:
             return 0.0
         gone = time.monotonic() - self._put_back_since if self.link is not None else 0.0
         return max(self._seconds - gone, 0.0)
+
+    def is_away(self) -> bool:
+        """Whether it has no connection, and nothing is on its way."""
+        return self.client is None and not self.waiting and self.link is not None and self.is_ready and self._is_idle()
+
+    def is_leaving(self) -> bool:
+        """Whether it is away, or will be when a snapshot is taken, or was stopped."""
+        return self.client is None and not self.waiting and not self.sessions.have_pending()
+
+    def is_kept(self) -> bool:
+        """Whether all is in its snapshot, so that it may be forgotten while it is away."""
+        return self.number == self._seq and not self.sessions.have_pending()
+
+    def wait_for_pending(self) -> None:
+        """Has pending steps be waited for while it is away, and then a snapshot taken."""
+        if self._task is None and self.sessions.have_pending():
+            self._task, self._is_wanted = wait_for(self.sessions.by_name.values()), True
+            self._step(None)
+            self.go_on()
 
     def is_busy(self) -> bool:
         """Whether something of it is being written."""

@@ -17,7 +17,7 @@ from support import DIMER, SECONDS, TOKEN, TOP, present, wait_until
 from terminals import environment
 
 sys.path.append(str(TOP / "tools"))
-from keeping import accounts, server  # noqa: E402
+from keeping import server  # noqa: E402
 import children  # noqa: E402
 
 # A program that writes its environment into a file beside it, and is replied to as `ljserve run` without sessions is.
@@ -120,7 +120,7 @@ def test_the_server_that_is_kept(program: Program, tmp_path: pathlib.Path) -> No
         assert await server.version_of(str(program.path)) == "ljserve 1.1.0"
         assert program.has_no_token()
         program.path.with_suffix(".told").unlink()
-        one = await server.begin(words, {"ann": accounts.Account(TOKEN.encode(), "8 16384 16")})
+        one = await server.begin(words, "8 16384 16")
         await one.ended()
 
     asyncio.run(begun())

@@ -136,7 +136,7 @@ def test_a_server_lets_nobody_in_but_through_the_front(tmp_path: pathlib.Path) -
     with Keeper(tmp_path) as keeper:
         words = pathlib.Path(f"/proc/{keeper.server()}/cmdline").read_text().split("\0")
         port = int(words[words.index("--listen") + 1].rpartition(":")[2])
-        until(keeper.is_ready)
+        assert keeper.told(b"LIST\n", "ann") == HELLO + b"OK LIST 0\n"
         with socket.create_connection(("127.0.0.1", port), SECONDS) as stream:
             stream.sendall(f"HELLO ann {TOKEN}\n".encode())
             assert first_line(stream) == DENIED
@@ -520,7 +520,7 @@ def is_well(keeper: Any) -> Any:
 
 
 def test_a_server_that_does_not_answer_is_seen_and_ended(tmp_path: pathlib.Path) -> None:
-    tool = patched("import keeping.front; keeping.front.SECONDS_TO_ANSWER, keeping.front.SECONDS_TO_END = 1.5, 4")
+    tool = patched("import keeping.hosts; keeping.hosts.SECONDS_TO_ANSWER, keeping.hosts.SECONDS_TO_END = 1.5, 4")
     with Keeper(tmp_path, tool=tool) as keeper, keeper.raw("ann") as stream:
         stream.sendall(LOAD + b"ADVANCE a 1\n")
         assert [first_line(stream) for _ in range(3)][-1] == b"OK ADVANCE a 1\n"
@@ -623,7 +623,7 @@ def test_steps_of_a_day(tmp_path: pathlib.Path) -> None:
 def test_nobody_is_kicked_where_no_front_is(tmp_path: pathlib.Path) -> None:
     tool = patched("import keeping.kick; keeping.kick.SECONDS_TO_WAIT = 0.2")
     with Keeper(tmp_path, tool=tool) as keeper:
-        until(keeper.is_ready)
+        assert keeper.told(b"LIST\n", "ann") == HELLO + b"OK LIST 0\n"
         keeper.end()
         done = subprocess.run([*tool, str(keeper.folder), "--kick", "ann"], capture_output=True, text=True, timeout=SECONDS)
         assert (done.returncode, done.stderr) == (1, f"keep: no front uses {keeper.folder}\n")

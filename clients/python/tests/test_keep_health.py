@@ -52,7 +52,7 @@ def test_figures_of_users_and_of_the_store(tmp_path: pathlib.Path) -> None:
         loaded(stream)
         until(lambda: values(keeper)["ljserve_up"] == 1)
         told = values(keeper)
-        assert [told[f'ljserve_users{{state="{state}"}}'] for state in ("ready", "put_back", "stopped")] == [2, 0, 0]
+        assert [told[f'ljserve_users{{state="{state}"}}'] for state in ("ready", "put_back", "stopped")] == [1, 0, 0]
         assert (told["ljserve_users_in"], told["ljserve_restarts_total"], told["ljserve_put_back_seconds_left"]) == (1, 0, 0)
         assert (told["ljserve_records"], told["ljserve_record_bytes"]) == (2, len(LOAD + b"ADVANCE a 1\n"))
         assert told["ljserve_syncs_total"] >= 1 and told["ljserve_sync_seconds_total"] >= 0
@@ -91,7 +91,7 @@ def test_who_asks_whether_it_is_well_is_not_counted(tmp_path: pathlib.Path) -> N
 
 
 def test_a_server_that_is_gone_or_hangs(tmp_path: pathlib.Path) -> None:
-    tool = patched("import keeping.front; keeping.front.SECONDS_TO_ANSWER, keeping.front.SECONDS_TO_END = 1.5, 4")
+    tool = patched("import keeping.hosts; keeping.hosts.SECONDS_TO_ANSWER, keeping.hosts.SECONDS_TO_END = 1.5, 4")
     with Keeper(tmp_path, *METRICS, tool=tool) as keeper:
         until(lambda: asked(keeper, "/healthz") == (200, "ok\n"))
         os.kill(keeper.server(), signal.SIGSTOP)
@@ -124,7 +124,8 @@ def test_an_address_that_is_none_or_taken(tmp_path: pathlib.Path) -> None:
 
 
 KNOWN: Dict[str, Any] = {
-    "since": 0, "process": 1, "at": "127.0.0.1:1", "begun": 3, "last_end": "", "end": "", "server": 7, "syncs": 4, "sync_seconds": 0.5,
+    "since": 0, "process": 1, "at": "127.0.0.1:1", "begun": 3, "last_end": "", "end": "", "server": 7, "restarts": 2,
+    "servers": [{"process": 7}], "syncs": 4, "sync_seconds": 0.5,
     "users": {
         "ann": {"state": "is put back", "why": None, "records": 3, "bytes": 70, "left": 6.9, "today": {}},
         "ben": {"state": "stopped", "why": "what is kept is damaged"},

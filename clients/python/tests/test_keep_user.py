@@ -12,11 +12,11 @@ from keepers import HELLO, LOAD, LOADED, TOKEN
 from support import TOP, present
 
 sys.path += [str(TOP / "tools"), str(TOP / "conformance")]
-from keeping.accounts import accounts_at, server_text, user_of  # noqa: E402
+from keeping.accounts import Account, accounts_at, user_of  # noqa: E402
 from keeping.allowance import Allowance, Allowances, today  # noqa: E402
 from keeping.items import ItemReader, ReplyReader  # noqa: E402
 from keeping.store import Kept  # noqa: E402
-from keeping.server import Words  # noqa: E402
+from keeping.server import Words, users_text  # noqa: E402
 from keeping.user import MAX_SENT, User  # noqa: E402
 from reference import User as Reference  # noqa: E402
 from reference import replies_to  # noqa: E402
@@ -372,7 +372,7 @@ def test_who_is_a_user(tmp_path: pathlib.Path) -> None:
     path = tmp_path / "users"
     path.write_text(f"# users\n\n ann\t{TOKEN}  1 2 3 \nben {'b' * 32} 0 0 0\n")
     accounts = accounts_at(path)
-    assert server_text(accounts, {"ann": "x", "ben": "y"}) == b"ann x 1 2 3\nben y 0 0 0\n"
+    assert [*accounts.values()] == [Account(TOKEN.encode(), "1 2 3"), Account(b"b" * 32, "0 0 0")]
     assert user_of(f" HELLO\tann {TOKEN}\r".encode(), accounts) == "ann"
     for words in (f"ann {'b' * 32}", f"cleo {TOKEN}", f"ann {TOKEN} x", f"ann {TOKEN[:-1]}", "ann", "\xe9 x"):
         assert user_of(f"HELLO {words}".encode("latin-1"), accounts) is None
@@ -382,6 +382,7 @@ def test_who_is_a_user(tmp_path: pathlib.Path) -> None:
 
 
 def test_what_begins_the_server() -> None:
+    assert users_text("1 2 3", "x").splitlines() == [*(b"user%d x 1 2 3" % number for number in range(1, 63)), b"watcher x 0 0 0"]
     words = Words([sys.executable, "serve", "--workers", "4", "--users", "FILE", "--pool", "queue"])
     own = ["--listen", "127.0.0.1:4001", "--connections", "1000000", "--users", "/proc/self/fd/9"]
     assert (words.users, words.command(4001, 9)) == (
