@@ -5,12 +5,20 @@ import pathlib
 import re
 import subprocess
 import sys
+from argparse import Namespace
 from typing import Any, Dict, Iterator, Tuple
 
 import pytest
 
 from keepers import LOAD, LOADED, TOKEN, TOP, USUAL, Fronts, Keeper, first_line, until
 from support import PROGRAM, SECONDS
+
+sys.path.append(str(TOP / "tools"))
+from keeping.accounts import Account, changes_behind  # noqa: E402
+from keeping.items import Told  # noqa: E402
+from keeping.maintenance import opened  # noqa: E402
+from keeping.place import place_of  # noqa: E402
+from keeping.store import Change, Store  # noqa: E402
 
 DENIED = b"ERR 01 DENIED\n"
 # Of the two atoms after two steps: docs/PROTOCOL.md, "A step in half a page".
@@ -214,6 +222,40 @@ def test_a_store_that_is_not_there(tmp_path: pathlib.Path) -> None:
     status, _, err = users("--store", "postgresql://127.0.0.1:1/none", "--list")
     assert status == 1 and err.startswith("users: ")
     assert users("--list") == (2, "", "users: --renew, --change, --remove, --list and --from go with --store STORE\n")
+
+
+def test_putting_aside_moves_nothing_of_who_is_a_user_anew(store: Any, tmp_path: pathlib.Path, monkeypatch: pytest.MonkeyPatch) -> None:
+    """Also what is damaged is put aside, and one who puts aside too late, by what was read before, moves nothing."""
+    record = Told(b"REVERSE a\n", b"OK REVERSE a -1\n")
+    tokens_of(Namespace(store=store), tmp_path / "slips", "emil")
+    with contextlib.closing(place_of(store, True)) as place:
+        place.begin("127.0.0.1:1", False)
+        one, late = Store(place.base), Store(place.base)
+        assert place.claim("emil") is None and one.put_aside("emil") == "" and one.read("emil").records == []
+        one.write([Change("emil", [record, record])])
+        place.base.write([("delete from record where name = ? and seq = 1", ("emil",))])
+        changed(Namespace(store=store), "emil", "--remove")
+        (row,) = place.base.rows("select removed from account where name = 'emil'")
+        assert one.put_aside("emil") == f"emil.{row[0]}" and one.put_aside("emil") == ""
+        assert one.read("emil").records == []
+        one.write([Change("emil", [record])])
+        monkeypatch.setattr(place.base, "rows", lambda *_: [row])
+        late.put_aside("emil")
+        monkeypatch.undo()
+        assert late.read("emil").records == [record] and f"emil.{row[0]}" in one.names()
+        place.base.write([("delete from record", ())])
+
+
+def test_changes_are_read_by_their_numbers(store: Any, tmp_path: pathlib.Path) -> None:
+    with opened(store) as one:
+        before = changes_behind(one.base, 0)
+        token = tokens_of(Namespace(store=store), tmp_path / "slips", "fay", "gil")["fay"]
+        added = changes_behind(one.base, before.number)
+        assert added.accounts.keys() == {"fay", "gil"} and added.accounts["fay"] == Account(token.encode(), "8 16384 16")
+        changed(Namespace(store=store), "fay", "gil", "--remove")
+        removed = changes_behind(one.base, added.number)
+        assert (removed.accounts, sorted(removed.gone), sorted(removed.aside)) == ({}, ["fay", "gil"], ["fay", "gil"])
+        assert changes_behind(one.base, removed.number) == (removed.number, {}, [], [])
 
 
 def test_a_front_needs_users_of_a_store_or_of_a_file(tmp_path: pathlib.Path) -> None:
