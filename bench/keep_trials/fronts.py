@@ -53,7 +53,7 @@ class Fronts:
         """Kills a front with its server, or so often of 1 a server alone, which is begun again."""
         front = rnd.choice(self.each)
         if rnd.random() < of_servers:
-            front.kill_server()
+            front.kill_one_server(rnd)
         else:
             front.kill()
             front.begin()

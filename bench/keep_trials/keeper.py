@@ -3,6 +3,7 @@ import contextlib
 import json
 import os
 import pathlib
+import random
 import signal
 import socket
 import subprocess
@@ -87,7 +88,7 @@ class Keeper:
         with contextlib.suppress(OSError, ValueError):
             told: Dict[str, Any] = json.loads((self.folder / "status.json").read_text())
             return told
-        return {"server": None, "process": None, "begun": 0, "users": {}}
+        return {"server": None, "process": None, "begun": 0, "users": {}, "servers": []}
 
     def server(self) -> int:
         """The process of the server, as soon as there is one."""
@@ -106,6 +107,14 @@ class Keeper:
         os.kill(before, signal.SIGKILL)
         process: int = until(lambda: (now := int(self.known()["server"] or 0)) != before and now)
         return process
+
+    def kill_one_server(self, rnd: random.Random) -> None:
+        """Kills one of the servers, and waits until there is another one in its place."""
+        restarts = self.known().get("restarts", 0)
+        processes = until(lambda: [each["process"] for each in self.known()["servers"] if each["process"]])
+        with contextlib.suppress(ProcessLookupError):
+            os.kill(rnd.choice(processes), signal.SIGKILL)
+            until(lambda: self.known().get("restarts", 0) > restarts)
 
     def kill(self) -> None:
         """Kills the front, and waits until the server is gone with it."""

@@ -23,8 +23,12 @@ KINDS = {"server": (0.0, False), "ends": (0.15, False), "both": (0.0, True)}
 FRONTS, DATABASES, OF_SERVERS = "fronts", "databases", 0.2
 # How often a kill waits until all is put back, so that others come in the middle of that.
 OFTEN_READY = 0.75
-# A front that takes a snapshot after a few records or a moment of computing, so that kills come within many of them.
-OFTEN = patched("import keeping.user; keeping.user.MAX_RECORDS, keeping.user.SECONDS_OF_BUDGET = 25, 0.05")
+# A front that takes a snapshot after a few records or a moment of computing, so that kills come within many of them, and whose servers
+# lend few names, so that users have them in turn.
+OFTEN = patched(
+    "import keeping.server, keeping.user; del keeping.server.NAMES[2:]\n"
+    "keeping.user.MAX_RECORDS, keeping.user.SECONDS_OF_BUDGET = 25, 0.05"
+)
 
 
 def kill(program: str, kind: str, kills: int, seed: str, options: Sequence[str] = (), is_often: bool = False) -> Dict[str, int]:
@@ -41,7 +45,7 @@ def kill(program: str, kind: str, kills: int, seed: str, options: Sequence[str] 
                 with Fronts(pathlib.Path(top), one, program, users, options, tool, others=[other]) as fronts:
                     return work(fronts, kills, seed, rnd, 0.0, False, partial(kill_first, [one, other]))
         with Keeper(pathlib.Path(top), program, users, options, tool) as keeper:
-            return work(keeper, kills, seed, rnd, *KINDS[kind], partial(kill_and_begin, keeper, kind))
+            return work(keeper, kills, seed, rnd, *KINDS[kind], partial(kill_and_begin, keeper, kind, rnd))
 
 
 def work(
@@ -71,13 +75,13 @@ def kill_first(clusters: List[Cluster]) -> None:
     clusters.reverse()
 
 
-def kill_and_begin(keeper: Keeper, kind: str) -> None:
-    """Kills the server, or the front with it."""
+def kill_and_begin(keeper: Keeper, kind: str, rnd: random.Random) -> None:
+    """Kills a server, or the front with all of them."""
     if kind == "both":
         keeper.kill()
         keeper.begin()
     else:
-        keeper.kill_server()
+        keeper.kill_one_server(rnd)
 
 
 def ended(visitors: List[Visitor]) -> Dict[str, int]:

@@ -21,8 +21,8 @@ MOST_AT_ONCE = 20
 
 
 def quota_of(seed: str, name: str) -> Quota:
-    """The quota of a user."""
-    quota: Quota = Chance(f"{seed} {name}").quota
+    """The quota of a user, which is that of each other one too."""
+    quota: Quota = Chance(f"{seed} {int(name[-1]) % 2}").quota
     return quota
 
 
@@ -48,7 +48,7 @@ class Visitor(threading.Thread):
         self._rnd = random.Random(f"{seed} {name}")
         self._chance = Chance(f"{seed} {name}")
         self._chance.most_atoms = MOST_ATOMS
-        self._account = Account(self._chance.quota)
+        self._account = Account(quota_of(seed, name))
 
     def run(self) -> None:
         try:
