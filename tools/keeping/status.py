@@ -15,11 +15,14 @@ def statuses_of(place: str) -> List[Known]:
     """The status of each front of a place. Raises Fault if there is none."""
     try:
         texts = database_at(place).statuses() if is_address(place) else [pathlib.Path(place, STATUS).read_text()]
-        return [json.loads(text) for text in texts]
+        statuses = [json.loads(text) for text in texts]
     except OSError as error:
         raise Fault(f"cannot read {place}: {error.strerror}") from error
     except ValueError as error:
         raise Fault(f"cannot read {place}: it has no status") from error
+    if not all("servers" in known for known in statuses):
+        raise Fault(f"cannot read {place}: its status is of a keep of before, which may still run there: begin this one in its place")
+    return statuses
 
 
 def tell_status(place: str) -> int:

@@ -1,5 +1,7 @@
 """A server that is kept by `tools/keep`, for its tests: that of bench/keep, with the program of the tests."""
 import contextlib
+import hashlib
+import json
 import sqlite3
 import sys
 from typing import Any, List
@@ -16,9 +18,28 @@ from keep_trials.keeper import TOKEN, USUAL, patched, until  # noqa: E402
 LOAD = f"LOAD a 256 1 131072 rest {len(DIMER)}\n{DIMER}".encode()
 LOADED = b"OK LOAD a 0 2\n"
 HELLO = b"OK HELLO ann\n"
+# The status as it was written before there was a store, by a front that was killed.
+STATUS_OF_BEFORE = json.dumps({
+    "since": 1700000000.5, "process": 96, "begun": 1, "last_end": "", "end": "", "server": 99,
+    "users": {"user": {"state": "ready", "why": None}},
+}) + "\n"  # fmt: skip
 __all__ = [
-    "HELLO", "LOAD", "LOADED", "TOKEN", "TOP", "USUAL", "Cluster", "Fronts", "Keeper", "first_line", "missing", "patched", "until",
+    "HELLO", "LOAD", "LOADED", "STATUS_OF_BEFORE", "TOKEN", "TOP", "USUAL", "Cluster", "Fronts", "Keeper", "first_line", "journal",
+    "missing", "patched", "until",
 ]  # fmt: skip
+
+
+def journal(name: str, records: Any) -> bytes:
+    """A journal as it was written before there was a store, worked out by hand."""
+    text = b"ljserve journal 1 %s\n" % name.encode()
+    told = text
+    for record in records:
+        body = record.reply + record.item
+        told += b"%07d" % len(body)
+        text += b"%07d %s\n" % (len(body), hashlib.sha256(told).hexdigest()[:8].encode())
+        told += body
+        text += body + b"\n%s\n" % hashlib.sha256(told).hexdigest()[:16].encode()
+    return text
 
 
 class Keeper(keeper.Keeper):

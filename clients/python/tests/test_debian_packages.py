@@ -11,8 +11,12 @@ from typing import Any, Dict, Iterator, List
 import pytest
 
 import ljclient
+from keepers import STATUS_OF_BEFORE, journal
 from roots import NoRoot, root_of_its_own
 from support import DIMER, EXAMPLES, PROGRAM, SECONDS, TOP, present
+
+sys.path.append(str(TOP / "tools"))
+from keeping.items import Told  # noqa: E402
 
 if sysconfig.get_platform() != "linux-x86_64":
     pytest.skip("the program is for Linux on x86-64", allow_module_level=True)
@@ -55,6 +59,11 @@ GO_ON = """
 a = user.session("a", edge=256, sigma=1, h=131072)
 print(a.advance(1), a.place(0))
 """
+# By a package of before there was a store.
+RECORDS_OF_BEFORE = [
+    Told(f"LOAD a 256 1 131072 rest {len(DIMER)}\n{DIMER}".encode(), b"OK LOAD a 0 2\n"),
+    Told(b"ADVANCE a 1\n", b"OK ADVANCE a 1\n"),
+]
 INSTALLED = "/usr/lib/python3/dist-packages/ljclient/__init__.py\n"
 
 
@@ -219,7 +228,9 @@ class Service:
         self.settings = "set -a; . /etc/default/ljserve; " + "".join(f"{name}_DIRECTORY={path}; " for name, path in folders.items())
         for before in re.findall("^ExecStartPre=[+](.*)$", text, re.M):
             root.run("sh", "-ec", self.settings + before)
-        (self.command,) = re.findall("^ExecStart=(.*)$", text, re.M)
+        (command,) = re.findall("^ExecStart=(.*)$", text, re.M)
+        # What is not set is an empty word, as systemd has it.
+        self.command = re.sub(r"\$\{\w+\}", r'"\g<0>"', command)
         self.begin()
 
     def begin(self) -> None:
@@ -260,6 +271,7 @@ def test_install_run_upgrade_remove_and_purge(packages: Any, root: Any, tmp_path
     assert service.process.poll() is None
     service.end()
     check_keeping(root)
+    check_taking_over(root)
     check_removal(root, token)
     check_purge(root)
     install(root, upgraded[0])
@@ -274,6 +286,25 @@ def check_keeping(root: Any) -> None:
     service.begin()
     assert root.run("python3", "-c", CONNECT + GO_ON) == INSTALLED + "2 (1774, 0, 0)\n"
     service.end()
+
+
+def check_taking_over(root: Any) -> None:
+    """Holds that a session is there which a package of before there was a store has kept, under settings of before, which had no
+    METRICS."""
+    settings, folder = (root.path / path for path in ("etc/default/ljserve", "var/lib/ljserve"))
+    settings.write_text(re.sub("^METRICS=.*\n", "", settings.read_text(), flags=re.M))
+    for path in folder.iterdir():
+        path.unlink()
+    kept = journal("user", RECORDS_OF_BEFORE)
+    (folder / "user.journal").write_bytes(kept)
+    root.put("var/lib/ljserve/status.json", STATUS_OF_BEFORE)
+    root.run("chown", "--recursive", "ljserve:", "/var/lib/ljserve")
+    assert "its status is of a keep of before" in root.run("ljserve-keep", "--status", "/var/lib/ljserve", status=1)
+    service = Service(root, "ljserve-keep.service")
+    assert root.run("python3", "-c", CONNECT + GO_ON) == INSTALLED + "2 (1774, 0, 0)\n"
+    assert root.run("ljserve-keep", "--status", "/var/lib/ljserve").startswith("runs since ")
+    service.end()
+    assert (folder / "before" / "user.journal").read_bytes() == kept and not (folder / "user.journal").exists()
 
 
 def check_installation(root: Any, packages: Any) -> Any:

@@ -1,7 +1,6 @@
 """The store of `tools/keep`, in either database: what is read is what was written, all of it or none; what an operator does with it;
 and journals of before, which are taken over."""
 import contextlib
-import hashlib
 import itertools
 import os
 import pathlib
@@ -13,6 +12,7 @@ from typing import Any, Iterator, List
 
 import pytest
 
+from keepers import STATUS_OF_BEFORE, journal
 from support import SECONDS, TOP
 
 sys.path.append(str(TOP / "tools"))
@@ -248,19 +248,6 @@ def test_a_store_of_another_format(where: Any) -> None:
 # Journals of before.
 
 
-def journal(name: str, records: Any) -> bytes:
-    """A journal as it was written before there was a store, worked out by hand."""
-    text = b"ljserve journal 1 %s\n" % name.encode()
-    told = text
-    for record in records:
-        body = record.reply + record.item
-        told += b"%07d" % len(body)
-        text += b"%07d %s\n" % (len(body), hashlib.sha256(told).hexdigest()[:8].encode())
-        told += body
-        text += body + b"\n%s\n" % hashlib.sha256(told).hexdigest()[:16].encode()
-    return text
-
-
 def taken(data: bytes) -> List[Any]:
     return list(whole_records(data, "ann"))
 
@@ -300,6 +287,13 @@ def test_journals_are_taken_over_once_and_moved(tmp_path: pathlib.Path) -> None:
         (folder / "ann.journal").write_bytes(journal("ann", RECORDS[:1]))
         assert take_over_all(folder, store, lambda *words: refused.append(words)) == []
         assert "the store has other records" in refused[-1][1] and again(where) == RECORDS
+
+
+def test_a_status_of_before(tmp_path: pathlib.Path) -> None:
+    (tmp_path / "status.json").write_text(STATUS_OF_BEFORE)
+    done = keep("--status", tmp_path)
+    cause = "its status is of a keep of before, which may still run there: begin this one in its place"
+    assert (done.returncode, done.stdout, done.stderr) == (1, "", f"keep: cannot read {tmp_path}: {cause}\n")
 
 
 # What an operator does.
