@@ -283,6 +283,13 @@ def prompt_of_a_server(block: Any, folder: Any) -> None:
         assert folder.shell(at_port(block.text, server.port), "LIST\n") == "OK LIST 0\n"
 
 
+def users_in_a_store(block: Any, folder: Any) -> None:
+    assert folder.shell(block.text) == ""
+    names = [line.split()[0] for line in folder.shell("tools/users --store kept --list").splitlines()]
+    assert len(names) == len(set(names)) == 200
+    assert sorted(re.findall(r"^(\w+) at ", (folder.path / "slips").read_text(), re.M)) == names
+
+
 def before_the_lesson(block: Any, folder: Any) -> None:
     *made, served = block.text.splitlines()
     told = folder.shell("\n".join(made))
@@ -526,6 +533,7 @@ BLOCKS = {
         "apt-get install python3": first_server,
         "apt-get install haproxy": servers_behind_haproxy,
         "tools/keep 127.0.0.1": "clients/python/tests/test_keep.py runs it, at ports that are free",
+        "tools/users 200": users_in_a_store,
         "tools/keep 192.0.2.1": "clients/python/tests/test_keep_fronts.py runs two, over a database of its own",
         "0.0.0.0:4000  2 open": "clients/python/tests/test_watch.py compares such lines, whose times and addresses differ",
         "tools/watch --metrics": "clients/python/tests/test_watch_metrics.py runs it, at ports that are free",
