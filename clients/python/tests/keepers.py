@@ -3,8 +3,9 @@ import contextlib
 import hashlib
 import json
 import sqlite3
+import subprocess
 import sys
-from typing import Any, List
+from typing import Any, List, Tuple
 
 from ljclient import connect
 from support import DIMER, PROGRAM, SECONDS, TOP
@@ -24,8 +25,8 @@ STATUS_OF_BEFORE = json.dumps({
     "users": {"user": {"state": "ready", "why": None}},
 }) + "\n"  # fmt: skip
 __all__ = [
-    "HELLO", "LOAD", "LOADED", "STATUS_OF_BEFORE", "TOKEN", "TOP", "USUAL", "Cluster", "Fronts", "Keeper", "first_line", "journal",
-    "missing", "patched", "until",
+    "HELLO", "LOAD", "LOADED", "STATUS_OF_BEFORE", "TOKEN", "TOP", "USUAL", "Cluster", "Fronts", "Keeper", "ended", "first_line",
+    "journal", "missing", "patched", "until",
 ]  # fmt: skip
 
 
@@ -40,6 +41,13 @@ def journal(name: str, records: Any) -> bytes:
         told += body
         text += body + b"\n%s\n" % hashlib.sha256(told).hexdigest()[:16].encode()
     return text
+
+
+def ended(folder: Any, words: Any) -> Tuple[Any, Any]:
+    """The status of the tool, and what it says of a fault."""
+    tool = [sys.executable, str(TOP / "tools" / "keep")]
+    done = subprocess.run([*tool, *words], cwd=folder, capture_output=True, text=True, timeout=SECONDS)
+    return done.returncode, done.stderr
 
 
 class Keeper(keeper.Keeper):

@@ -11,12 +11,12 @@ import stat
 import subprocess
 import sys
 import threading
-from typing import Any, Iterator, List, Tuple
+from typing import Any, List
 
 import pytest
 
-from keepers import HELLO, LOAD, LOADED, TOKEN, USUAL, Keeper, first_line, patched, until
-from support import PROGRAM, SECONDS, TOP, dimer
+from keepers import HELLO, LOAD, LOADED, TOKEN, USUAL, Keeper, ended, first_line, patched, until
+from support import SECONDS, TOP, dimer
 from test_watch import reset
 
 # Of the two atoms after two steps: docs/PROTOCOL.md, "A step in half a page".
@@ -373,52 +373,6 @@ def test_who_is_gone_in_the_middle_has_done_what_the_server_had(tmp_path: pathli
         assert keeper.told(b"LIST\n", "ann") in {HELLO + b"OK LIST 1\na %d 2 0\n" % step for step in (2000, 2001)}
 
 
-ENDS = {
-    "BYE": (b"LIST\nBYE\nLIST\n", b"OK LIST 0\nOK BYE\n"),
-    "BODY": (b"LOAD a\nLIST\n", b"ERR 04 BODY\n"),
-    "LONG": (b"x" * 65536 + b"LIST\n", b"ERR 05 LONG\n"),
-    "no line feed": (b"LIST\nLIST", b"OK LIST 0\n"),
-    "a body that is cut short": (b"LOAD a 256 1 1 rest 12\n1\n", b""),
-    "another HELLO": (f"HELLO ann {TOKEN}\n".encode(), b"ERR 06 COMMAND\n"),
-}
-
-
-@pytest.fixture(scope="module")
-def kept(tmp_path_factory: pytest.TempPathFactory) -> Iterator[Any]:
-    with Keeper(tmp_path_factory.mktemp("kept")) as keeper:
-        yield keeper
-
-
-@pytest.mark.parametrize("sent, told", ENDS.values(), ids=ENDS)
-def test_how_a_connection_ends(kept: Any, sent: Any, told: Any) -> None:
-    assert kept.told(sent, "ann") == HELLO + told
-
-
-FIRST_LINES = {
-    "no HELLO": b"LIST\n",
-    "a long line": f"HELLO ann {TOKEN}{' ' * 257}\n".encode(),
-    "another name": f"HELLO ben {TOKEN}\n".encode(),
-    "more words": f"HELLO ann {TOKEN} x\n".encode(),
-    "an empty line": b"\n",
-    "no end of it": b"x" * 300,
-}
-
-
-@pytest.mark.parametrize("line", FIRST_LINES.values(), ids=FIRST_LINES)
-def test_who_is_denied(kept: Any, line: Any) -> None:
-    with socket.create_connection(("127.0.0.1", kept.port), SECONDS) as stream:
-        stream.sendall(line)
-        assert (first_line(stream), stream.recv(1)) == (DENIED, b"")
-
-
-def test_a_first_line_with_tabs_and_in_pieces(kept: Any) -> None:
-    with socket.create_connection(("127.0.0.1", kept.port), SECONDS) as stream:
-        for byte in f"\tHELLO \tann {TOKEN}\r\nLI".encode():
-            stream.sendall(bytes([byte]))
-        stream.sendall(b"ST\n")
-        assert (first_line(stream), first_line(stream)) == (HELLO, b"OK LIST 0\n")
-
-
 def test_a_client_that_does_not_read_holds_nobody_else_up(tmp_path: pathlib.Path) -> None:
     def send(stream: Any) -> None:
         with contextlib.suppress(OSError):
@@ -456,60 +410,6 @@ def test_behind_a_balancer(tmp_path: pathlib.Path) -> None:
         assert until(lambda: keeper.events("ended"))[0]["from"] == "192.0.2.7:4242"
         assert keeper.told(b"", "ann") == b""
         assert until(lambda: keeper.events("not in"))[0]["refusal"] == "no PROXY header: the first bytes are none"
-
-
-WORDS = {
-    "nothing": [],
-    "no store": ["127.0.0.1:0", "--", PROGRAM, "serve", "--users", "x"],
-    "a store that is no folder": ["127.0.0.1:0", "postgresql://x", "--", PROGRAM, "serve", "--users", "x"],
-    "two commands": ["kept", "--repair", "ann", "--export", "ann"],
-    "no store of a command": ["--export", "ann"],
-    "no server": ["127.0.0.1:0", "kept"],
-    "no address": ["x", "kept", "--", PROGRAM, "serve", "--users", "x"],
-    "no users": ["127.0.0.1:0", "kept", "--", PROGRAM, "serve"],
-    "--listen": ["127.0.0.1:0", "kept", "--", PROGRAM, "serve", "--users", "x", "--listen", "127.0.0.1:4001"],
-    "no program": ["127.0.0.1:0", "kept", "--", "./none", "serve", "--users", "x"],
-    "no steps a day": ["--steps-a-day", "0", "127.0.0.1:0", "kept", "--", PROGRAM, "serve", "--users", "x"],
-    "another --sync": ["--sync", "never", "127.0.0.1:0", "kept", "--", PROGRAM, "serve", "--users", "x"],
-}
-
-
-@pytest.mark.parametrize("words", WORDS.values(), ids=WORDS)
-def test_words_that_are_none(tmp_path: pathlib.Path, words: Any) -> None:
-    status, err = ended(tmp_path, words)
-    assert status == 2 and err.startswith("keep: ") and not list(tmp_path.iterdir())
-
-
-def ended(folder: Any, words: Any) -> Tuple[Any, Any]:
-    """The status of the tool, and what it says of a fault."""
-    tool = [sys.executable, str(TOP / "tools" / "keep")]
-    done = subprocess.run([*tool, *words], cwd=folder, capture_output=True, text=True, timeout=SECONDS)
-    return done.returncode, done.stderr
-
-
-def test_what_cannot_be_begun(tmp_path: pathlib.Path, kept: Any) -> None:
-    server = ["--", PROGRAM, "serve", "--users", str(kept.users)]
-    status, err = ended(tmp_path, ["127.0.0.1:0", str(kept.folder), *server])
-    assert (status, err) == (1, f"keep: {kept.folder} is in use\n")
-    status, err = ended(tmp_path, [f"127.0.0.1:{kept.port}", "kept", *server])
-    assert (status, err) == (1, f"keep: cannot listen on 127.0.0.1:{kept.port}: Address already in use\n")
-    (tmp_path / "open").mkdir(mode=0o755)
-    status, err = ended(tmp_path, ["127.0.0.1:0", "open", *server])
-    assert (status, err) == (1, "keep: the mode of open lets others in: `chmod 700` leaves it to its owner\n")
-    status, err = ended(tmp_path, ["127.0.0.1:0", "kept", *server[:-1], "none"])
-    assert (status, err) == (2, "keep: cannot read none: No such file or directory\n")
-    (tmp_path / "bad").write_text(f"ann {TOKEN} 8 16384\n")
-    status, err = ended(tmp_path, ["127.0.0.1:0", "kept", *server[:-1], "bad"])
-    assert (status, err) == (2, "keep: bad: line 1: it has 4 words, and not 5: name, token, sessions, atoms, branches\n")
-    status, err = ended(tmp_path, ["--status", "none"])
-    assert (status, err) == (1, "keep: cannot read none: No such file or directory\n")
-
-
-def test_words_of_the_server_that_are_none(tmp_path: pathlib.Path, kept: Any) -> None:
-    words = ["127.0.0.1:0", "kept", "--", PROGRAM, "serve", "--users", str(kept.users), "--workers", "99"]
-    status, err = ended(tmp_path, words)
-    assert status == 2 and "--workers" in err
-    assert "the server cannot be begun: it ended with status 2" in (tmp_path / "kept" / "status.json").read_text()
 
 
 def is_well(keeper: Any) -> Any:
@@ -644,7 +544,10 @@ def test_who_never_reads_the_last_replies_is_let_go(tmp_path: pathlib.Path, last
         if not last:
             deaf.shutdown(socket.SHUT_WR)
         assert keeper.told(b"LIST\n", "ann") == HELLO + b"OK LIST 1\na 0 2000 0\n"
-        assert [each["commands"] for each in until(lambda: keeper.events("ended")[1:] and keeper.events("ended"))] == [1, 2 + bool(last)]
+        assert [each["commands"] for each in until(lambda: keeper.events("ended")[1:] and keeper.events("ended"))] == [
+            1,
+            2 + bool(last),
+        ]
         with deaf.makefile("rb") as replies:
             assert 1000 < len(replies.read()) < 30_000  # the DUMP has twice as much
 
