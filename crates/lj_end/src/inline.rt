@@ -70,6 +70,8 @@ impl PoolEnd for InlinePool {
 
     ghost most = { 1 };
 
+    ghost takes_all = { true };
+
     fn post_from(&mut self, task: &TaskRef<'_>, _wait: bool) -> Result<(), NotPosted<Infallible>>
         ensures free { IsOk result ↔ (self.old.owed ≡ None) }
         ensures posted { OnOk result (self.new ≡ record self.old { owed = Some task.now; last = task.now }) }

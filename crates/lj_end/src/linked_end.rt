@@ -145,6 +145,8 @@ impl<C: Copy + Drop, X: PoolLink<C>> PoolEnd for LinkedEnd<X, C> {
 
     ghost most = { MAX_OWED };
 
+    ghost takes_all = { false };
+
     fn post_from(&mut self, task: &TaskRef<'_>, wait: bool) -> Result<(), NotPosted<C>>
         requires room { length self.old.seen.owed < MAX_OWED }
         ensures pushed { OnOk result (X.pushed task.now self.old.link self.new.link) }

@@ -1,5 +1,5 @@
 //! The interface of a pool to a caller who posts tasks: an end that takes tasks and hands out results.
-ghost use Rattle.std.specs.Prelude.{◌≡◌, ◌+◌, ◌<◌, ◌≤◌, ◌↔◌, ℕ, Bool, length, take, true, false, [], IfErr, IfNone, IfSome, OnErr, OnOk, OnSome};
+ghost use Rattle.std.specs.Prelude.{◌≡◌, ◌+◌, ◌<◌, ◌≤◌, ◌↔◌, ℕ, Bool, length, take, true, false, [], IfErr, IfNone, IfSome, IsOk, OnErr, OnOk, OnSome};
 ghost use Rattle.std.specs.List.{All};
 ghost use Rattle.lj_task.specs.Task.{Task};
 ghost use Rattle.lj_end.specs.Seen.{Seen, SameOwed, ArePosted, IsPosted, IsHandedOut, StaysClosed};
@@ -72,6 +72,9 @@ pub trait PoolEnd {
     // how many tasks are owed to a full end
     ghost most: { ℕ };
 
+    // whether a post is never refused while fewer are owed
+    ghost takes_all: { Bool };
+
     /// Posts a task. With `wait` it waits for room, and never refuses the task as `Full`.
     fn post_from(&mut self, task: &TaskRef<'_>, wait: bool) -> Result<(), NotPosted<Self::Closed>>
         requires room { length (seen self.old).owed < MAX_OWED }
@@ -79,6 +82,7 @@ pub trait PoolEnd {
         ensures posted { OnOk result (IsPosted task.now (seen self.old) (seen self.new)) }
         ensures unchanged { OnErr result (SameOwed (seen self.old) (seen self.new)) }
         ensures full { wait ≡ true → IfErr result IsPoolClosed }
+        ensures taken { takes_all ≡ true → length (seen self.old).owed < most → IsOk result }
         ensures closed { IfErr result (λ why. IsPoolClosed why → (seen self.new).closed ≡ true) }
         ensures stays_closed { StaysClosed (seen self.old) (seen self.new) }
         ensures kept { uncounted self.new ≡ uncounted self.old }
@@ -90,6 +94,7 @@ pub trait PoolEnd {
     fn post_some(&mut self, tasks: &TaskList<'_>) -> usize
         requires room { length (seen self.old).owed + length tasks.now ≤ MAX_OWED }
         ensures most { result ≤ length tasks.now }
+        ensures all { takes_all ≡ true → length (seen self.old).owed + length tasks.now ≤ most → result ≡ length tasks.now }
         ensures posted { ArePosted (take result tasks.now) (seen self.old) (seen self.new) }
         ensures stays_closed { StaysClosed (seen self.old) (seen self.new) }
         ensures kept { uncounted self.new ≡ uncounted self.old }
@@ -155,7 +160,8 @@ pub trait PoolEnd {
     fn room(&self) -> usize
         ensures none { result ≡ 0 ↔ (length (seen self.now).owed ≡ most) }
         ensures owes { result ≡ 0 → 0 < length (seen self.now).owed }
-        ensures within { 0 < result → length (seen self.now).owed + result ≤ MAX_OWED };
+        ensures within { 0 < result → length (seen self.now).owed + result ≤ MAX_OWED }
+        ensures fits { 0 < result → length (seen self.now).owed + result ≤ most };
 
     /// Returns whether the end has seen the pool closed.
     fn is_closed(&self) -> bool

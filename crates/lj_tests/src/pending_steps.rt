@@ -1,5 +1,5 @@
 //! Streams that leave sessions with pending steps, which the next stream runs over a pool that may close at any of its calls.
-ghost use Rattle.std.specs.Prelude.{◌≡◌, IsSome};
+ghost use Rattle.std.specs.Prelude.{◌≡◌, IsSome, false};
 ghost use Rattle.lj_end.specs.Seen.{nothing_seen};
 
 use arrayvec::ArrayVec;
@@ -59,6 +59,8 @@ impl PoolEnd for ClosingPool {
     ghost for_others = { λ _ _. 0 };
 
     ghost most = { 1 };
+
+    ghost takes_all = { false };
 
     fn post_from(&mut self, task: &TaskRef<'_>, wait: bool) -> Result<(), NotPosted<CallsSpent>> {
         if !self.is_open() {

@@ -1,5 +1,5 @@
 //! What a connection is answered over pools that hand out strays, or that are closed.
-ghost use Rattle.std.specs.Prelude.{◌≡◌, ◌↔◌, None, Some, IfSome, IsTrue, ⊤};
+ghost use Rattle.std.specs.Prelude.{◌≡◌, ◌↔◌, None, Some, IfSome, IsTrue, false, ⊤};
 
 use arrayvec::ArrayVec;
 use lj_pool::{NotPosted, PoolEnd, Served, serve_lines};
@@ -99,6 +99,8 @@ impl PoolEnd for OddPool {
     ghost for_others = { λ _ _. 0 };
 
     ghost most = { 1 };
+
+    ghost takes_all = { false };
 
     fn post_from(&mut self, task: &TaskRef<'_>, _wait: bool) -> Result<(), NotPosted<OddClosed>> {
         if self.posts == 0 {
