@@ -9,7 +9,7 @@ use Rattle.std.proofs.lemmas.List.Sums.{sum_by-cons}
 use Rattle.std.proofs.lemmas.Option.{none-some, same_Some}
 use Rattle.lj_task.specs.Task.{Task}
 use Rattle.lj_session.specs.UserState.{LiveSession, UserState, IsAtWork, live_session, pending_in, loaded_names, with_step_restarted, with_steps_restarted}
-use Rattle.lj_session.specs.Owner.{Owner, owner_of_state, label_of, has_pending, is_busy}
+use Rattle.lj_session.specs.Owner.{Owner, owner_of_state, label_of, has_pending, is_busy, next_task_of}
 use Rattle.lj_session.proofs.AtWork.{at_work-rested, kind-none}
 use Rattle.lj_session.proofs.Entries.{by_test, named-seen}
 use Rattle.lj_session.proofs.Holding.{pending-of}
@@ -17,7 +17,7 @@ use Rattle.lj_engine.specs.Gathering.{IsGathered, is_of_session, tasks_posted_of
 use Rattle.lj_engine.specs.Counting.{pending_tiles, tiles_pending}
 use Rattle.lj_engine.specs.Coming.{tiles_of_session, state_tiles_coming}
 use Rattle.lj_engine.proofs.Sessions.{same_name, sum-below, find-none-named}
-use Rattle.lj_engine.proofs.Gathered.{Opened, owed_wanted, taken_open}
+use Rattle.lj_engine.proofs.Gathered.{Opened, Posting, owed_wanted, posting, taken_open}
 use Rattle.lj_engine.proofs.Tiles.{rest-tiles, rest-pending, rest-more, rest-gathered, rest-posted, closed-part, closed-posted}
 
 -- sums over the sessions of a state begun anew
@@ -156,6 +156,18 @@ module _ (owner : Owner) (owed : List Task) (t : Gathers owner owed) (idle : own
       by : (ws : List Task) → owed ≡ ws → owed ≡ []
       by [] e = e
       by (w ∷ ws) e = absurd (not_none w ws e (none w.name.label.session))
+
+  -- where no step is pending, no tile waits to be posted
+  pub quiet-next : NonePending owner.state → next_task_of owner ≡ None
+  quiet-next none = by (next_task_of owner) refl
+    where
+      by : (o : Option Task) → next_task_of owner ≡ o → next_task_of owner ≡ None
+      by None e = e
+      by (Some task) e =
+          let p : Posting owner owed t task = posting owner owed t task e in
+          let quiet = pending-of owner.state p.name p.session p.there (none p.name) in
+          absurd (none-some p.step (sym (closed-part p.session.live.part
+          (work p.name p.session p.there ∙ kind-none None p.name p.session quiet refl)) ∙ p.is_open))
 
   -- the session of each task that it owes has a pending step
   pub owed-pending : (task : Task) → Contains owed task → 0 < pending_in owner.state task.name.label.session

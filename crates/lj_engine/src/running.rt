@@ -9,7 +9,7 @@ ghost use Rattle.lj_engine.specs.Gathering.{Gathers, NonePending};
 ghost use Rattle.lj_engine.specs.PendingBounds.{leaves_pending};
 ghost use Rattle.lj_engine.specs.Counting.{FallsShort, StraysRise};
 ghost use Rattle.lj_engine.specs.Coming.{GoesOn, posts_coming, tiles_coming};
-ghost use Rattle.lj_engine.specs.Posting.{AreEnds, AreNext, after_posts};
+ghost use Rattle.lj_engine.specs.Posting.{AreEnds, AreNext, HasPostedAll, PostsAhead, after_posts};
 ghost use Rattle.lj_engine.specs.Running.{AnswersNext, AnswersPending, FetchesStray, IsHalted, IsSameUser, LeavesUnanswered};
 
 use lj_end::{MAX_AHEAD, MAX_POSTS, MAX_STRAYS, NotPosted, PoolEnd, TaskList};
@@ -92,6 +92,8 @@ pub(crate) fn work_ahead<P: PoolEnd>(
     requires gathers { Gathers owner.old (P.seen pool.old).owed }
     ensures goes_on { GoesOn owner.old (P.seen pool.old) owner.new (P.seen pool.new) }
     ensures quiet { IfOk result (λ pending. pending ≡ false → NonePending owner.new.state) }
+    ensures posts { OnOk result
+        (PostsAhead P.takes_all P.most owner.old (P.seen pool.old) owner.new (P.seen pool.new)) }
     ensures few { OnOk result (length (P.seen pool.new).owed ≤ MAX_AHEAD) }
     ensures many { OnErr result (MAX_AHEAD < length (P.seen pool.new).owed) }
     ensures halted { IfErr result (λ halt. IsHalted halt (P.seen pool.old) (P.seen pool.new)) }
@@ -155,6 +157,7 @@ fn turn_whole<P: PoolEnd>(owner: &mut Owner, pool: &mut P)
 fn post_all<P: PoolEnd>(owner: &mut Owner, pool: &mut P)
     requires gathers { Gathers owner.old (P.seen pool.old).owed }
     ensures goes_on { GoesOn owner.old (P.seen pool.old) owner.new (P.seen pool.new) }
+    ensures all { HasPostedAll P.takes_all P.most owner.new (P.seen pool.new) }
     ensures counted { P.uncounted pool.old ≡ false → P.uncounted pool.new ≡ false }
     ensures own { let user = owner.old.number in P.for_others pool.new user ≡ P.for_others pool.old user }
 {
@@ -166,6 +169,7 @@ fn post_some<P: PoolEnd>(owner: &mut Owner, pool: &mut P) -> bool
     requires gathers { Gathers owner.old (P.seen pool.old).owed }
     ensures goes_on { GoesOn owner.old (P.seen pool.old) owner.new (P.seen pool.new) }
     ensures fewer { result ≡ true → posts_coming owner.new < posts_coming owner.old }
+    ensures all { result ≡ false → HasPostedAll P.takes_all P.most owner.new (P.seen pool.new) }
     ensures counted { P.uncounted pool.old ≡ false → P.uncounted pool.new ≡ false }
     ensures own { let user = owner.old.number in P.for_others pool.new user ≡ P.for_others pool.old user }
 {
