@@ -12,8 +12,8 @@ use Rattle.lj_program.specs.declared.serve.shared_directory.EntryOutcome.TheVari
 abbrev pub IsCrowded : List UserRow → List ℕ → List ℕ → Type 0
 IsCrowded rows name token = IsSomeAnd (tickets_out_of rows name token) (λ out. MAX_WAITING < out)
 
--- The outcome is that of this ticket, which is one of these users. A state lent to it is one that commands reach, and the latest in
--- the history of its user.
+-- The outcome is that of this ticket. A state lent to it is one that commands reach, and the latest in the history of its user
+-- among these users.
 abbrev pub IsOutcome : {J : Type 0} → List User → Ticket → EntryOutcome J → Type 0
 IsOutcome users ticket (Entered lent seen) = (lent.ticket ≡ ticket) × Reached lent.state × EntersLatest users ticket lent.state seen
 IsOutcome users ticket (Closed seen) = Unit {0}

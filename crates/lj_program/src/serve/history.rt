@@ -273,8 +273,10 @@ impl<J: HistoryIdentity> Model for SeenHistory<J> {
 }
 
 impl<J: HistoryIdentity> SeenHistory<J> {
+    /// Compares two beginnings of histories, and changes nothing.
+    ///
     /// Promise: of two beginnings of a user's history, whoever has seen them, one begins the other.
-    pub fn is_one_with(&self, other: &SeenHistory<J>)
+    pub fn compare_with(&self, other: &SeenHistory<J>)
         ensures { self.now.user ≡ other.now.user
             → IsPrefix self.now.states other.now.states ⊎ IsPrefix other.now.states self.now.states }
     {

@@ -2,7 +2,7 @@ use Rattle.std.proofs.Common.{ap, subst, List}
 use mathlib.Core.List.{IsPrefix}
 use Rattle.lj_session.specs.UserState.{UserState}
 use Rattle.lj_program.proofs.Noted.{prefixes_of_one}
-use Rattle.lj_program.proofs.serve.history.SeenHistory.is_one_with.Goals as goal
+use Rattle.lj_program.proofs.serve.history.SeenHistory.compare_with.Goals as goal
 
 pub returns-then-self-other : goal.returns-then-self-other
 returns-then-self-other g c same =
