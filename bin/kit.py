@@ -79,15 +79,22 @@ JOB_SHARE = 0.6  # what part of a check's memory each further job takes, as the 
 MEMORY_SHARE = 1.3  # what is begun may have so much of the free memory by the kit's estimates: checks here take 35 to 65 of 100 of these
 
 
+def lines_of(name: str) -> int:
+    """The lines of a crate's sources, definitions and proofs: the more there are, the longer its proof takes."""
+    parts = ((TOP / "crates" / name / part).glob("**/*") for part in ("src", "specs", "proofs"))
+    return sum(path.read_bytes().count(b"\n") for part in parts for path in part if path.suffix in (".rt", ".antt"))
+
+
 class Lanes:
     """Tasks that run and are left, in place of the kit's `in_lanes`: those on the longest chain first, of which the first has half of the
-    processors, or what nothing else could use. Jobs beyond the processors would slow the others by the memory's bandwidth."""
+    processors, or what nothing else could use. Jobs beyond the processors would slow the others by the memory's bandwidth. Tasks that
+    fill stand back, so a proof begins beside them as if they were not there."""
 
     def __init__(self, rt: Any, tasks: Dict[Key, Task]) -> None:
         # For each task the lines of the longest chain of those that wait for it, with its own. It comes after those that it waits for.
         self.tasks, self.behind = tasks, {key: 0 for key in tasks}
         for key in reversed(list(tasks)):
-            self.behind[key] += tasks[key][1]
+            self.behind[key] += lines_of(key[0]) if key[1] == "proof" else tasks[key][1]
             for below in tasks[key][0]:
                 self.behind[below] = max(self.behind[below], self.behind[key])
         self.left = sorted(tasks, key=lambda key: (key[1] in FILLS, -self.behind[key]))
@@ -121,7 +128,8 @@ class Lanes:
         """Begins a task, if it fits."""
         jobs = self.jobs(key, is_first)
         need = self.tasks[key][2] * (1 + JOB_SHARE * (jobs - 1))
-        used, taken = (sum(each) for each in zip(*self.running.values())) if self.running else (0, 0)
+        used = sum(others for other, (others, _) in self.running.items() if key[1] in FILLS or other[1] not in FILLS)
+        taken = sum(memory for _, memory in self.running.values())
         if self.running and taken + need > self.memory or not is_first and used + jobs > self.processors:
             return False
         self.left.remove(key)

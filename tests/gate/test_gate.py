@@ -6,6 +6,7 @@ import pathlib
 import shutil
 import subprocess
 import sys
+import threading
 from typing import Any, Dict, List, Tuple
 
 import pytest
@@ -13,6 +14,8 @@ import pytest
 TOP = pathlib.Path(__file__).resolve().parents[2]
 sys.path.insert(0, str(TOP / "bin"))
 import kit  # noqa: E402
+
+SECONDS = 20
 
 # A kit's command that tells how it is begun, and ends with a status of its own. As a module it has some functions.
 STAND_IN = """#!{python}
@@ -163,6 +166,43 @@ def test_tasks_run_after_those_that_they_wait_for() -> None:
     given = kit.Lanes(Kit, tasks).run()
     assert given == {(name, "proof"): name.upper() for name in "abcde"}
     assert ended.index("a") < ended.index("c") < ended.index("d") < ended.index("e") and ended.index("b") < ended.index("d")
+
+
+def test_a_proof_waits_for_no_edits(tmp_path: pathlib.Path) -> None:
+    """Edits on all processors, each of which ends once the proof has begun."""
+    begun = threading.Event()
+
+    def edits(given: Dict[kit.Key, Any], jobs: int) -> bool:
+        return begun.wait(SECONDS)
+
+    def proof(given: Dict[kit.Key, Any], jobs: int) -> bool:
+        begun.set()
+        return True
+
+    first: Dict[kit.Key, kit.Task] = {("a", "proof"): ([], 1, 1.0, lambda given, jobs: True)}
+    tried: Dict[kit.Key, kit.Task] = {("a", "edits", n): ([], 1, 1.0, edits) for n in range(Kit.processors())}
+    last: Dict[kit.Key, kit.Task] = {("b", "proof"): ([("a", "proof")], 1, 1.0, proof)}
+    assert all(kit.Lanes(Kit, {**first, **tried, **last}).run().values())
+
+
+def test_the_crate_with_the_longest_proofs_behind_it_comes_first(monkeypatch: pytest.MonkeyPatch, tmp_path: pathlib.Path) -> None:
+    """By the lines of sources, definitions and proofs, whatever the kit counts."""
+    monkeypatch.setattr(kit, "TOP", tmp_path)
+    files = {
+        "a/src/lib.rt": 9,
+        "b/src/lib.rt": 2,
+        "b/specs/A.antt": 4,
+        "b/proofs/x/Y.antt": 8,
+        "b/must-fail/z.edit": 50,
+        "c/out/D.antt": 50,
+    }
+    for file, lines in files.items():
+        path = tmp_path / "crates" / file
+        path.parent.mkdir(parents=True)
+        path.write_text("\n" * lines)
+    assert [kit.lines_of(name) for name in "abcd"] == [9, 14, 0, 0]
+    tasks: Dict[kit.Key, kit.Task] = {(name, "proof"): ([], lines, 1.0, lambda given, jobs: None) for name, lines in (("a", 9), ("b", 2))}
+    assert [name for name, _ in kit.Lanes(Kit, tasks).left] == ["b", "a"]
 
 
 def test_what_a_task_raises_is_raised() -> None:
