@@ -1,0 +1,165 @@
+"""The program for other machines than x86-64: the proved module, compiled by the kit's clang for another target and linked.
+
+`rattle build` proves a program, lowers it to one LLVM module for x86-64, and calls clang for it. Here clang is a script that keeps the
+module too, which is then compiled once more. What the module calls is in packaging/wasm/host.c. The lowering is for x86-64, and
+clang for another machine is no part of the proof: conformance/ is tried on what comes out.
+"""
+
+import re
+import shlex
+import shutil
+import subprocess
+from pathlib import Path
+from typing import Any, List
+
+from kit import TOP
+
+WASM_LAYOUT = "e-m:e-p:64:64-p10:8:8-p20:8:8-i64:64-i128:128-n32:64-S128"
+WASM_FEATURES, LANES = "+bulk-memory,+bulk-memory-opt,+mutable-globals,+nontrapping-fptoint,+sign-ext", ",+simd128"
+LOWERED_WITH = [f"--enable-{each}" for each in "memory64 bulk-memory sign-ext nontrapping-float-to-int mutable-globals".split()]
+# What the module may call of a processor: a hint in loops that wait, which is left out.
+PAUSE = re.compile(r"^.*@llvm\.x86\.sse2\.pause\b.*\n", re.M)
+MAIN = re.compile(r"^define i32 @main\(.*?^}\n", re.M | re.S)
+INTRINSIC = re.compile(r"@(llvm\.(?:x86|aarch64|arm)\.[\w.]+)")
+STACK = 1 << 20
+ARM64 = "aarch64-unknown-linux-gnu"
+# Debian's packages that the program for arm64 is linked with, and the files of theirs that the kit's linker takes.
+ARM64_PACKAGES = "libc6-arm64-cross libc6-dev-arm64-cross libgcc-s1-arm64-cross libgcc-12-dev-arm64-cross"
+ARM64_LIBRARIES = Path("/usr/aarch64-linux-gnu/lib")
+ARM64_COMPILER = Path("/usr/lib/gcc-cross/aarch64-linux-gnu/12")
+OF_COMPILER = ("crtbeginS.o", "crtendS.o", "libgcc.a")
+CLANG = """#!/bin/sh
+for word; do case $word in *.bc) cp "$word" {module} ;; esac; done
+exec {clang} "$@"
+"""
+
+
+class NotCompiled(Exception):
+    """A program was not compiled for another machine, for this reason."""
+
+
+class NotThere(Exception):
+    """Something that compiles for another machine is not installed."""
+
+
+def run(words: List[str]) -> None:
+    """Runs a tool of the compiler; raises NotCompiled with what it said where it fails."""
+    done = subprocess.run(words, stdin=subprocess.DEVNULL, stdout=subprocess.PIPE, stderr=subprocess.STDOUT, text=True, errors="replace")
+    if done.returncode:
+        raise NotCompiled(f"{Path(words[0]).name}: {done.stdout[-2000:]}")
+
+
+def keep_module(rt: Any, crate: Any, flags: List[str], folder: Path) -> Path:
+    """Builds a proved program, and returns the module that it is compiled from."""
+    kit, module = Path(rt.KIT, "toolchain"), folder / "module.bc"
+    (folder / "kit" / "bin").mkdir(parents=True)
+    (folder / "kit" / "lib").symlink_to(kit / "lib")
+    for tool in (kit / "bin").iterdir():
+        if tool.name != "clang":
+            (folder / "kit" / "bin" / tool.name).symlink_to(tool)
+    clang = folder / "kit" / "bin" / "clang"
+    clang.write_text(CLANG.format(module=shlex.quote(str(module)), clang=shlex.quote(str(kit / "bin" / "clang"))))
+    clang.chmod(0o755)
+    words = ["build", *crate.words(flags), "--toolchain", str(folder / "kit"), "--backend", "llvm", "-o", str(folder / "program.o")]
+    if crate.call(rt.rtlib.RATTLE, *words):
+        raise NotCompiled(f"{crate.name} is not proved, or not built")
+    return module
+
+
+def for_wasm(text: str, features: str) -> str:
+    """The text of a module, as one for WebAssembly with these features, whose function `lj_main` is the program."""
+    text = re.sub(r'^target triple = ".*"$', 'target triple = "wasm64-unknown-unknown"', text, flags=re.M)
+    text = re.sub(r'^target datalayout = ".*"$', f'target datalayout = "{WASM_LAYOUT}"', text, flags=re.M)
+    text = PAUSE.sub("", MAIN.sub(entry, text))
+    if found := INTRINSIC.search(text):
+        raise NotCompiled(f"the module calls {found[1]}, which is of a processor")
+    text = re.sub(r' "(?:probe-stack|stack-probe-size|target-features)"="[^"]*"', "", text)
+    return re.sub(r'"target-cpu"="[^"]*"', f'"target-features"="{features}"', text)
+
+
+def entry(main: "re.Match[str]") -> str:
+    """The program, in place of C's `main`, which asks a processor of x86-64 what it is before it calls it."""
+    called = re.search(r'^run:.*\n +%\w+ = call i32 (@"[^"]+")\(\)$', main[0], re.M)
+    if called is None:
+        raise NotCompiled("the module's main is of another form than was known")
+    return f"define i32 @lj_main() {{\n  %status = call i32 {called[1]}()\n  ret i32 %status\n}}\n"
+
+
+def link_wasm(rt: Any, objects: List[str], folder: Path, made: Path, words: List[str], lanes: bool = False) -> None:
+    """Links objects with packaging/wasm/host.c, as WebAssembly with memory of 64 bits."""
+    clang, host, linker = str(Path(rt.KIT, "toolchain", "bin", "clang")), str(folder / "host.o"), folder / "wasm-ld"
+    run([clang, *target_of_wasm(lanes), "-ffreestanding", "-std=c11", "-c", str(TOP / "packaging/wasm/host.c"), "-o", host])
+    linker.symlink_to(clang)
+    run([str(linker), "-mwasm64", "--no-entry", "--stack-first", "-z", f"stack-size={STACK}", *words, "-o", str(made), *objects, host])
+
+
+def target_of_wasm(lanes: bool) -> List[str]:
+    return ["--target=wasm64-unknown-unknown", "-O3", "-mbulk-memory", *(["-msimd128"] if lanes else [])]
+
+
+def linked_for_wasm(rt: Any, crate: Any, flags: List[str], folder: Path, lanes: bool) -> Path:
+    """Builds a proved program for WebAssembly with memory of 64 bits."""
+    clang, text, made = str(Path(rt.KIT, "toolchain", "bin", "clang")), folder / "module.ll", folder / "linked.wasm"
+    module = keep_module(rt, crate, flags, folder)
+    run([clang, "-x", "ir", str(module), "-S", "-emit-llvm", "-Xclang", "-disable-llvm-passes", "-o", str(text)])
+    features = WASM_FEATURES + (LANES if lanes else "")
+    text.write_bytes(for_wasm(text.read_bytes().decode("latin-1"), features).encode("latin-1"))
+    run([clang, *target_of_wasm(lanes), "-x", "ir", "-c", str(text), "-o", str(folder / "program.o")])
+    link_wasm(rt, [str(folder / "program.o")], folder, made, ["--export=lj_main", "--gc-sections", "--strip-debug"], lanes)
+    return made
+
+
+def compile_wasm64(rt: Any, crate: Any, flags: List[str], folder: Path) -> Path:
+    """Builds a proved program for WebAssembly with memory of 64 bits and lanes."""
+    return linked_for_wasm(rt, crate, flags, folder, lanes=True)
+
+
+def compile_wasm32(rt: Any, crate: Any, flags: List[str], folder: Path) -> Path:
+    """Builds a proved program for WebAssembly with memory of 32 bits, by lowering that of 64 bits."""
+    lowers = shutil.which("wasm-opt")
+    if lowers is None:
+        raise NotThere("there is no wasm-opt: apt-get install binaryen")
+    made = folder / "lowered.wasm"
+    linked = linked_for_wasm(rt, crate, flags, folder, lanes=False)
+    run([lowers, "--memory64-lowering", *LOWERED_WITH, str(linked), "-o", str(made)])
+    return made
+
+
+def toolchain_for_arm64(rt: Any, folder: Path) -> Path:
+    """A folder as the kit's toolchain, whose libraries are those of Debian's cross packages."""
+    kit, made = Path(rt.KIT, "toolchain"), folder / "toolchain"
+    (made / "lib").mkdir(parents=True)
+    (made / "bin").symlink_to(kit / "bin")
+    for library in (kit / "lib").iterdir():
+        name = library.name.replace("linux-x86-64.so.2", "linux-aarch64.so.1")
+        found = (ARM64_COMPILER if name in OF_COMPILER else ARM64_LIBRARIES) / name
+        if not found.exists():
+            raise NotThere(f"there is no {found}: apt-get install {ARM64_PACKAGES}")
+        (made / "lib" / name).symlink_to(found)
+    return made
+
+
+def compile_arm64(rt: Any, crate: Any, flags: List[str], folder: Path) -> Path:
+    """Builds a proved program for arm64, and links it with packaging/arm64/host.c."""
+    toolchain, made = str(toolchain_for_arm64(rt, folder)), folder / "program"
+    target = ["--target", ARM64, "--toolchain", toolchain]
+    if crate.call(rt.rtlib.RATTLE, "build", *crate.words(flags), *target, "--backend", "llvm", "-o", str(folder / "program.o")):
+        raise NotCompiled(f"{crate.name} is not proved, or not built")
+    clang = f"{toolchain}/bin/clang"
+    host = [
+        f"--target={ARM64}",
+        "-O2",
+        "-ffreestanding",
+        "-std=c11",
+        "-c",
+        str(TOP / "packaging/arm64/host.c"),
+        "-o",
+        str(folder / "host.o"),
+    ]
+    run([clang, *host])
+    run([str(Path(rt.KIT, "bin", "rattle-link")), *target, "-o", str(made), str(folder / "program.o"), str(folder / "host.o")])
+    return made
+
+
+KINDS = {"arm64": compile_arm64, "wasm64": compile_wasm64, "wasm32": compile_wasm32}
+ENDINGS = {"wasm64": ".wasm", "wasm32": ".wasm"}

@@ -1,0 +1,61 @@
+// Begins a module of the program, which bin/compile makes, over any two streams.
+
+/** The module's memory as bytes. It may have grown and moved since the last call. */
+const part = (memory, at, count) => new Uint8Array(memory.buffer, Number(at), Number(count));
+
+/**
+ * Makes an instance of a module.
+ *
+ * @param {WebAssembly.Module} module
+ * @param {(to: Uint8Array) => number} read puts the next bytes of the input at the start of `to`: how many, 0 at its end; throws where
+ *     it cannot be read
+ * @param {(from: Uint8Array, descriptor: number) => number} write takes bytes of standard output (1) or of standard error (2): how many
+ * @returns {() => number} the program, which runs until its input ends, and returns its exit status
+ */
+export function programOf(module, read, write) {
+  let memory;
+  const counted = (call) => {
+    try {
+      return BigInt(call());
+    } catch {
+      return -1n;
+    }
+  };
+  const host = {
+    read: (to, most) => counted(() => read(part(memory, to, most))),
+    write: (descriptor, from, count) => counted(() => write(part(memory, from, count), descriptor)),
+  };
+  const { exports } = new WebAssembly.Instance(module, { host });
+  memory = exports.memory;
+  return () => exports.lj_main();
+}
+
+/**
+ * Runs a module over an input that is there whole.
+ *
+ * @param {WebAssembly.Module} module
+ * @param {Uint8Array} input the commands
+ * @returns {{status: number, output: Uint8Array}} the exit status and the replies
+ */
+export function answerAll(module, input) {
+  const pieces = [];
+  let left = input;
+  const read = (to) => {
+    const piece = left.subarray(0, to.length);
+    to.set(piece);
+    left = left.subarray(piece.length);
+    return piece.length;
+  };
+  const write = (from, descriptor) => {
+    if (descriptor === 1) pieces.push(from.slice());
+    return from.length;
+  };
+  const status = programOf(module, read, write)();
+  const output = new Uint8Array(pieces.reduce((sum, piece) => sum + piece.length, 0));
+  let at = 0;
+  for (const piece of pieces) {
+    output.set(piece, at);
+    at += piece.length;
+  }
+  return { status, output };
+}
