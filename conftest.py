@@ -9,7 +9,7 @@ import pytest
 from shared.program import program_at
 
 TOP = Path(__file__).resolve().parent
-CLIENT, DOCUMENTS = TOP / "clients" / "python" / "tests", TOP / "tests" / "documents"
+WHOLE = TOP / "clients" / "python" / "tests", TOP / "tests" / "documents", TOP / "tests" / "wasm"
 
 
 def pytest_addoption(parser: pytest.Parser) -> None:
@@ -28,7 +28,7 @@ def pytest_sessionstart(session: pytest.Session) -> None:
 
 
 def pytest_collection_modifyitems(items: List[pytest.Item]) -> None:
-    """A file of the client or of the documents is tried in one process, since its tests share what takes long to make."""
+    """A file of the client, of the documents or of other machines is tried in one process: its tests share what takes long to make."""
     for item in items:
-        if item.path.is_relative_to(CLIENT) or item.path.is_relative_to(DOCUMENTS):
+        if any(item.path.is_relative_to(folder) for folder in WHOLE):
             item.add_marker(pytest.mark.xdist_group(item.path.name))

@@ -2,7 +2,7 @@
 // Before Node 24 a module with memory of 64 bits needs `node --experimental-wasm-memory64`.
 import { readFileSync, readSync, writeSync } from "node:fs";
 
-import { programOf } from "./engine.mjs";
+import { programOf } from "../../clients/javascript/src/program.js";
 
 function read(to) {
   for (;;) {

@@ -33,6 +33,7 @@ SEARCHED = {
     "tests/documents": "bin clients/python clients/python/tests conformance tests",
     "tests/faults": "tests conformance",
     "tests/gate": "bin",
+    "tests/wasm": "tests conformance bin clients/python/tests clients/python",
     "tests/protocol": "tests conformance",
     "tests/replay": "tests conformance",
     "tests/server": "tests conformance",

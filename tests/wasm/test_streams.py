@@ -14,7 +14,7 @@ from playing import USUAL, Stream, difference, stored, told_by
 
 TOP = Path(__file__).resolve().parents[2]
 sys.path.insert(0, str(TOP / "clients/python/tests"))
-ENGINE = TOP / "packaging/wasm/engine.mjs"
+ENGINE = TOP / "clients/javascript/src/program.js"
 NODE = shutil.which("node")
 SECONDS = 600
 # Each stream of the usual quota with LJSERVE_STREAMS=all, as a release is tried; else every tenth.

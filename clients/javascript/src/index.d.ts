@@ -1,0 +1,40 @@
+/** A command was refused, or the connection has ended. The message is the reply, such as "ERR 20 UNKNOWN", or why it ended. */
+export class ClientError extends Error {}
+
+/** A user's connection. Replies come in the order of the commands, so the next command may be sent before a reply is there. */
+export class Client {
+  constructor(write: (bytes: Uint8Array) => void, close: () => void);
+  /**
+   * Sends a command, with its body if it has one: docs/PROTOCOL.md has all of them. Returns its reply, each line ended by "\n".
+   *
+   * @throws {ClientError} where it is refused, is no line of printing characters, or the connection has ended
+   */
+  send(command: string, body?: string): Promise<string>;
+  /** Ends the connection. Commands without a reply are refused. */
+  close(): void;
+  /** Takes in bytes of replies, which may end anywhere. */
+  hear(bytes: Uint8Array): void;
+  /** Notes that no more replies come, and why. */
+  lose(why: string): void;
+}
+
+export const Engine: {
+  /**
+   * Begins the program as WebAssembly, in a thread of its own, for one user of the usual quota without sessions. A page has to be
+   * isolated (headers COOP `same-origin` and COEP `require-corp`).
+   *
+   * @param module the compiled module, its address, or in Node the name of its file; `bin/compile wasm64` makes it, and `wasm32` one
+   *     for what has no memory of 64 bits
+   */
+  open(module: WebAssembly.Module | URL | string): Promise<Client>;
+};
+
+/** Runs a module over an input that is there whole: its exit status and the replies. */
+export function answerAll(module: WebAssembly.Module, input: Uint8Array): { status: number; output: Uint8Array };
+
+/** The program of a module over two streams, which runs until its input ends, and returns its exit status. */
+export function programOf(
+  module: WebAssembly.Module,
+  read: (to: Uint8Array) => number,
+  write: (from: Uint8Array, descriptor: number) => number,
+): () => number;
