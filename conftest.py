@@ -9,7 +9,7 @@ import pytest
 from shared.program import program_at
 
 TOP = Path(__file__).resolve().parent
-WHOLE = TOP / "clients" / "python" / "tests", TOP / "tests" / "documents", TOP / "tests" / "wasm"
+BY_FILE, AT_ONCE = (TOP / "clients" / "python" / "tests", TOP / "tests" / "documents"), TOP / "tests" / "wasm"
 
 
 def pytest_addoption(parser: pytest.Parser) -> None:
@@ -28,7 +28,10 @@ def pytest_sessionstart(session: pytest.Session) -> None:
 
 
 def pytest_collection_modifyitems(items: List[pytest.Item]) -> None:
-    """A file of the client, of the documents or of other machines is tried in one process: its tests share what takes long to make."""
+    """A file of the client or of the documents is tried in one process, and so are all files of other machines, since tests share
+    what takes long to make."""
     for item in items:
-        if any(item.path.is_relative_to(folder) for folder in WHOLE):
+        if item.path.is_relative_to(AT_ONCE):
+            item.add_marker(pytest.mark.xdist_group(AT_ONCE.name))
+        elif any(item.path.is_relative_to(folder) for folder in BY_FILE):
             item.add_marker(pytest.mark.xdist_group(item.path.name))

@@ -179,3 +179,9 @@ wide __udivti3(wide number, wide by) {
     }
     return quotient;
 }
+
+/* Division of numbers with signs, towards 0. */
+__int128 __divti3(__int128 number, __int128 by) {
+    wide quotient = __udivti3(number < 0 ? -(wide)number : (wide)number, by < 0 ? -(wide)by : (wide)by);
+    return (__int128)((number < 0) != (by < 0) ? -quotient : quotient);
+}

@@ -17,7 +17,7 @@ NODE = shutil.which("node")
 pytestmark = pytest.mark.skipif(
     NODE is None or shutil.which("rt") is None, reason="no node, or no kit whose clang compiles for WebAssembly"
 )
-HELPERS = ["__multi3", "__udivti3", "__ashlti3", "__lshrti3"]
+HELPERS = ["__multi3", "__udivti3", "__divti3", "__ashlti3", "__lshrti3"]
 HEAP = ["rattle_alloc", "rattle_realloc", "rattle_dealloc"]
 MEBIBYTE, WORD = 1 << 20, 1 << 64
 
@@ -72,6 +72,14 @@ def test_quotients_are_those_of_python(module: Path) -> None:
     pairs = [(a, b) for a in numbers(3, 30) for b in numbers(4, 30) if b]
     found = told(module, "__udivti3", pairs, lambda pair: [*halves(pair[0]), *halves(pair[1])])
     assert found == [a // b for a, b in pairs]
+
+
+def test_quotients_with_signs_are_those_of_python(module: Path) -> None:
+    """Towards 0. The least number divided by -1 has no value."""
+    signed = [number - WORD**2 if number >= WORD**2 // 2 else number for number in numbers(6, 30)]
+    pairs = [(a, b) for a in signed for b in signed if b and (a, b) != (-(WORD**2) // 2, -1)]
+    found = told(module, "__divti3", pairs, lambda pair: [*halves(pair[0] % WORD**2), *halves(pair[1] % WORD**2)])
+    assert found == [(abs(a) // abs(b) * (1 if (a < 0) == (b < 0) else -1)) % WORD**2 for a, b in pairs]
 
 
 @pytest.mark.parametrize("name", ["__ashlti3", "__lshrti3"])

@@ -4,10 +4,9 @@ from __future__ import annotations
 import base64
 import os
 import shutil
-import subprocess
 import sys
 from pathlib import Path
-from typing import Any, Callable, Dict, Iterator
+from typing import Any, Callable, Iterator
 
 import pytest
 from playing import USUAL, Stream, difference, stored, told_by
@@ -21,36 +20,10 @@ SECONDS = 600
 STREAMS = [stream for stream in stored() if stream.quota == USUAL][:: 1 if os.environ.get("LJSERVE_STREAMS") == "all" else 10]
 
 
-@pytest.fixture(scope="module")
-def modules(tmp_path_factory: pytest.TempPathFactory) -> Callable[[str], Path]:
-    """The program of each kind, which is compiled when it is first asked for, or stands in the folder that LJSERVE_WASM names."""
-    made: Dict[str, Path] = {}
-
-    def module(kind: str) -> Path:
-        if "LJSERVE_WASM" in os.environ:
-            return Path(os.environ["LJSERVE_WASM"], f"{kind}.wasm")
-        if kind not in made:
-            made[kind] = compiled(kind, f"out/{kind}")
-        return made[kind]
-
-    return module
-
-
-def compiled(kind: str, folder: str) -> Path:
-    crate = TOP / "crates/lj_run"
-    if shutil.which("rt") is None or not (TOP / "crates/lj_program/out/rlib").is_dir():
-        pytest.skip("the libraries of the program are not built: bin/ljserve builds them")
-    done = subprocess.run([TOP / "bin/compile", kind, folder, "--crate", "lj_run"], capture_output=True, text=True, timeout=SECONDS)
-    if done.returncode == 69:
-        pytest.skip(done.stderr.strip())
-    assert done.returncode == 0, done.stdout[-2000:] + done.stderr
-    return crate / folder / "lj_run.wasm"
-
-
 @pytest.mark.skipif(NODE is None, reason="no node")
 @pytest.mark.parametrize("stream", STREAMS, ids=[stream.name for stream in STREAMS])
-def test_node_answers_as_the_reference(stream: Stream, modules: Callable[[str], Path]) -> None:
-    command = [str(NODE), str(TOP / "packaging/wasm/run.mjs"), str(modules("wasm32"))]
+def test_node_answers_as_the_reference(stream: Stream, compiled: Callable[[str], Path]) -> None:
+    command = [str(NODE), str(TOP / "packaging/wasm/run.mjs"), str(compiled("wasm32"))]
     assert difference(stream, *told_by(command, stream, SECONDS)) is None
 
 
@@ -70,13 +43,13 @@ BEGIN = """(async () => {
 
 
 @pytest.fixture(scope="module", params=["wasm64", "wasm32"])
-def page(request: pytest.FixtureRequest, modules: Callable[[str], Path]) -> Iterator[Any]:
+def page(request: pytest.FixtureRequest, compiled: Callable[[str], Path]) -> Iterator[Any]:
     """A browser whose page has the program."""
     browsing = pytest.importorskip("browsing")
     if browsing.CHROMIUM is None:
         pytest.skip("no chromium")
     browser = browsing.Browser()
-    module, engine = (base64.b64encode(path.read_bytes()).decode() for path in (modules(request.param), ENGINE))
+    module, engine = (base64.b64encode(path.read_bytes()).decode() for path in (compiled(request.param), ENGINE))
     assert browser.value(BEGIN % (engine, module)) is True
     yield browser
     browser.end()

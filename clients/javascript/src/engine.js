@@ -31,16 +31,20 @@ async function moduleAt(address) {
   return WebAssembly.compile(await answer.arrayBuffer());
 }
 
+/** Whether a program can wait for its input by a promise. Else it waits in shared memory. */
+const suspends = () => "Suspending" in WebAssembly;
+
 export const Engine = {
   /** Begins the program for one user without sessions, and returns a client of it. */
   async open(module) {
-    if (typeof SharedArrayBuffer === "undefined") {
-      throw new ClientError("a page must be isolated (the headers COOP same-origin and COEP require-corp) to run the program");
+    if (!suspends() && typeof SharedArrayBuffer === "undefined") {
+      throw new ClientError("this browser must have promises in WebAssembly, or the page headers COOP same-origin and COEP require-corp");
     }
     const compiled = module instanceof WebAssembly.Module ? module : await moduleAt(module);
-    const shared = sharedMailbox();
-    const sender = new Sender(shared);
-    const client = new Client((bytes) => sender.send(bytes), () => thread.terminate());
+    const shared = suspends() ? undefined : sharedMailbox();
+    const sender = shared && new Sender(shared);
+    const send = (bytes) => (sender ? sender.send(bytes) : thread.postMessage({ commands: bytes }));
+    const client = new Client(send, () => thread.terminate());
     const hear = ({ emptied, replies, status, fault }) => {
       if (emptied) sender.emptied();
       else if (replies) client.hear(replies);
@@ -49,5 +53,19 @@ export const Engine = {
     const thread = await threadOf(hear, (why) => client.lose(why));
     thread.postMessage({ module: compiled, shared });
     return client;
+  },
+
+  /** As `open`, with the first of these modules that this machine takes. */
+  async openFirst(modules) {
+    const faults = [];
+    for (const module of modules) {
+      try {
+        return await Engine.open(module);
+      } catch (error) {
+        if (!(error instanceof WebAssembly.CompileError)) throw error;
+        faults.push(error.message);
+      }
+    }
+    throw new ClientError(`this machine must take one of the modules, got ${faults.join("; ")}`);
   },
 };

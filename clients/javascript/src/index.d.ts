@@ -20,13 +20,15 @@ export class Client {
 
 export const Engine: {
   /**
-   * Begins the program as WebAssembly, in a thread of its own, for one user of the usual quota without sessions. A page has to be
-   * isolated (headers COOP `same-origin` and COEP `require-corp`).
+   * Begins the program as WebAssembly, in a thread of its own, for one user of the usual quota without sessions. Where WebAssembly has
+   * no promises (`WebAssembly.Suspending`), a page has to be isolated (headers COOP `same-origin` and COEP `require-corp`).
    *
    * @param module the compiled module, its address, or in Node the name of its file; `bin/compile wasm64` makes it, and `wasm32` one
    *     for what has no memory of 64 bits
    */
   open(module: WebAssembly.Module | URL | string): Promise<Client>;
+  /** As `open`, with the first of these modules that this machine takes, such as [wasm64, wasm32]. */
+  openFirst(modules: (WebAssembly.Module | URL | string)[]): Promise<Client>;
 };
 
 /** Runs a module over an input that is there whole: its exit status and the replies. */
@@ -38,3 +40,10 @@ export function programOf(
   read: (to: Uint8Array) => number,
   write: (from: Uint8Array, descriptor: number) => number,
 ): () => number;
+
+/** As `programOf`, where the program waits for its input without holding its thread up: `read` returns at most so many bytes. */
+export function suspendingProgramOf(
+  module: WebAssembly.Module,
+  read: (most: number) => Promise<Uint8Array>,
+  write: (from: Uint8Array, descriptor: number) => number,
+): () => Promise<number>;

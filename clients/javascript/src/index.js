@@ -1,3 +1,3 @@
 export { Client, ClientError } from "./client.js";
 export { Engine } from "./engine.js";
-export { answerAll, programOf } from "./program.js";
+export { answerAll, programOf, suspendingProgramOf } from "./program.js";

@@ -31,6 +31,29 @@ export function programOf(module, read, write) {
 }
 
 /**
+ * As `programOf`, where the program waits for its input without holding its thread up (JavaScript's promise integration).
+ *
+ * @param {WebAssembly.Module} module
+ * @param {(most: number) => Promise<Uint8Array>} read the next bytes of the input, at most so many; none at its end
+ * @param {(from: Uint8Array, descriptor: number) => number} write as there
+ * @returns {() => Promise<number>}
+ */
+export function suspendingProgramOf(module, read, write) {
+  let memory;
+  const host = {
+    read: new WebAssembly.Suspending(async (to, most) => {
+      const bytes = await read(Number(most));
+      part(memory, to, bytes.length).set(bytes);
+      return BigInt(bytes.length);
+    }),
+    write: (descriptor, from, count) => BigInt(write(part(memory, from, count), descriptor)),
+  };
+  const { exports } = new WebAssembly.Instance(module, { host });
+  memory = exports.memory;
+  return WebAssembly.promising(exports.lj_main);
+}
+
+/**
  * Runs a module over an input that is there whole.
  *
  * @param {WebAssembly.Module} module
