@@ -18,7 +18,10 @@ import ljclient  # noqa: E402
 project = "ljclient"
 release = version = ljclient.__version__
 copyright = "The ljserve developers"
-extensions = ["sphinx.ext.autodoc", "myst_parser"]
+extensions = ["sphinx.ext.autodoc", "sphinx.ext.napoleon", "myst_parser"]
+# Sections of numpydoc, whose fields are no members of their own.
+napoleon_google_docstring = False
+napoleon_use_ivar = True
 default_role = "py:obj"
 html_theme = "alabaster"
 html_theme_options = {"page_width": "1200px", "sidebar_width": "300px", "code_font_size": "0.75em"}
@@ -31,7 +34,7 @@ autodoc_preserve_defaults = True
 python_use_unqualified_type_names = True
 
 # Libraries that modules of the package need, and that may be missing where the reference is made.
-OPTIONAL = ("ase", "numpy", "MDAnalysis", "prompt_toolkit", "aiohttp", "tqdm")
+OPTIONAL = ("ase", "numpy", "matplotlib", "MDAnalysis", "prompt_toolkit", "aiohttp", "tqdm")
 autodoc_mock_imports = [name for name in OPTIONAL if importlib.util.find_spec(name) is None]
 # What only the package itself calls.
 INTERNAL = {
@@ -121,6 +124,8 @@ def restructured(paragraph: Sequence[str], name: str) -> List[str]:
     """A paragraph of a docstring in reStructuredText: tables are definition lists there, and what is indented is code."""
     if paragraph[0].startswith(" "):
         return ["::", "", *paragraph, ""]
+    if paragraph[0].startswith(">>> "):
+        return [*paragraph, ""]
     if rows := table_of(paragraph):
         terms = [("`{}`".format(names.replace(", ", "`, `")), text) for names, text in rows]
         return [line for term, text in terms for line in [term, *("    " + part for part in text)]] + [""]

@@ -1,4 +1,5 @@
 """The reference of the Python client: that it is made without a warning, has each public name, and leaves room in the README."""
+import inspect
 import os
 import pathlib
 import re
@@ -45,7 +46,7 @@ def described(text: Any, name: Any) -> Any:
 
 
 def test_each_public_name_is_there(page: Any) -> None:
-    wanted = {name for name in ljclient.__all__ if name not in ("refusals", "units")}
+    wanted = {name for name in ljclient.__all__ if not inspect.ismodule(getattr(ljclient, name))}
     shown = names_in(page("package"))
     assert wanted == {name for name in shown if "." not in name}
     assert len(shown) == len(set(shown))
@@ -72,10 +73,17 @@ def test_each_refusal_is_told(page: Any) -> None:
 
 def test_modules_that_say_what_is_public_are_there(page: Any) -> None:
     titles = re.findall(r"<h2>(ljclient[\w.]*)", page("modules"))
-    assert {"ljclient.prompt", "ljclient.refusals", "ljclient.units", "ljclient.view"} <= set(titles)
+    assert {"ljclient.prompt", "ljclient.refusals", "ljclient.reversal", "ljclient.state_points", "ljclient.view"} <= set(titles)
     shown = names_in(page("modules"))
     assert {"units.ARGON", "units.step_factor"} <= set(shown) and "units.Scale" not in shown
+    assert {"reversal.echo", "state_points.lattice", "state_points.StatePoint"} <= set(shown)
     assert all(f"units.{name}" not in shown for name in vars(units) if name.startswith("checked"))
+
+
+def test_sections_of_numpydoc_are_fields(page: Any) -> None:
+    text = described(page("modules"), "state_points.lattice")
+    assert re.search(r"Parameters.*kind.*density.*\(float\).*Returns.*Return type.*Configuration.*Raises.*ValueError", text, re.S)
+    assert "crystal = lattice(" in text and "----" not in text
 
 
 def test_how_docstrings_are_shown(page: Any) -> None:

@@ -365,23 +365,24 @@ def on_the_way(block: Any, folder: Any) -> None:
 
 
 def other_kinds_of_files(block: Any, folder: Any) -> None:
-    """Both files have the frames, as the libraries read them."""
+    """Both files have the frames, as the library reads them."""
     mda = pytest.importorskip("MDAnalysis", reason="MDAnalysis is not installed")
-    reader = pytest.importorskip("ase.io", reason="ASE is not installed")
     assert folder.python(block.text) == []
     one, other = (mda.Universe.empty(256).load_new(str(folder.path / f"argon.{ending}")).trajectory for ending in ("dcd", "xtc"))
     assert len(one) == len(other) == 5
     for each, like in zip(one, other):
         assert abs(each.positions - like.positions).max() < 0.02 and like.dimensions[0] == pytest.approx(21.04)
-    frames = reader.read(folder.path / "argon.lammpstrj", index=":", format="lammps-dump-text")
-    assert [len(frame) for frame in frames] == [256] * 5 and frames[0].cell[0][0] == pytest.approx(21.04)
-    # The first of these is the last one of before.
-    assert abs(frames[0].positions - one[4].positions).max() < 1e-5
 
 
 def to_a_temperature(block: Any, folder: Any) -> None:
     (told,) = folder.python(block.text)
     assert abs(float(told) - 94.4) < 1.5
+
+
+def echo_of_a_liquid(block: Any, folder: Any) -> None:
+    pytest.importorskip("numpy", reason="numpy is not installed")
+    (told,) = folder.python(block.text)
+    assert told.startswith("100 steps there and back, with atom 0 kicked by (1, 0, 0): ")
 
 
 def driver_of_ase(block: Any, folder: Any) -> None:
@@ -487,6 +488,8 @@ BLOCKS = {
     "docs/api/steps.md": {
         "fine.start(100)": prints("[200, 100]", "300", "300 300"),
         "argon.equilibrate(": to_a_temperature,
+        "state_points.equation_of_state(": "takes minutes; clients/python/tests/test_state_points.py has one of few steps",
+        "print(reversal.echo(": echo_of_a_liquid,
         "import MDAnalysis": other_kinds_of_files,
     },
     "docs/api/view.md": {

@@ -15,7 +15,7 @@
 
 `connect(host, port, name, token)` in place of `run()` speaks to a server. Each refusal is a class of `ljclient.refusals`.
 """
-from . import refusals, units
+from . import refusals, reversal, state_points, units
 from .arrays import distance, least_images
 from .energy_watch import EnergyWarning
 from .ensemble import Job, ensemble
@@ -69,6 +69,8 @@ __all__ = [
     "ensemble",
     "least_images",
     "refusals",
+    "reversal",
     "run",
+    "state_points",
     "units",
 ]

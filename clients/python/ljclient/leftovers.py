@@ -22,7 +22,20 @@ if TYPE_CHECKING:
 
 
 class LeftWarning(UserWarning):
-    """An earlier connection was lost while it changed a session or looked at it: what it has left, and what can be done."""
+    """An earlier connection was lost while it changed a session or looked at it: what it has left, and what can be done.
+
+    Where the quota has no place for a branch more, a note on this machine's disk has step and direction, and of a change the frame:
+    in `~/.local/state/ljclient`, or `ljclient` in `$XDG_STATE_HOME`. The next `connect` from this account to the same address puts
+    the session right by it, if it is still the one that the note is of. Another machine, another account, or a client that is no
+    ljclient, knows nothing of the note: it finds the session perhaps a step on or back, or turned back, or with some of its atoms
+    tugged. What is in the order of space is not sorted anew then.
+
+    `load(.., replace=True)`, `load_saved` and `copy` load the new session as `ljclient-new` first, so a bad file loses nothing. If
+    the connection is lost between the DROP of the older one and the LOAD of the new one, `connect` says that the older one is gone,
+    and that the new one is there as `ljclient-new`: load your file once more. Where the quota has no place for both, the older one
+    is saved to a file of that folder first, without what `branch` saved in it, and the error names the file; its scale has to be
+    known.
+    """
 
 
 def put_right(user: "Loader") -> None:

@@ -91,9 +91,9 @@ class Loader:
         The atoms are at rest, or, where `before` has the atoms one step before (a source too), move as these two say. With
         `pair=True` the source has two frames itself, that of one step before first, such as a file of two frames.
         Without these, `Atoms` of ASE move with their velocities, and extended XYZ text with those of its column `momenta`, in
-        the units of ASE, else `velo`, `vel`, `velocities` or `velocity`, in angstrom / femtosecond. Velocities need epsilon and
-        mass. They are rounded, and `print(session.motion)` tells to what; they are those of half a step ago, as kinetic
-        energies are.
+        the units of ASE and divided by its column `masses`, or by mass if there is none; else `velo`, `vel`, `velocities` or
+        `velocity`, in angstrom / femtosecond as QUIP, GPUMD and `write_trajectory` write them. Velocities need epsilon and mass.
+        They are rounded, and `print(session.motion)` tells to what; they are those of half a step ago, as kinetic energies are.
 
         With `replace=True` it takes the place of a session of that name, which is there until the server has taken the new one.
         If two atoms are closer than 0.8 sigma there is a warning.

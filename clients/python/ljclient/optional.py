@@ -4,6 +4,7 @@ from __future__ import annotations
 import importlib
 from typing import Any
 
+from . import arrays
 from .errors import Missing
 
 
@@ -24,3 +25,13 @@ def ase(module: str, why: str) -> Any:
 def mdanalysis(module: str, why: str) -> Any:
     """A module of MDAnalysis."""
     return needed(module, why, "MDAnalysis", "python3-mdanalysis")
+
+
+def pyplot(why: str) -> Any:
+    """The drawing module of matplotlib."""
+    return needed("matplotlib.pyplot", why, "matplotlib", "python3-matplotlib")
+
+
+def needed_numpy(what: str) -> Any:
+    """numpy, which this needs, such as "an echo"."""
+    return arrays.numpy or needed("numpy", f"{what} needs", "numpy", "python3-numpy")

@@ -68,6 +68,11 @@ class Session:
         return f"Session({self.name!r})"
 
     @property
+    def user(self) -> "User":
+        """The user whose session it is."""
+        return self._user
+
+    @property
     def scale(self) -> Scale:
         """What its whole numbers mean; of a mixture, the scale of its first class. ValueError where nobody has said it."""
         return known(self._given)
@@ -382,8 +387,9 @@ class Session:
         every, rows, progress  are as `every`, `frames` and `progress` of `sample`
 
         The kinetic energy is the mean of those half a step before and after, so a row is known when the session is a step
-        further. After the last row it stands at that row's step again, and so it does if the rows are broken off, by an
-        error, an interrupt or `close()`. If the energy changes there is a warning, as by `advance`.
+        further. Over `run` it stands there between two rows, and at a server that step is undone each
+        time. After the last row it stands at that row's step again, and so it does if the rows are broken off, by an error, an
+        interrupt or `close()`. If the energy changes there is a warning, as by `advance`.
         """
         sampling.checked_stops(every, rows, "rows")
         known(self._given)
@@ -401,11 +407,13 @@ class Session:
     ) -> None:
         """Goes on, and writes frames to a file on the way, of the kind that the ending of its name says:
 
-        .xyz       extended XYZ, with Lattice, velocities (`velo`), step, time, potential (`energy`) and kinetic energy; and if
-                   epsilon and mass are known, `masses` and `momenta` as ASE reads them. .extxyz is the same
-        .traj      by ASE, with energy, forces and, if epsilon and mass are known, momenta
-        .dcd, .nc  by MDAnalysis, with box and time; `.nc` has velocities and forces too, in MDAnalysis's units. ValueError if
-                   frames behind those of a .dcd are not as far apart in time
+        .xyz        extended XYZ, with Lattice, velocities (`velo`), step, time, potential (`energy`) and kinetic energy; and if
+                    epsilon and mass are known, `masses` and `momenta` as ASE reads them. .extxyz is the same
+        .lammpstrj  a dump of LAMMPS, with types from 1 on, symbols (`element`) and velocities; in its `real` units if epsilon and
+                    mass are known
+        .traj       by ASE, with energy, forces and, if epsilon and mass are known, momenta
+        .dcd, .nc   by MDAnalysis, with box and time; `.nc`, as AMBER's NetCDF, has velocities and forces too, in MDAnalysis's
+                    units. ValueError if frames behind those of a .dcd are not as far apart in time
 
         Any other ending is a ValueError, which says how MDAnalysis makes such a file of a .dcd.
 

@@ -1,6 +1,7 @@
 """Frames of a session on its way in a file, of the kind that its ending says.
 
 .xyz, .extxyz  extended XYZ, as text
+.lammpstrj     a dump of LAMMPS, as text
 .traj          ASE's own format, by its writer
 .dcd, .nc      those of CHARMM and NAMD, and of AMBER, by the writers of MDAnalysis
 """
@@ -15,6 +16,7 @@ from . import arrays, ase_bridge, optional
 from .ase_bridge import TIME_UNIT
 from .elements import Replacements, replaced
 from .files import Path, begin_beside, checked_target, put_in_place
+from .lammps_files import DumpFile, types_of
 from .sampling import Progress, checked_stops
 from .snapshots import Snapshot
 from .units import RING, Scale, nano
@@ -22,8 +24,8 @@ from .units import RING, Scale, nano
 if TYPE_CHECKING:
     from .session import Session
 
-BY_TEXT, BY_ASE, BY_MDANALYSIS = (".xyz", ".extxyz"), (".traj",), (".dcd", ".nc")
-ENDINGS = (*BY_TEXT, *BY_ASE, *BY_MDANALYSIS)
+BY_TEXT, DUMPS, BY_ASE, BY_MDANALYSIS = (".xyz", ".extxyz"), (".lammpstrj",), (".traj",), (".dcd", ".nc")
+ENDINGS = (*BY_TEXT, *DUMPS, *BY_ASE, *BY_MDANALYSIS)
 # Other kinds that MDAnalysis writes.
 MADE_OF_A_DCD = (".xtc", ".trr", ".trz")
 PICOSECOND = 1000.0
@@ -53,14 +55,14 @@ def write_trajectory(
     """As `Session.write_trajectory`."""
     checked_stops(every, frames, "frames")
     scale, start = session.scale, None
-    file = opened(session, path, every, symbols, append)
+    file = opened(session, path, every, symbols, append, unwrap)
     with contextlib.closing(file):
         for frame in session.frames(every, frames, progress):
             start = frame.places if start is None else start
             file.write(frame, _followed(start, frame, scale) if unwrap else _in_box(frame, scale))
 
 
-def opened(session: "Session", path: Path, every: int, symbols: Optional[Replacements], append: bool) -> Writer:
+def opened(session: "Session", path: Path, every: int, symbols: Optional[Replacements], append: bool, unwrap: bool) -> Writer:
     """The file of a path, whose ending says its kind. What cannot be written is told before anything is changed."""
     ending = os.path.splitext(os.fspath(path))[1].lower()
     if ending not in ENDINGS:
@@ -72,6 +74,10 @@ def opened(session: "Session", path: Path, every: int, symbols: Optional[Replace
     named = own if symbols is None else replaced(own, symbols)
     if ending in BY_MDANALYSIS:
         return MdaFile(path, ending, len(own), every, append)
+    if ending in DUMPS:
+        kinds = list(session.mixture.species) if session.mixture else own
+        types = types_of(kinds if symbols is None else replaced(kinds, symbols))
+        return DumpFile(path, types, named, append, unwrap)
     return XyzFile(path, named, append)
 
 
@@ -79,10 +85,7 @@ def other_ending(path: str, ending: str, atoms: int) -> str:
     """What is said of a file with another ending."""
     kind = ending if ending in MADE_OF_A_DCD else MADE_OF_A_DCD[0]
     line = f"MDAnalysis.Universe.empty({atoms}, trajectory=True).load_new('x.dcd').atoms.write('x{kind}', frames='all')"
-    return (
-        f"{path} ends in none of {', '.join(ENDINGS)}. Write a .dcd, and MDAnalysis makes other kinds of it, such as {kind}: {line}. "
-        "docs/api/steps.md has the lines for a .lammpstrj"
-    )
+    return f"{path} ends in none of {', '.join(ENDINGS)}. Write a .dcd, and MDAnalysis makes other kinds of it, such as {kind}: {line}"
 
 
 def _in_box(frame: Snapshot, scale: Scale) -> Any:

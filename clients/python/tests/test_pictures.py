@@ -61,6 +61,16 @@ def test_a_run_that_fails_leaves_files_as_they_were(tmp_path: pathlib.Path) -> N
     assert (tmp_path / "old.png").read_bytes() == b"old"
 
 
+def test_what_reversal_makes_possible(tmp_path: pathlib.Path) -> None:
+    pytest.importorskip("matplotlib")
+    path = tmp_path / "x.svg"
+    status, out, error = told("reversal.py", "echo", "--steps", "4", "--melting", "1", "--plot", path)
+    assert (status, error) == (0, "")
+    assert "4 steps there and back, without a kick: 0 sigma, to the bit from the start\n" in out
+    assert "with atom 0 kicked by (1024, 0, 0): " in out and path.read_bytes().startswith(b"<?xml")
+    assert told("reversal.py", "arrow", "--steps", "0")[::2] == (1, "reversal.py: steps must be 1 at least, got 0\n")
+
+
 @pytest.mark.parametrize("name, begin", [("x.png", b"\x89PNG\r\n\x1a\n"), ("x.SVG", b"<?xml"), ("x.pdf", b"%PDF")])
 def test_the_ending_says_what_is_drawn(name: Any, begin: Any, tmp_path: pathlib.Path) -> None:
     pytest.importorskip("matplotlib")

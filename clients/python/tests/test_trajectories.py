@@ -251,10 +251,12 @@ def test_a_library_that_is_missing_is_told_before_anything_is_written(
     assert (path.read_text(), a.step) == ("of before", 0)
 
 
-@pytest.mark.parametrize("name", ["way.xtc", "way.lammpstrj", "way.trr", "way.pdb", "way.xyz.gz", "way.txt", "way"])
+@pytest.mark.parametrize("name", ["way.xtc", "way.dump", "way.trr", "way.pdb", "way.xyz.gz", "way.txt", "way"])
 def test_any_other_ending_is_told(user: Any, tmp_path: pathlib.Path, name: str) -> None:
     a = dimer(user)
-    with pytest.raises(ValueError, match=f"{name} ends in none of .xyz, .extxyz, .traj, .dcd, .nc. Write a .dcd, and MDAnalysis"):
+    with pytest.raises(
+        ValueError, match=f"{name} ends in none of .xyz, .extxyz, .lammpstrj, .traj, .dcd, .nc. Write a .dcd, and MDAnalysis"
+    ):
         a.write_trajectory(tmp_path / name, every=1, frames=3)
     assert os.listdir(tmp_path) == [] and a.step == 0
 
@@ -274,6 +276,31 @@ def test_the_line_that_is_told_makes_the_other_file(
     made = universe(f"x{ending}", 2).trajectory
     # An .xtc has nanometres to three decimals.
     assert len(made) == 3 and abs(made[0].positions - [[0, 0, 0], [1.5, 0, 0]]).max() < 0.01
+
+
+def test_a_dump_of_lammps(user: Any, tmp_path: pathlib.Path) -> None:
+    """The dimer's way is 589 and 1774 units of 2^-24, which are 0.000035 and 0.000106, and its speed at step 1 half of the second."""
+    path = tmp_path / "way.lammpstrj"
+    dimer(user).write_trajectory(path, every=1, frames=2, symbols={"Ar": "X"})
+    heads = [f"ITEM: TIMESTEP\n{step}\nITEM: NUMBER OF ATOMS\n2\nITEM: BOX BOUNDS pp pp pp\n" + "0 256.0\n" * 3 for step in (0, 1)]
+    text = path.read_text()
+    assert text.startswith(f"{heads[0]}ITEM: ATOMS id type element x y z vx vy vz\n1 1 X 0.000000 0.000000 0.000000 ")
+    speed = 1774 * 2**-24 / 2 / 2**-7.5
+    assert f"{heads[1]}ITEM: ATOMS id type element x y z vx vy vz\n1 1 X 0.000035 0.000000 0.000000 {speed:.9g} 0 0\n2 1 X 1.4999" in text
+
+
+def test_a_dump_of_a_mixture_goes_on(user: Any, tmp_path: pathlib.Path) -> None:
+    reader = pytest.importorskip("ase.io", reason="ASE is not installed")
+    path, atoms = tmp_path / "way.lammpstrj", "3\nmix\nKr 0 0 0\nAr 100 0 0\nKr 255 0 0\n"
+    mix = user.load_mix("mix", atoms, edge=256, species=("Ar", "Kr"), classes=[(1, 131072, 256)] * 3)
+    mix.tug(2, (2**24, 0, 0))
+    mix.write_trajectory(path, every=1, frames=2)
+    mix.write_trajectory(path, every=1, frames=1, append=True, unwrap=True)
+    frames = reader.read(path, index=":", format="lammps-dump-text")
+    assert [frame.get_chemical_symbols() for frame in frames] == [["Kr", "Ar", "Kr"]] * 3
+    assert [frame.positions[2][0] for frame in frames] == pytest.approx([255, 256, 256], abs=1e-2)
+    assert path.read_text().count("\n1 2 Kr ") == path.read_text().count("\n2 1 Ar ") == 3
+    assert path.read_text().count("ATOMS id type element xu yu zu vx") == 1
 
 
 @pytest.mark.parametrize("name", ["way.extxyz", "WAY.XYZ"])

@@ -1,0 +1,342 @@
+"""Atoms to begin with, at rest in a cubic box: lattices, slabs, droplets and mixtures, and what pushes atoms apart that overlap."""
+from __future__ import annotations
+
+import dataclasses
+import itertools
+import math
+import random
+from typing import Any, Dict, Iterator, List, Optional, Sequence, Tuple
+
+from . import units
+from .names import checked_symbol, whole_of
+from .optional import needed_numpy
+
+Position = Tuple[float, float, float]
+SITES: Dict[str, List[Position]] = {
+    "sc": [(0.0, 0.0, 0.0)],
+    "bcc": [(0.0, 0.0, 0.0), (0.5, 0.5, 0.5)],
+    "fcc": [(0.0, 0.0, 0.0), (0.5, 0.5, 0.0), (0.5, 0.0, 0.5), (0.0, 0.5, 0.5)],
+}
+"""The atoms of a cell of each lattice, in parts of its edge."""
+CLOSEST = 0.9
+"""How near two atoms may be after `relax`, in sigma: their energy is 6.6 epsilon then."""
+MOST_ROUNDS = 2000
+SKIN = 0.3
+"""By how much farther than the distance pairs are listed, as a part of it."""
+BLOCK = 512
+"""So many atoms are compared with all others at a time."""
+
+
+@dataclasses.dataclass(frozen=True, eq=False)
+class Configuration:
+    """Atoms at rest in a cubic box, as a source of `User.load` and `User.load_mix`.
+
+    Attributes
+    ----------
+    symbols : tuple of str
+        The symbol of each atom.
+    positions : tuple of tuple of float, shape (n_atoms, 3)
+        The position of each atom, in the unit of sigma.
+    edge : float
+        The edge of the box, in the same unit.
+    sigma : float
+        The length of the potential, in the same unit.
+    """
+
+    symbols: Tuple[str, ...] = dataclasses.field(repr=False)
+    positions: Tuple[Position, ...] = dataclasses.field(repr=False)
+    edge: float
+    sigma: float = 1.0
+
+    @property
+    def n_atoms(self) -> int:
+        """How many atoms there are."""
+        return len(self.positions)
+
+    @property
+    def density(self) -> float:
+        """How many atoms there are for each sigma^3 of the box."""
+        return self.n_atoms * (self.sigma / self.edge) ** 3
+
+    def get_chemical_symbols(self) -> List[str]:
+        """The symbol of each atom, as of `Atoms` of ASE."""
+        return list(self.symbols)
+
+    def get_positions(self) -> List[Position]:
+        """The positions, as of `Atoms` of ASE."""
+        return list(self.positions)
+
+    def get_cell(self) -> List[List[float]]:
+        """The cell, as of `Atoms` of ASE."""
+        return [[self.edge * (axis == other) for axis in range(3)] for other in range(3)]
+
+
+def lattice(
+    kind: str, *, density: float, atoms: int, sigma: float = 1.0, mass: Optional[float] = None, symbol: str = "Ar", seed: int = 0
+) -> Configuration:
+    """Atoms on a lattice that fills a periodic box, or at random.
+
+    Parameters
+    ----------
+    kind : {"fcc", "bcc", "sc", "random"}
+        The lattice: face-centred, body-centred or simple cubic. Atoms at random are relaxed: no two are nearer than 0.9 sigma.
+    density : float
+        How many atoms there are for each sigma^3; with `mass`, grams in a cubic centimetre.
+    atoms : int
+        How many atoms: 4 n^3 for "fcc", 2 n^3 for "bcc" and n^3 for "sc", of any whole number n.
+    sigma : float, optional
+        The length of the potential, in the unit that positions are to have: 1 in reduced units, 3.4 for argon in angstrom.
+    mass : float, optional
+        The mass of an atom in dalton. Sigma is in angstrom then.
+    symbol : str, optional
+        The symbol of all atoms.
+    seed : int, optional
+        Of atoms at random; the same seed gives the same ones.
+
+    Returns
+    -------
+    Configuration
+        The atoms, at rest.
+
+    Raises
+    ------
+    ValueError
+        If there is no such lattice, or none of so many atoms, or no room for atoms at random.
+
+    Examples
+    --------
+    >>> from ljclient.state_points import lattice
+    >>> crystal = lattice("fcc", density=0.8442, atoms=256)
+    >>> round(crystal.edge, 6)
+    6.718385
+    """
+    count = whole_of(atoms, "a number of atoms")
+    edge = units.edge_of_density(count, density, mass=mass) if mass else units.edge_of_density(count, density, sigma=sigma)
+    if kind == "random":
+        drawn = random.Random(whole_of(seed, "a seed"))
+        sites = [(edge * drawn.random(), edge * drawn.random(), edge * drawn.random()) for _ in range(count)]
+        return relax(_alike(sites, edge, sigma, symbol))
+    basis = _sites_of(kind)
+    cells = _cells_of(kind, count)
+    return _alike(_filled(basis, edge / cells, (cells, cells, cells)), edge, sigma, symbol)
+
+
+def slab(kind: str, *, density: float, edge: float, thickness: float, sigma: float = 1.0, symbol: str = "Ar") -> Configuration:
+    """A slab of a lattice across the middle of a box, with vacuum on both sides along z.
+
+    Parameters
+    ----------
+    kind : {"fcc", "bcc", "sc"}
+        The lattice.
+    density : float
+        How many atoms there are for each sigma^3 of the slab.
+    edge : float
+        The edge of the box, in the unit of sigma. The box has the nearest whole number of cells of the lattice along x and y.
+    thickness : float
+        How thick the slab is along z, in the unit of sigma: the nearest whole number of cells, and less than the edge.
+    sigma, symbol
+        As in `lattice`.
+
+    Returns
+    -------
+    Configuration
+        The atoms, at rest, with the edge of the box that they have.
+
+    Raises
+    ------
+    ValueError
+        If there is no such lattice, or the slab has no cell or fills the box.
+    """
+    basis = _sites_of(kind)
+    cell = sigma * (len(basis) / units.checked_positive("density", density)) ** (1 / 3)
+    cells, layers = round(units.checked_positive("edge", edge) / cell), round(units.checked_positive("thickness", thickness) / cell)
+    if not 0 < layers < cells:
+        raise ValueError(f"thickness must be from {cell / 2:.4g} to less than edge={edge!r}, in cells of {cell:.4g}, got {thickness!r}")
+    raised = (cells - layers) * cell / 2
+    sites = [(x, y, z + raised) for x, y, z in _filled(basis, cell, (cells, cells, layers))]
+    return _alike(sites, cells * cell, sigma, symbol)
+
+
+def droplet(kind: str, *, density: float, radius: float, edge: float, sigma: float = 1.0, symbol: str = "Ar") -> Configuration:
+    """A sphere of a lattice in the middle of a box.
+
+    Parameters
+    ----------
+    kind : {"fcc", "bcc", "sc"}
+        The lattice.
+    density : float
+        How many atoms there are for each sigma^3 of the droplet.
+    radius, edge : float
+        The radius of the sphere and the edge of the box, in the unit of sigma. The diameter is less than the edge.
+    sigma, symbol
+        As in `lattice`.
+
+    Returns
+    -------
+    Configuration
+        The atoms, at rest.
+
+    Raises
+    ------
+    ValueError
+        If there is no such lattice, or the box is too small for the sphere.
+    """
+    basis = _sites_of(kind)
+    cell = sigma * (len(basis) / units.checked_positive("density", density)) ** (1 / 3)
+    if not 2 * units.checked_positive("radius", radius) < units.checked_positive("edge", edge):
+        raise ValueError(f"edge must be above {2 * radius:g}, the diameter of the droplet, got {edge!r}")
+    cells = 2 * math.ceil(radius / cell)
+    middle = cells * cell / 2
+    near = [site for site in _filled(basis, cell, (cells, cells, cells)) if math.dist(site, (middle, middle, middle)) <= radius]
+    return _alike([(x + edge / 2 - middle, y + edge / 2 - middle, z + edge / 2 - middle) for x, y, z in near], edge, sigma, symbol)
+
+
+def binary(
+    configuration: Configuration, species: Sequence[str], *, fraction: float = 0.5, apart: bool = False, seed: int = 0
+) -> Configuration:
+    """The same atoms as two species, for `User.load_mix`.
+
+    Parameters
+    ----------
+    configuration : Configuration
+        The atoms.
+    species : sequence of str
+        The two symbols.
+    fraction : float, optional
+        How large a part of the atoms is of the second species, from 0 to 1, rounded to whole atoms.
+    apart : bool, optional
+        Whether the second species has the atoms of greatest x, and the first one the others. Else they are drawn at random.
+    seed : int, optional
+        Of the atoms that are drawn; the same seed draws the same ones.
+
+    Returns
+    -------
+    Configuration
+        The atoms, with these symbols.
+
+    Raises
+    ------
+    ValueError
+        If there are not two symbols, or the fraction is no part.
+    """
+    if isinstance(species, str) or len(species) != 2:
+        raise ValueError(f"species must be two symbols, such as ('A', 'B'), got {species!r}")
+    if not 0 <= units.real_of("fraction", fraction) <= 1:
+        raise ValueError(f"fraction must be from 0 to 1, got {fraction!r}")
+    numbers = list(range(configuration.n_atoms))
+    if apart:
+        numbers.sort(key=lambda atom: configuration.positions[atom][0], reverse=True)
+    else:
+        random.Random(whole_of(seed, "a seed")).shuffle(numbers)
+    second = set(numbers[: round(fraction * configuration.n_atoms)])
+    symbols = tuple(checked_symbol(species[atom in second]) for atom in range(configuration.n_atoms))
+    return dataclasses.replace(configuration, symbols=symbols)
+
+
+def relax(configuration: Configuration, closest: float = CLOSEST) -> Configuration:
+    """Pushes atoms apart that overlap, until no two are nearer than a distance. It needs numpy.
+
+    Each pair that is nearer is pushed apart along the line between both, the others stay. A liquid of density 0.85 takes some ten
+    rounds. What is left of potential energy becomes heat in the first steps: bring the session to its temperature then.
+
+    Parameters
+    ----------
+    configuration : Configuration
+        The atoms, wherever they are.
+    closest : float, optional
+        The distance in sigma.
+
+    Returns
+    -------
+    Configuration
+        The atoms at their new positions, in the box.
+
+    Raises
+    ------
+    ValueError
+        If there is no room for so many atoms at this distance, or none was found in 2,000 rounds.
+    """
+    numpy = needed_numpy("a relaxation")
+    positions, edge = numpy.array(configuration.positions, dtype=float) % configuration.edge, configuration.edge
+    distance = units.checked_positive("closest", closest) * configuration.sigma
+    if configuration.n_atoms * distance**3 / math.sqrt(2) >= edge**3:
+        raise ValueError(f"closest must be below that of a close packing of {configuration.n_atoms} atoms, got {closest!r}")
+    drawn, moved = numpy.random.default_rng(0), numpy.inf
+    for _ in range(MOST_ROUNDS):
+        if moved > SKIN * distance / 2:
+            pairs, moved = _pairs(positions, edge, distance * (1 + SKIN)), 0.0
+        moves = _pushes(positions, edge, distance, pairs, drawn)
+        if moves is None:
+            return dataclasses.replace(configuration, positions=tuple(map(tuple, positions.tolist())))
+        positions = (positions + moves) % edge
+        moved += float(numpy.sqrt((moves**2).sum(axis=1)).max())
+    raise ValueError(f"closest must leave room for {configuration.n_atoms} atoms, and none was found for {closest!r}: say less")
+
+
+def _pairs(positions: Any, edge: float, reach: float) -> Any:
+    """The pairs of atoms that are nearer than a reach, as two arrays of numbers."""
+    numpy, found = needed_numpy("a relaxation"), []
+    for start in range(0, len(positions), BLOCK):
+        block = positions[start : start + BLOCK]
+        square = sum(_image(block[:, None, axis] - positions[None, start:, axis], edge) ** 2 for axis in range(3))
+        one, other = numpy.nonzero(square < reach**2)
+        later = other > one
+        found.append(numpy.array([one[later], other[later]]) + start)
+    return numpy.hstack(found)
+
+
+def _image(apart: Any, edge: float) -> Any:
+    """Differences the nearer way round the box."""
+    return apart - edge * needed_numpy("a relaxation").rint(apart / edge)
+
+
+def _pushes(positions: Any, edge: float, distance: float, pairs: Any, drawn: Any) -> Any:
+    """By how much each atom is pushed by those that are nearer than a distance, each half of what is missing and a bit. None if there
+    are none. Atoms at one place are pushed in a direction that is drawn."""
+    numpy = needed_numpy("a relaxation")
+    apart = _image(positions[pairs[0]] - positions[pairs[1]], edge)
+    lengths = numpy.sqrt((apart**2).sum(axis=1))
+    near = lengths < distance
+    if not near.any():
+        return None
+    (one, other), apart, lengths = pairs[:, near], apart[near], lengths[near]
+    same = lengths < 1e-6 * distance
+    apart[same] = drawn.normal(size=(int(same.sum()), 3)) * distance
+    lengths = numpy.sqrt((apart**2).sum(axis=1))
+    pushes = apart * ((numpy.where(same, distance, distance * 1.02 - lengths)) / lengths / 2)[:, None]
+    moves = numpy.zeros_like(positions)
+    numpy.add.at(moves, one, pushes)
+    numpy.subtract.at(moves, other, pushes)
+    return moves
+
+
+def _alike(sites: Sequence[Position], edge: float, sigma: float, symbol: str) -> Configuration:
+    """Atoms of one symbol. ValueError if there is none."""
+    units.checked_positive("sigma", sigma)
+    if not sites:
+        raise ValueError("the configuration must have an atom at least, got none: say a greater density or radius")
+    return Configuration((checked_symbol(symbol),) * len(sites), tuple(sites), edge, sigma)
+
+
+def _sites_of(kind: str) -> List[Position]:
+    """The atoms of a cell of a lattice."""
+    if kind not in SITES:
+        raise ValueError(f"kind must be one of {', '.join(sorted(SITES))}, got {kind!r}")
+    return SITES[kind]
+
+
+def _cells_of(kind: str, atoms: int) -> int:
+    """How many cells along each axis have so many atoms. ValueError, which tells what numbers are near, if none has."""
+    each = len(SITES[kind])
+    cells = max(1, round(math.exp(math.log(atoms / each) / 3)))
+    if each * cells**3 != atoms:
+        near = sorted({each * max(1, cells + by) ** 3 for by in (-1, 0, 1)})
+        raise ValueError(f"atoms must be {each} n^3 for {kind!r}, such as {', '.join(map(str, near))}, got {atoms}")
+    return cells
+
+
+def _filled(basis: Sequence[Position], cell: float, counts: Tuple[int, int, int]) -> List[Position]:
+    """The positions of a lattice of so many cells along each axis, a quarter of a cell inside of the first one's faces."""
+    corners: Iterator[Tuple[int, ...]] = itertools.product(*map(range, counts))
+    shifted = [(x + 0.25, y + 0.25, z + 0.25) for x, y, z in basis]
+    return [(cell * (i + x), cell * (j + y), cell * (k + z)) for i, j, k in corners for x, y, z in shifted]

@@ -1,0 +1,611 @@
+"""What exact reversal makes possible: echoes, runs that part, the entropy of mixing and the direction of time, there and back.
+
+Each function makes steps, and leaves the session as it was, to the bit, by a branch that the quota needs a place for. All numbers
+are in reduced units: distances in sigma, energies in epsilon for each atom, times in `sigma sqrt(m / epsilon)`, entropies in k_B for
+each atom. They need numpy, and `plot()` matplotlib:
+
+    from ljclient import reversal, run, state_points
+
+    with run() as user:
+        liquid = user.load("liquid", state_points.lattice("fcc", density=0.8442, atoms=256), sigma=1, h=4295)
+        liquid.heat(1.44)
+        print(reversal.echo(liquid, 1000))
+"""
+from __future__ import annotations
+
+import contextlib
+import dataclasses
+import math
+from typing import TYPE_CHECKING, Any, Callable, Dict, Iterator, List, NamedTuple, Optional, Sequence, Tuple, TypeVar, Union
+
+from . import arrays
+from .errors import ClientError
+from .names import count_of, displacement_of, whole_of
+from .optional import needed_numpy, pyplot
+
+if TYPE_CHECKING:
+    from .session import Session
+    from .snapshots import Snapshot
+
+__all__ = ["Arrow", "Divergence", "Echo", "Kick", "Mixing", "arrow", "divergence", "echo", "entropy_of_mixing"]
+
+Looked = TypeVar("Looked")
+START = "reversal-start"
+"""The name of the branch from which a session is put back."""
+FRAMES = 100
+"""Into so many parts the steps are divided if nothing says how long these are."""
+NEAR, FAR = 1 / 256, 1 / 10
+"""Between these distances two runs part as the liquid's own chaos has it; below them as the bins of the table have it."""
+TELLING_TREND, TELLING_DEPARTURE = 0.5, 5.0
+"""From this rank correlation with the time on, or this many standard deviations, a quantity tells the direction of time."""
+SHUFFLES = 20
+"""Over so many random mixtures the mean is taken."""
+SPEED_BIN, SPEED_BINS = 0.25, 16
+"""Of the histogram of velocity components, in units of their root mean square."""
+
+
+class Kick(NamedTuple):
+    """A displacement that one atom is given more for each step, as by `Session.tug`.
+
+    Attributes
+    ----------
+    atom : int
+        The number of the atom.
+    displacement : tuple of int
+        Along x, y and z, in ring units (edge / 2^32).
+    """
+
+    atom: int = 0
+    displacement: Tuple[int, int, int] = (1, 0, 0)
+
+
+@dataclasses.dataclass(frozen=True, eq=False)
+class Echo:
+    """How far a run that was turned back is from where it came along.
+
+    Attributes
+    ----------
+    steps : numpy.ndarray of int, shape (n_frames,)
+        How many steps were made since the turn.
+    times : numpy.ndarray, shape (n_frames,)
+        Their time, in `sigma sqrt(m / epsilon)`.
+    distances : numpy.ndarray, shape (n_frames,)
+        The root mean square distance of the atoms from where they were at the same step on the way there, in sigma.
+    kick : Kick or None
+        What the atom was given at the turn.
+    """
+
+    steps: arrays.IntArray
+    times: arrays.FloatArray
+    distances: arrays.FloatArray
+    kick: Optional[Kick]
+
+    @property
+    def returned(self) -> float:
+        """How far the atoms are from the start at the end, in sigma. It is 0.0 if each is at its place to the bit."""
+        return float(self.distances[-1])
+
+    def plot(self, axes: Any = None) -> Any:
+        """Draws the distance over the time since the turn, and returns the axes of matplotlib, new ones if none are given."""
+        axes = _axes(axes)
+        label, apart = "no kick", self.distances > 0
+        if self.kick is None or not apart.any():
+            axes.plot(self.times, self.distances, label=label)
+        else:
+            label = f"kick {self.kick.displacement} in units of edge / $2^{{32}}$"
+            axes.semilogy(self.times[apart], self.distances[apart], label=label)
+        axes.set(xlabel="time since the turn / τ", ylabel="distance from the way there / σ")
+        axes.legend()
+        return axes
+
+    def __str__(self) -> str:
+        what = "without a kick" if self.kick is None else f"with atom {self.kick.atom} kicked by {self.kick.displacement}"
+        told = f"{self.returned:.3g} sigma" if self.returned else "0 sigma, to the bit"
+        return f"{self.steps[-1]} steps there and back, {what}: {told} from the start"
+
+
+@dataclasses.dataclass(frozen=True, eq=False)
+class Divergence:
+    """How fast runs of which each has another kick leave the run without one.
+
+    Attributes
+    ----------
+    steps : numpy.ndarray of int, shape (n_frames,)
+        How many steps were made since the kick.
+    times : numpy.ndarray, shape (n_frames,)
+        Their time, in `sigma sqrt(m / epsilon)`.
+    distances : numpy.ndarray, shape (n_kicks, n_frames)
+        The root mean square distance of the atoms of each run from those of the run without a kick, in sigma.
+    kicks : tuple of Kick
+        What each run was given.
+    exponents : numpy.ndarray, shape (n_fitted,)
+        The slope of the logarithm of each run's distance over the time from 1/256 to 1/10 sigma, of the runs that have three
+        frames there or more. Nearer than 1/256 sigma, the width of a bin, runs part two to three times as fast as the liquid's
+        chaos has it.
+    """
+
+    steps: arrays.IntArray
+    times: arrays.FloatArray
+    distances: arrays.FloatArray
+    kicks: Tuple[Kick, ...]
+    exponents: arrays.FloatArray
+
+    @property
+    def exponent(self) -> float:
+        """The Lyapunov exponent: the mean of `exponents`, per `sigma sqrt(m / epsilon)`. It is nan if no run was fitted."""
+        return float(self.exponents.mean()) if len(self.exponents) else math.nan
+
+    @property
+    def error(self) -> float:
+        """The standard error of `exponent` over the runs. It is nan if fewer than two were fitted."""
+        fitted = len(self.exponents)
+        return float(self.exponents.std(ddof=1)) / math.sqrt(fitted) if fitted > 1 else math.nan
+
+    def plot(self, axes: Any = None) -> Any:
+        """Draws the distances over the time, their geometric mean and the exponential that was fitted, and returns the axes."""
+        axes, numpy = _axes(axes), needed_numpy("a plot")
+        means = numpy.exp(numpy.log(self.distances[:, 1:]).mean(axis=0))
+        axes.semilogy(self.times[1:], self.distances[:, 1:].T, color="tab:red", linewidth=0.5, alpha=0.4)
+        axes.semilogy(self.times[1:], means, color="black", label=f"mean of {len(self.kicks)} runs")
+        axes.axhspan(NEAR, FAR, color="tab:blue", alpha=0.1, linewidth=0)
+        inside = [number for number in _inside(means)]
+        if inside and len(self.exponents):
+            times = self.times[1:][inside]
+            fit = means[inside[0]] * numpy.exp(self.exponent * (times - times[0]))
+            axes.semilogy(times, fit, "--", color="tab:blue", label=f"exp({self.exponent:.2f} t), from σ/256 to σ/10")
+        axes.set(xlabel="time / τ", ylabel="distance from the run without a kick / σ")
+        axes.legend(loc="lower right")
+        return axes
+
+    def __str__(self) -> str:
+        if not len(self.exponents):
+            return "no Lyapunov exponent: too few frames from 1/256 to 1/10 sigma; take more steps, or a smaller every="
+        runs = f"{len(self.exponents)} of {len(self.kicks)} runs"
+        return f"Lyapunov exponent {self.exponent:.2f} +- {self.error:.2f} per sigma sqrt(m / epsilon), over {runs}"
+
+
+@dataclasses.dataclass(frozen=True, eq=False)
+class Mixing:
+    """The entropy of mixing on the way there and back.
+
+    Attributes
+    ----------
+    steps : numpy.ndarray of int, shape (n_frames,)
+        How many steps from the start each frame is.
+    there : numpy.ndarray, shape (n_frames,)
+        The entropy of mixing at these steps on the way there, in k_B for each atom.
+    back : numpy.ndarray, shape (n_frames,)
+        That on the way back, at the same steps.
+    ideal : float
+        That of cells which all have the composition of the whole box: ln 2 of two kinds with as many atoms.
+    random : float
+        What a random mixture has on average, which is less, since a cell has few atoms: that of the frame at the turn with its kinds
+        shuffled.
+    cells : int
+        How many cells there are along each axis.
+    """
+
+    steps: arrays.IntArray
+    there: arrays.FloatArray
+    back: arrays.FloatArray
+    ideal: float
+    random: float
+    cells: int
+
+    @property
+    def is_exact(self) -> bool:
+        """Whether both ways have the same entropies, to the bit."""
+        return bool((self.there == self.back).all())
+
+    def plot(self, axes: Any = None) -> Any:
+        """Draws the entropy over the steps made, there and back, and returns the axes."""
+        axes = _both_ways(_axes(axes), self.steps, self.there, self.back)
+        axes.axhline(self.random, color="gray", linestyle="--", linewidth=1, label="a random mixture")
+        axes.set(xlabel="steps made", ylabel="entropy of mixing / $k_B$ per atom", ylim=(0, None))
+        axes.legend(loc="lower center")
+        return axes
+
+    def __str__(self) -> str:
+        start, turn, end = self.there[0], self.there[-1], self.back[0]
+        told = f"{start:.4f} at the start, {turn:.4f} after {self.steps[-1]} steps and {end:.4f} back at the start"
+        return f"entropy of mixing {told}, in k_B for each atom ({self.random:.4f} of a random mixture)"
+
+
+@dataclasses.dataclass(frozen=True, eq=False)
+class Arrow:
+    """What of a run tells the direction of time.
+
+    Attributes
+    ----------
+    steps : numpy.ndarray of int, shape (n_frames,)
+        How many steps from the start each frame is.
+    there : dict of str to numpy.ndarray, shape (n_frames,)
+        Quantities at these steps on the way there. `kinetic`, `potential` and `total` are energies in epsilon for each atom;
+        `distance` is the root mean square distance from the start in sigma; `maxwell` is how far the velocities are from those of
+        Maxwell and Boltzmann, Boltzmann's H above its least value, for each component.
+    back : dict of str to numpy.ndarray, shape (n_frames,)
+        Those on the way back, at the same steps.
+    """
+
+    steps: arrays.IntArray
+    there: Dict[str, arrays.FloatArray]
+    back: Dict[str, arrays.FloatArray]
+
+    @property
+    def is_exact(self) -> bool:
+        """Whether both ways have the same quantities, to the bit. Then no single frame tells the direction, but for the start."""
+        return all(bool((self.there[name] == self.back[name]).all()) for name in self.there)
+
+    @property
+    def trends(self) -> Dict[str, float]:
+        """Kendall's rank correlation of each quantity with the time on the way there, from -1 to 1. On the way back it has the other
+        sign. It is near 0 of what only fluctuates."""
+        return {name: _rank_correlation(values) for name, values in self.there.items()}
+
+    @property
+    def departures(self) -> Dict[str, float]:
+        """How far the start is from the mean of the second half of the way there, in standard deviations of that half. A run that
+        begins with a large one comes to its equilibrium, and one that ends with it was turned back."""
+        return {name: _departure(values) for name, values in self.there.items()}
+
+    @property
+    def telling(self) -> List[str]:
+        """The quantities that tell the direction: with a trend of 0.5 or a departure of 5 or more, by amount."""
+        trends, departures = self.trends, self.departures
+        return [name for name in trends if abs(trends[name]) >= TELLING_TREND or abs(departures[name]) >= TELLING_DEPARTURE]
+
+    def plot(self, axes: Any = None) -> Any:
+        """Draws each quantity, from its least to its greatest value, over the steps made, and returns the axes."""
+        axes, trends, departures = _axes(axes), self.trends, self.departures
+        for name, values in self.there.items():
+            low, span = values.min(), values.max() - values.min() or 1.0
+            both = [*values, *self.back[name][-2::-1]]
+            made = [*self.steps, *(2 * self.steps[-1] - self.steps[-2::-1])]
+            axes.plot(
+                made, [(value - low) / span for value in both], label=f"{name}: {trends[name]:+.2f}, {departures[name]:+.1f}", linewidth=1
+            )
+        axes.axvline(self.steps[-1], color="gray", linestyle=":", linewidth=1)
+        axes.set(xlabel="steps made", ylabel="from least to greatest", xlim=(0, 2 * self.steps[-1]))
+        axes.legend(title="trend, departure", fontsize="small", loc="center left", bbox_to_anchor=(1, 0.5))
+        return axes
+
+    def __str__(self) -> str:
+        departures = self.departures
+        told = ", ".join(f"{name} {trend:+.2f} ({departures[name]:+.1f})" for name, trend in self.trends.items())
+        return f"rank correlation with the time on the way there, which has the other sign back (departure of the start): {told}"
+
+
+def echo(session: "Session", steps: int, kick: Optional[Kick] = Kick(), every: Optional[int] = None) -> Echo:
+    """Makes steps, turns the motion back, kicks an atom and makes as many steps: a Loschmidt echo.
+
+    Parameters
+    ----------
+    session : Session
+        A session whose scale is known. It is as it was at the end.
+    steps : int
+        How many steps are made there, and back.
+    kick : Kick, optional
+        What an atom is given at the turn: atom 0 a displacement of one ring unit along x if nothing is said. None kicks nothing, and
+        then each atom finds back to its place, to the bit.
+    every : int, optional
+        How many steps there are from frame to frame; a hundredth of the steps if nothing is said.
+
+    Returns
+    -------
+    Echo
+        The distance of the way back from the way there.
+
+    Raises
+    ------
+    ValueError
+        If `steps` or `every` is below 1, or there is no such atom.
+    Refused
+        If the quota has no place for a branch.
+
+    Examples
+    --------
+    >>> from ljclient import reversal, run, state_points
+    >>> with run() as user:
+    ...     liquid = user.load("liquid", state_points.lattice("fcc", density=0.2, atoms=32), sigma=1, h=4295)
+    ...     temperature = liquid.heat(1.5)
+    ...     print(reversal.echo(liquid, 20, kick=None))
+    20 steps there and back, without a kick: 0 sigma, to the bit from the start
+    """
+    numpy = needed_numpy("an echo")
+    stops, unit = _stops(steps, every), session.scale.sigma_on_ring
+    kick = None if kick is None else _checked_kick(session, kick)
+    with _kept(session):
+        there = _on_the_way(session, stops, session.places)
+        session.reverse()
+        if kick is not None:
+            session.tug(*kick)
+        back = _on_the_way(session, _back_of(stops), session.places)
+    # At the turn itself the kick has moved nothing yet.
+    distances = [0.0, *(arrays.distance(*pair) / unit for pair in zip(back, there[-2::-1]))]
+    made = numpy.array([stops[-1] - stop for stop in reversed(stops)])
+    return Echo(made, made * session.scale.reduced_dt, numpy.array(distances), kick)
+
+
+def divergence(session: "Session", steps: int, kicks: Union[int, Sequence[Kick]] = 8, every: Optional[int] = None) -> Divergence:
+    """Runs a session without a kick, and from the same start with each of some kicks, and fits a Lyapunov exponent.
+
+    Parameters
+    ----------
+    session : Session
+        A session whose scale is known. It is as it was at the end.
+    steps : int
+        How many steps each run makes. A kick of one ring unit in a liquid takes a time of about 3, in `sigma sqrt(m / epsilon)`, to
+        grow to 1/10 sigma.
+    kicks : int or sequence of Kick, optional
+        What an atom is given in each run. A number is that of the runs, in each of which another atom is given one ring unit along
+        x.
+    every : int, optional
+        How many steps there are from frame to frame; a hundredth of the steps if nothing is said.
+
+    Returns
+    -------
+    Divergence
+        The distances of the runs, and the exponent that is fitted from 1/256 to 1/10 sigma.
+
+    Raises
+    ------
+    ValueError
+        If `steps` or `every` is below 1, or there is no such atom, or no kick.
+    Refused
+        If the quota has no place for a branch.
+    """
+    numpy = needed_numpy("a divergence")
+    stops, wanted = _stops(steps, every), _checked_kicks(session, kicks)
+    with _kept(session):
+        alone = _on_the_way(session, stops, session.places)
+        rows = [_distances_of(session, kick, stops, alone) for kick in wanted]
+    made = numpy.array(stops)
+    times = made * session.scale.reduced_dt
+    fitted = [(row, inside) for row in rows if len(inside := _inside(row)) >= 3]
+    exponents = [numpy.polyfit(times[inside], numpy.log(numpy.array(row)[inside]), 1)[0] for row, inside in fitted]
+    return Divergence(made, times, numpy.array(rows), wanted, numpy.array(exponents))
+
+
+def entropy_of_mixing(
+    session: "Session", steps: int, every: Optional[int] = None, cells: int = 4, labels: Optional[Sequence[object]] = None
+) -> Mixing:
+    """Makes steps there and back, and tells the entropy of mixing on both ways.
+
+    The box is divided into cells. The entropy is `- sum n ln(n / m)` over all kinds and cells, for each atom and in k_B, where a cell
+    has n atoms of a kind, of m.
+
+    Parameters
+    ----------
+    session : Session
+        A session whose scale is known. It is as it was at the end.
+    steps : int
+        How many steps are made there, and back.
+    every : int, optional
+        How many steps there are from frame to frame; a hundredth of the steps if nothing is said.
+    cells : int, optional
+        How many cells there are along each axis. With 10 atoms in a cell a random mixture has 0.05 less than an ideal one.
+    labels : sequence, optional
+        The kind of each atom, such as where it was at the start. Without it, its symbol.
+
+    Returns
+    -------
+    Mixing
+        The entropies there and back, which are the same to the bit.
+
+    Raises
+    ------
+    ValueError
+        If `steps`, `every` or `cells` is below 1, or the atoms are all of one kind.
+    Refused
+        If the quota has no place for a branch.
+    """
+    numpy = needed_numpy("an entropy of mixing")
+    stops, cells = _stops(steps, every), _at_least_1(cells, "cells")
+    kinds = list(session.symbols() if labels is None else labels)
+    if len(kinds) != session.atoms or len(set(kinds)) < 2:
+        raise ValueError(f"labels must be one of each of {session.atoms} atoms, and of two kinds at least: say labels=")
+    numbers = numpy.array([sorted(set(kinds), key=repr).index(kind) for kind in kinds])
+    frames, returned = _there_and_back(session, stops, session.places)
+    there, back = (numpy.array([_entropy_of(places, numbers, cells) for places in way]) for way in (frames, returned))
+    parts, drawn = numpy.bincount(numbers) / len(numbers), numpy.random.default_rng(0)
+    shuffled = [_entropy_of(frames[-1], drawn.permutation(numbers), cells) for _ in range(SHUFFLES)]
+    ideal = float(-(parts * numpy.log(parts)).sum())
+    return Mixing(numpy.array(stops), there, back, ideal, float(numpy.mean(shuffled)), cells)
+
+
+def arrow(session: "Session", steps: int, every: Optional[int] = None) -> Arrow:
+    """Makes steps there and back, and tells which quantities of a run tell the direction of time.
+
+    Each quantity has the same values on both ways, so none of a single frame tells it. What rises or falls all along does: a
+    crystal that melts loses potential energy on the way back alone. In a liquid in equilibrium nothing does but the distance
+    from a start that is known. Where the time step is long, the total energy does too, since the bins of the table have it grow.
+
+    Parameters
+    ----------
+    session : Session
+        A session whose scale is known. It is as it was at the end.
+    steps : int
+        How many steps are made there, and back.
+    every : int, optional
+        How many steps there are from frame to frame; a hundredth of the steps if nothing is said.
+
+    Returns
+    -------
+    Arrow
+        The quantities there and back, and their trends.
+
+    Raises
+    ------
+    ValueError
+        If `steps` or `every` is below 1.
+    Refused
+        If the quota has no place for a branch.
+    """
+    numpy = needed_numpy("an arrow of time")
+    stops, start = _stops(steps, every), session.places()
+    there, back = _there_and_back(session, stops, lambda: _quantities_of(next(session.frames([0])), start))
+    ways = [{name: numpy.array([each[name] for each in way]) for name in way[0]} for way in (there, back)]
+    return Arrow(numpy.array(stops), *ways)
+
+
+@contextlib.contextmanager
+def _kept(session: "Session") -> Iterator[None]:
+    """What is done within is undone at the end: the session is as it was. If the connection is lost, the error says how to go back."""
+    session.branch(START)
+    try:
+        yield
+    except BaseException as error:
+        with contextlib.suppress(ClientError):
+            _put_back(session)
+        if isinstance(error, ClientError) and not session.is_free:
+            error.more = error.more or f"{session.name} was on its way: restore({START!r}) leads back if it is still there"
+        raise
+    _put_back(session)
+
+
+def _put_back(session: "Session") -> None:
+    session.restore(START)
+    session.forget(START)
+
+
+def _stops(steps: int, every: Optional[int]) -> List[int]:
+    """After how many steps frames are: at the start, each so many, and at the end."""
+    total = _at_least_1(steps, "steps")
+    part = max(1, total // FRAMES) if every is None else _at_least_1(every, "every")
+    return [*range(0, total, part), total]
+
+
+def _back_of(stops: Sequence[int]) -> List[int]:
+    """After how many steps behind REVERSE the same frames are on the way back, but for the last one: it goes back by a step itself."""
+    return [stops[-1] - stop - 1 for stop in reversed(stops[:-1])]
+
+
+def _on_the_way(session: "Session", stops: Sequence[int], look: Callable[[], Looked]) -> List[Looked]:
+    """What is seen of a session after so many steps from here each."""
+    seen, made = [], 0
+    for stop in stops:
+        if stop > made:
+            session.advance(stop - made)
+        seen.append(look())
+        made = stop
+    return seen
+
+
+def _there_and_back(session: "Session", stops: Sequence[int], look: Callable[[], Looked]) -> Tuple[List[Looked], List[Looked]]:
+    """What is seen at each stop on the way there and on the way back, both in the order of the stops."""
+    with _kept(session):
+        there = _on_the_way(session, stops, look)
+        session.reverse()
+        back = _on_the_way(session, _back_of(stops), look)
+    return there, [*reversed(back), there[-1]]
+
+
+def _distances_of(session: "Session", kick: Kick, stops: Sequence[int], alone: Sequence[Any]) -> List[float]:
+    """How far a run with a kick from the start is from the run without it at each stop, in sigma."""
+    session.restore(START)
+    session.tug(*kick)
+    frames = _on_the_way(session, stops, session.places)
+    return [arrays.distance(*pair) / session.scale.sigma_on_ring for pair in zip(frames, alone)]
+
+
+def _inside(distances: Sequence[float]) -> List[int]:
+    """Which frames of a run are in the range of the fit: from the first at NEAR to the last before one is above FAR."""
+    first, after = (next((number for number, far in enumerate(distances) if far >= limit), len(distances)) for limit in (NEAR, FAR))
+    return list(range(first, after))
+
+
+def _entropy_of(places: Any, kinds: Any, cells: int) -> float:
+    """The entropy of mixing of a frame, in k_B for each atom, by the kind of each atom as a number."""
+    numpy = arrays.numpy
+    parts = (numpy.asarray(places) * cells) >> 32
+    cell_of = (parts[:, 0] * cells + parts[:, 1]) * cells + parts[:, 2]
+    count = int(kinds.max()) + 1
+    counts = numpy.bincount(cell_of * count + kinds, minlength=cells**3 * count).reshape(-1, count)
+    inside, total = counts[counts > 0], numpy.broadcast_to(counts.sum(axis=1, keepdims=True), counts.shape)[counts > 0]
+    return abs(float((inside * numpy.log(inside / total)).sum())) / len(kinds)
+
+
+def _quantities_of(frame: "Snapshot", start: Any) -> Dict[str, float]:
+    """The quantities of a frame by which `arrow` looks for the direction of time."""
+    energies, atoms = frame.energies, len(start)
+    return {
+        "kinetic": energies.kinetic / atoms,
+        "potential": energies.potential / atoms,
+        "total": energies.total / atoms,
+        "distance": arrays.distance(frame.places, start) / frame.scale.sigma_on_ring,
+        "maxwell": _above_maxwell(frame.velocities),
+    }
+
+
+def _above_maxwell(velocities: Any) -> float:
+    """Boltzmann's H of the velocity components, above that of Maxwell's distribution of the same temperature: `sum p ln(p / q)` over
+    bins of their amounts, which reversal does not change. 0 if all atoms are at rest."""
+    numpy = arrays.numpy
+    parts = abs(numpy.asarray(velocities).ravel())
+    root = math.sqrt((parts**2).mean())
+    if not root:
+        return 0.0
+    edges = [math.erf(SPEED_BIN * number / math.sqrt(2)) for number in range(SPEED_BINS)] + [1.0]
+    wanted = numpy.diff(edges)
+    bins = numpy.minimum((parts / root / SPEED_BIN).astype(int), SPEED_BINS - 1)
+    found = numpy.bincount(bins, minlength=SPEED_BINS) / len(parts)
+    there = found > 0
+    return float((found[there] * numpy.log(found[there] / wanted[there])).sum())
+
+
+def _rank_correlation(values: Any) -> float:
+    """Kendall's rank correlation with the time: pairs of frames that rise, without those that fall, as a part of all pairs."""
+    numpy, count = arrays.numpy, len(values)
+    rises = numpy.sign(numpy.subtract.outer(values, values))
+    return float(numpy.tril(rises).sum()) / (count * (count - 1) / 2)
+
+
+def _departure(values: Any) -> float:
+    """How far the first value is from the mean of the second half, in its standard deviations."""
+    later = values[len(values) // 2 :]
+    apart, deviation = float(values[0] - later.mean()), float(later.std())
+    return apart / deviation if deviation else math.copysign(math.inf, apart) if apart else 0.0
+
+
+def _checked_kicks(session: "Session", kicks: Union[int, Sequence[Kick]]) -> Tuple[Kick, ...]:
+    """Kicks as they were said, or so many of which each has another atom."""
+    atoms = session.atoms
+    if isinstance(kicks, int):
+        count = _at_least_1(kicks, "kicks")
+        if count > atoms:
+            raise ValueError(f"kicks must be at most {atoms}, which is how many atoms there are, got {count}")
+        return tuple(Kick(number * atoms // count) for number in range(count))
+    wanted = tuple(_checked_kick(session, kick) for kick in kicks)
+    if not wanted:
+        raise ValueError("kicks must be one at least, got none")
+    return wanted
+
+
+def _checked_kick(session: "Session", kick: Kick) -> Kick:
+    """A kick of an atom that there is."""
+    atom, displacement = kick
+    if (number := count_of(atom, "an atom number")) >= session.atoms:
+        raise ValueError(f"the atom of a kick must be below {session.atoms}, which is how many there are, got {number}")
+    return Kick(number, displacement_of(displacement))
+
+
+def _at_least_1(number: Any, what: str) -> int:
+    """A whole number above 0. Raises TypeError or ValueError for what is none."""
+    if (count := whole_of(number, what)) < 1:
+        raise ValueError(f"{what} must be 1 at least, got {count}")
+    return count
+
+
+def _axes(axes: Any) -> Any:
+    """The axes that are given, or new ones."""
+    return pyplot("a plot needs").subplots(layout="constrained")[1] if axes is None else axes
+
+
+def _both_ways(axes: Any, steps: Any, there: Any, back: Any) -> Any:
+    """Draws a quantity over the steps made on both ways."""
+    turn = steps[-1]
+    axes.plot(steps, there, color="tab:red", label="there")
+    axes.plot(2 * turn - steps, back, color="tab:blue", label="back: after reverse")
+    axes.axvline(turn, color="gray", linestyle=":", linewidth=1)
+    axes.set(xlim=(0, 2 * turn))
+    return axes
