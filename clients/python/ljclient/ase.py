@@ -18,11 +18,11 @@ from __future__ import annotations
 
 import contextlib
 import operator
-from typing import Any, Dict, Iterator, Optional, Sequence
+from typing import Any, Iterator, Optional, Sequence
 
 from . import arrays, ase_bridge, optional
 from .arrays import least_images, numpy
-from .ase_bridge import TIME_UNIT
+from .ase_bridge import TIME_UNIT, TWO_SPECIES, potential_of
 from .centred import three_frames
 from .mixture import Pair
 from .names import count_of
@@ -32,7 +32,6 @@ from .unwrapping import Path
 from .user import User, run
 
 WHY = "ljclient.ase needs"
-TWO_SPECIES = "of two species species=, first= and second= (sigma, epsilon), and mixed="
 _Driver: Any = optional.ase("ase.md.md", WHY).MolecularDynamics
 _Calculator: Any = optional.ase("ase.calculators.singlepoint", WHY).SinglePointCalculator
 
@@ -90,7 +89,7 @@ class ReversibleVerlet(_Driver):  # type: ignore[misc]
         name: str = "ase",
     ):
         said = {"sigma": sigma, "epsilon": epsilon, "species": species, "first": first, "second": second, "mixed": mixed}
-        self._words = {**_potential_of(said), "dt": timestep * TIME_UNIT, "mass": _mass_of(atoms, mass)}
+        self._words = {**potential_of(said), "dt": timestep * TIME_UNIT, "mass": _mass_of(atoms, mass)}
         self._name = name
         self.atoms = atoms
         with contextlib.ExitStack() as opened:
@@ -209,15 +208,6 @@ class ReversibleVerlet(_Driver):  # type: ignore[misc]
                 self._shown = atoms.copy()
                 return
         self._load()
-
-
-def _potential_of(said: Dict[str, Any]) -> Dict[str, Any]:
-    """The words of these that say how atoms interact, of one species or of two. Raises ValueError if they are neither."""
-    words = {name: value for name, value in said.items() if value is not None}
-    two = {"species", "first", "second"}
-    if words.keys() != {"sigma", "epsilon"} and not two <= words.keys() <= {*two, "mixed"}:
-        raise ValueError(f"say sigma= and epsilon=, or {TWO_SPECIES}")
-    return words
 
 
 def _mass_of(atoms: Any, mass: Optional[float]) -> float:

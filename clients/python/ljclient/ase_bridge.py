@@ -2,7 +2,7 @@
 from __future__ import annotations
 
 import importlib
-from typing import Any, List, Optional, Sequence
+from typing import Any, Dict, List, Optional, Sequence
 
 from . import arrays
 from .elements import Replacements, replaced, wanted
@@ -11,6 +11,16 @@ from .units import RING, Scale, time_unit
 
 TIME_UNIT = time_unit(1.0, 1.0, 1.0)
 """The unit of time of ASE in femtoseconds: `angstrom sqrt(dalton / electronvolt)`."""
+TWO_SPECIES = "of two species species=, first= and second= (sigma, epsilon), and mixed="
+
+
+def potential_of(said: Dict[str, Any]) -> Dict[str, Any]:
+    """The words of these that say how atoms interact, of one species or of two. Raises ValueError if they are neither."""
+    words = {name: value for name, value in said.items() if value is not None}
+    two = {"species", "first", "second"}
+    if words.keys() != {"sigma", "epsilon"} and not two <= words.keys() <= {*two, "mixed"}:
+        raise ValueError(f"say sigma= and epsilon=, or {TWO_SPECIES}")
+    return words
 
 
 def is_atoms(source: Any) -> bool:

@@ -33,6 +33,13 @@ how many trajectories there are, of which another one begins where the session i
 of the commands that were played, which each record of these commands has; and the SHA-256 of the record. A line for each
 load has the SHA-256 of its body. What was not played is only what the file says.
 
+A session is loaded again by DROP and LOAD, by `moved`, and by 10 or a load that is granted, or refused for its body or for want of
+room, over a new connection. Both frames, the symbols, sigma on the ring, h and weights are then compared with those just before,
+in whatever order the atoms are. A TUG or a RESTORE begins no other trajectory. A session with saved states goes on behind `moved`
+only if each of them is saved again as it was, under its name and in its order, and then the session is as it was before these were
+restored and read: nothing but TUG and REVERSE may stand between. Over a server nothing is compared, nor where a program's million
+commands leave no room to read the frames: then it is `at most` so many trajectories.
+
 Status 0: each reply is the same. 1: one differs. 2: it could not be played, or the file is damaged or not the one of --sha256.
 3: each reply is the same, and the record has no `end`, or is cut short (with --partial: 0).
 """

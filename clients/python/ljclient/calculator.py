@@ -1,0 +1,189 @@
+"""A calculator of ASE, and a driver of i-PI by it: energies, forces and stresses of Lennard-Jones atoms by the program's own table.
+
+    from ase.build import bulk
+    from ase.optimize import BFGS
+    from ljclient import units
+    from ljclient.calculator import Ljserve
+
+    atoms = bulk("Ar", "fcc", a=5.3, cubic=True) * (4, 4, 4)
+    atoms.rattle(0.1)
+    with Ljserve(sigma=3.4, epsilon=119.8 * units.kelvin) as atoms.calc:
+        BFGS(atoms).run(fmax=0.01)
+
+Numbers are in the units of ASE. An import of this module without ASE is a `Missing` error.
+"""
+from __future__ import annotations
+
+import math
+from types import TracebackType
+from typing import Any, Dict, List, Optional, Sequence, Type
+
+from . import ase_bridge, optional, units
+from .arrays import numpy
+from .ase_bridge import potential_of
+from .mixture import Pair
+from .pressure import composition_of
+from .session import Session
+from .user import User, run
+from .virial_tensor import virial_tensor
+
+__all__ = ["Ljserve", "drive"]
+
+WHY = "ljclient.calculator needs"
+_Base: Any = optional.ase("ase.calculators.calculator", WHY).Calculator
+_ALL_CHANGES: List[str] = optional.ase("ase.calculators.calculator", WHY).all_changes
+_voigt: Any = optional.ase("ase.stress", WHY).full_3x3_to_voigt_6_stress
+
+H = 1 << 18
+"""The step factor by whose one step forces are read: so large that rounding counts for little, and no push goes half round the box."""
+MASS = 1.0
+"""The mass in dalton of all atoms, on which no energy and no force depends."""
+
+
+class Ljserve(_Base):  # type: ignore[misc]
+    """Energy, forces and stress of Lennard-Jones atoms, as a `Calculator` of ASE.
+
+    Atoms are in a periodic cubic cell whose edge is above five sigma. All calculations are of one session, which is loaded anew if the
+    atoms have changed. Constraints are for ASE to keep, which takes forces and moves of fixed atoms away.
+
+    The potential is cut off at 2.5 sigma and not shifted, and each pair has the energy and the force of the centre of a bin of its
+    squared distance, 128 bins to sigma^2. So the energy has steps, by up to 0.2 epsilon a pair, and forces are 2.6 % off, root mean
+    square. Optimizers that go by forces alone find their way, such as `BFGS` and `FIRE`, but a `fmax` below 0.002 eV/angstrom is not
+    reached in general. For phonons take displacements of 0.05 angstrom or more, several bins wide. An `EquationOfState`, `NEB` with
+    `allow_shared_calculator=True` and `SocketClient` take it too. Filters that shear the cell or stretch one axis are refused.
+
+    Parameters
+    ----------
+    sigma, epsilon : float, optional
+        Of atoms that are all alike: the distance in angstrom and the depth of the potential in electronvolt.
+    species : sequence of str, optional
+        The two symbols of a mixture; then `first` and `second` are said, and `mixed` may be.
+    first, second, mixed : tuple of float, optional
+        Sigma and epsilon of two atoms of the first species, of two of the second and of one of each, as in `User.load_mix`.
+    user : User, optional
+        Whose session it is, as `connect(..)` gives one; else a program of its own is started by the first calculation.
+    name : str, optional
+        The name of the session, in place of one of that name.
+
+    Attributes
+    ----------
+    session : Session or None
+        The session of the last calculation, at step 0.
+
+    Raises
+    ------
+    ValueError
+        If the words say neither one species nor two; of a calculation, if the cell is not cubic and periodic, or the symbols are others
+        than the two species.
+    """
+
+    implemented_properties = ["energy", "free_energy", "forces", "stress"]
+
+    def __init__(
+        self,
+        *,
+        sigma: Optional[float] = None,
+        epsilon: Optional[float] = None,
+        species: Optional[Sequence[str]] = None,
+        first: Optional[Pair] = None,
+        second: Optional[Pair] = None,
+        mixed: Optional[Pair] = None,
+        user: Optional[User] = None,
+        name: str = "calculator",
+        **words: Any,
+    ):
+        super().__init__(**words)
+        said = {"sigma": sigma, "epsilon": epsilon, "species": species, "first": first, "second": second, "mixed": mixed}
+        self._words = _words_of(potential_of(said))
+        self._user, self._own, self._name = user, user is None, name
+        self.session: Optional[Session] = None
+
+    def calculate(
+        self, atoms: Any = None, properties: Sequence[str] = ("energy",), system_changes: Sequence[str] = tuple(_ALL_CHANGES)
+    ) -> None:
+        """As ASE calls it: takes the atoms in, and has `results` tell all properties of them."""
+        super().calculate(atoms, properties, system_changes)
+        if self.session is None or system_changes:
+            self.session = self._loaded()
+            self.results: Dict[str, Any] = {}
+        session = self.session
+        unit = session.scale.epsilon or 1.0
+        if "energy" not in self.results:
+            energy = session.measure().potential_energy * unit
+            self.results.update(energy=energy, free_energy=energy, forces=numpy.asarray(session.forces()))
+        if "stress" in properties:
+            tensor = virial_tensor(session.places(), composition_of(session, session.user))
+            self.results["stress"] = _voigt(-tensor * unit / session.edge**3)
+
+    def _loaded(self) -> Session:
+        """The session of the atoms as they are, at rest."""
+        atoms = _checked(self.atoms)
+        if self._user is None:
+            self._user = run()
+        at_rest, symbols = atoms.copy(), atoms.get_chemical_symbols()
+        at_rest.set_momenta(None)
+        load: Any = self._user.load_mix if "species" in self._words else self._user.load
+        if "species" not in self._words:
+            symbols = symbols[0]
+        session: Session = load(self._name, at_rest, symbols=symbols, order="space", replace=True, watch=False, **self._words)
+        return session
+
+    def close(self) -> None:
+        """Gives up the session, and ends the program if it was started here. A calculation after that begins anew."""
+        session, self.session = self.session, None
+        self.reset()
+        if session is not None and not session.user.closed:
+            session.drop()
+        if self._own and self._user is not None:
+            self._user.close()
+            self._user = None
+
+    def __enter__(self) -> "Ljserve":
+        return self
+
+    def __exit__(self, kind: Optional[Type[BaseException]], error: Optional[BaseException], trace: Optional[TracebackType]) -> None:
+        self.close()
+
+
+def drive(
+    atoms: Any, calculator: Ljserve, *, host: str = "localhost", port: Optional[int] = None, unixsocket: Optional[str] = None
+) -> None:
+    """Computes for i-PI, or another server of its protocol, until that ends: energies, forces and virials of the positions it sends.
+
+    Parameters
+    ----------
+    atoms : ase.Atoms
+        The atoms in the order of the server, whose positions and cell are those that it sends.
+    calculator : Ljserve
+        What computes.
+    host : str, optional
+        Where the server listens.
+    port : int, optional
+        Its port; 31415, which is that of i-PI, if nothing is said.
+    unixsocket : str, optional
+        In place of a port, the name of its socket: NAME of `/tmp/ipi_NAME`.
+
+    Raises
+    ------
+    OSError
+        If nobody listens there.
+    """
+    client: Any = optional.ase("ase.calculators.socketio", WHY).SocketClient
+    atoms.calc = calculator
+    client(host=host, port=port, unixsocket=unixsocket).run(atoms, use_stress=True)
+
+
+def _words_of(potential: Dict[str, Any]) -> Dict[str, Any]:
+    """The words of `load` or `load_mix` for a potential, with a mass and a time step for forces to be read by."""
+    if "sigma" in potential:
+        return {**potential, "h": H}
+    sigma, epsilon = potential["first"]
+    return {**potential, "mass": MASS, "dt": units.time_unit(sigma, epsilon, MASS) * math.sqrt(H / units.RING)}
+
+
+def _checked(atoms: Any) -> Any:
+    """Atoms in a periodic cubic cell. Raises ValueError for others."""
+    if not all(atoms.pbc):
+        raise ValueError(f"the cell must be periodic along each axis, got pbc={atoms.pbc.tolist()}: say atoms.pbc = True")
+    ase_bridge.edge_of(atoms)
+    return atoms
