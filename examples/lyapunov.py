@@ -8,6 +8,8 @@ to Dask:
     mpiexec -n 4 python3 -m mpi4py.futures examples/lyapunov.py --mpi
     python3 examples/lyapunov.py --dask tcp://127.0.0.1:8786      (or --dask local for a cluster of its own)
 
+Workers of Dask have `clients/python` and `examples` in their PYTHONPATH.
+
 Prints the growth of the distance, or draws it with --plot, and the Lyapunov exponent with its error: the slope of the logarithm
 of each run's distance over the time, from 1/256 to 1/10 of sigma, as mean and standard error over the runs.
 

@@ -35,7 +35,8 @@ python_use_unqualified_type_names = True
 
 # Libraries that modules of the package need, and that may be missing where the reference is made.
 OPTIONAL = ("ase", "numpy", "matplotlib", "MDAnalysis", "prompt_toolkit", "aiohttp", "tqdm")
-autodoc_mock_imports = [name for name in OPTIONAL if importlib.util.find_spec(name) is None]
+# MDAnalysis gives warnings of its own as it is imported, and no warning is let pass here.
+autodoc_mock_imports = [name for name in OPTIONAL if name == "MDAnalysis" or importlib.util.find_spec(name) is None]
 # What only the package itself calls.
 INTERNAL = {
     "User": "ask_commands ask_text ask_rows known has_dropped state_of row restore resort is_free make_room outlasts_connections",

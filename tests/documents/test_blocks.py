@@ -365,13 +365,13 @@ def on_the_way(block: Any, folder: Any) -> None:
 
 
 def other_kinds_of_files(block: Any, folder: Any) -> None:
-    """Both files have the frames, as the library reads them."""
+    """Both files have the frames, as the library reads them, of which the first is the crystal."""
     mda = pytest.importorskip("MDAnalysis", reason="MDAnalysis is not installed")
     assert folder.python(block.text) == []
-    one, other = (mda.Universe.empty(256).load_new(str(folder.path / f"argon.{ending}")).trajectory for ending in ("dcd", "xtc"))
-    assert len(one) == len(other) == 5
-    for each, like in zip(one, other):
-        assert abs(each.positions - like.positions).max() < 0.02 and like.dimensions[0] == pytest.approx(21.04)
+    way = mda.Universe(str(folder.path / "argon.gro"), str(folder.path / "argon.xtc")).trajectory
+    crystal = mda.Universe(str(EXAMPLES / "argon_256.xyz")).atoms.positions
+    assert len(way) == 5 and way[0].dimensions[0] == pytest.approx(21.04)
+    assert abs((way[0].positions - crystal + 10.52) % 21.04 - 10.52).max() < 0.02
 
 
 def to_a_temperature(block: Any, folder: Any) -> None:
@@ -495,7 +495,7 @@ BLOCKS = {
         "argon.equilibrate(": to_a_temperature,
         "state_points.equation_of_state(": "takes minutes; clients/python/tests/test_state_points.py has one of few steps",
         "print(reversal.echo(": echo_of_a_liquid,
-        "import MDAnalysis": other_kinds_of_files,
+        "ljclient.mdanalysis import": other_kinds_of_files,
     },
     "docs/api/view.md": {
         "python3 -m ljclient view  ": "needs a browser; clients/python/tests/test_view_program.py begins it without one",

@@ -7,6 +7,7 @@ import threading
 from typing import TYPE_CHECKING, Any, Dict, Iterable, Iterator, List, Optional, Sequence, Set, Tuple, cast
 
 from . import checkpoint, files, units, xyz
+from .atom_groups import adapted
 from .energy_watch import EnergyWatch, warn_of_large_steps
 from .errors import ClientError, NotRecorded
 from .guards import branches_of, checked_session
@@ -70,9 +71,9 @@ class Loader:
         """Loads atoms into a new session, at step 0.
 
         name     the name of the session: 1 to 16 letters, digits, `_` or `-`
-        source   the atoms: the path of an XYZ file, an open one, XYZ text, `Atoms` of ASE, a list of
-                 `(symbol, x, y, z)`, or positions with `symbols`. ValueError if they have more than one symbol, or that of
-                 another element than the substance of `units` whose sigma, epsilon and mass are said
+        source   the atoms: the path of an XYZ file, an open one, XYZ text, `Atoms` of ASE, an `AtomGroup` or a `Universe` of
+                 MDAnalysis, a list of `(symbol, x, y, z)`, or positions with `symbols`. ValueError if they have more than one symbol,
+                 or that of another element than the substance of `units` whose sigma, epsilon and mass are said
         symbols  the symbol of all atoms, or a list of one for each, in place of those of the source, whatever these are
         edge     the edge of the cubic box, in the unit of the file. Where it is not said, it is that of `Atoms` in a cubic cell,
                  or of the cubic `Lattice` of extended XYZ. Where it is said, no cell and no Lattice is looked at
@@ -109,6 +110,7 @@ class Loader:
         If the file can no longer be written, `NotRecorded` is raised, and the session goes on without a record.
         """
         checked_session(name)
+        source, before = adapted(source), adapted(before)
         frames = xyz.frames_of(source, before, symbols, pair)
         edge = _edge_of(edge, source, frames)
         scale = units.Scale.of(edge, sigma, h, epsilon=epsilon, mass=mass, dt=dt)
@@ -166,6 +168,7 @@ class Loader:
         epsilon  that of the first in electronvolt, and mass, where `Session.dt` and temperatures in kelvin are to be known
         """
         checked_session(name)
+        source, before = adapted(source), adapted(before)
         frames = xyz.frames_of(source, before, symbols, pair)
         edge = _edge_of(edge, source, frames)
         mixture = Mixture.of(edge, species, first=first, second=second, mixed=mixed, mass=mass, dt=dt, classes=classes, epsilon=epsilon)

@@ -1,0 +1,46 @@
+"""Atoms of MDAnalysis as a source, which speak like `Atoms` of ASE here."""
+from __future__ import annotations
+
+from typing import Any, List, Optional, Sequence
+
+from .ase_bridge import TIME_UNIT
+
+PICOSECOND = 1000.0
+
+
+class GroupAtoms:
+    """An `AtomGroup` or a `Universe` of MDAnalysis at its present frame. Its box is that of `dimensions`, its symbols are those of
+    `elements`, else of `types` or `names` if it has them, and its velocities are in angstrom / ps."""
+
+    def __init__(self, group: Any):
+        self._group = group
+
+    def get_chemical_symbols(self) -> List[str]:
+        for attribute in ("elements", "types", "names"):
+            words = [str(word) for word in getattr(self._group, attribute, [])]
+            if words and all(words):
+                return words
+        return []
+
+    def get_positions(self) -> List[List[float]]:
+        return [list(map(float, place)) for place in self._group.positions]
+
+    def get_cell(self) -> List[List[float]]:
+        """The cell. ValueError if the frame has no box, or one that is not rectangular."""
+        sides: Optional[Sequence[float]] = self._group.dimensions
+        if sides is None or any(abs(float(angle) - 90) > 1e-3 for angle in sides[3:]):
+            raise ValueError(f"the box of the atoms is none along the axes, {sides!r}: say edge=")
+        return [[float(sides[axis]) * (axis == other) for axis in range(3)] for other in range(3)]
+
+    def get_velocities(self) -> Optional[List[List[float]]]:
+        """The velocities in the units of ASE; None if the frame has none."""
+        if not self._group.universe.trajectory.ts.has_velocities:
+            return None
+        return [[float(part) * TIME_UNIT / PICOSECOND for part in velocity] for velocity in self._group.velocities]
+
+
+def adapted(source: Any) -> Any:
+    """A source as it is, and atoms of MDAnalysis as what speaks like `Atoms` of ASE."""
+    if all(hasattr(source, name) for name in ("atoms", "universe", "dimensions")):
+        return GroupAtoms(source.atoms)
+    return source
