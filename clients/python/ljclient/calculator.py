@@ -47,10 +47,11 @@ class Ljserve(_Base):  # type: ignore[misc]
     atoms have changed. Constraints are for ASE to keep, which takes forces and moves of fixed atoms away.
 
     The potential is cut off at 2.5 sigma and not shifted, and each pair has the energy and the force of the centre of a bin of its
-    squared distance, 128 bins to sigma^2. So the energy has steps, by up to 0.2 epsilon a pair, and forces are 2.6 % off, root mean
-    square. Optimizers that go by forces alone find their way, such as `BFGS` and `FIRE`, but a `fmax` below 0.002 eV/angstrom is not
-    reached in general. For phonons take displacements of 0.05 angstrom or more, several bins wide. An `EquationOfState`, `NEB` with
-    `allow_shared_calculator=True` and `SocketClient` take it too. Filters that shear the cell or stretch one axis are refused.
+    squared distance, 128 bins to sigma^2. So the energy has steps, of 0.09 epsilon for a pair that is sigma apart, and forces are 2.6 %
+    off, root mean square. Optimizers that go by forces alone find their way, such as `BFGS` and `FIRE`, but a `fmax` below 0.002
+    eV/angstrom is not reached in general. For phonons take displacements of 0.05 angstrom or more, several bins wide. An
+    `EquationOfState`, `NEB` with `allow_shared_calculator=True` and `SocketClient` take it too. Filters that shear the cell or stretch
+    one axis are refused.
 
     Parameters
     ----------

@@ -7,7 +7,7 @@ import math
 import random
 from typing import Any, Dict, Iterator, List, Optional, Sequence, Tuple
 
-from . import units
+from . import ase_bridge, units
 from .names import checked_symbol, whole_of
 from .optional import needed_numpy
 
@@ -233,7 +233,7 @@ def binary(
     return dataclasses.replace(configuration, symbols=symbols)
 
 
-def relax(configuration: Configuration, closest: float = CLOSEST) -> Configuration:
+def relax(source: Any, closest: float = CLOSEST, sigma: Optional[float] = None) -> Configuration:
     """Pushes atoms apart that overlap, until no two are nearer than a distance. It needs numpy.
 
     Each pair that is nearer is pushed apart along the line between both, the others stay. A liquid of density 0.85 takes some ten
@@ -241,10 +241,12 @@ def relax(configuration: Configuration, closest: float = CLOSEST) -> Configurati
 
     Parameters
     ----------
-    configuration : Configuration
-        The atoms, wherever they are.
+    source : Configuration or ase.Atoms
+        The atoms, wherever they are, in a cubic box.
     closest : float, optional
         The distance in sigma.
+    sigma : float, optional
+        The length of the potential, in the unit of the positions, which `Atoms` of ASE do not say.
 
     Returns
     -------
@@ -254,9 +256,9 @@ def relax(configuration: Configuration, closest: float = CLOSEST) -> Configurati
     Raises
     ------
     ValueError
-        If there is no room for so many atoms at this distance, or none was found in 2,000 rounds.
+        If there is no room for so many atoms at this distance, or none was found in 2,000 rounds, or sigma is not known.
     """
-    numpy = needed_numpy("a relaxation")
+    numpy, configuration = needed_numpy("a relaxation"), _taken(source, sigma)
     positions, edge = numpy.array(configuration.positions, dtype=float) % configuration.edge, configuration.edge
     distance = units.checked_positive("closest", closest) * configuration.sigma
     if configuration.n_atoms * distance**3 / math.sqrt(2) >= edge**3:
@@ -271,6 +273,19 @@ def relax(configuration: Configuration, closest: float = CLOSEST) -> Configurati
         positions = (positions + moves) % edge
         moved += float(numpy.sqrt((moves**2).sum(axis=1)).max())
     raise ValueError(f"closest must leave room for {configuration.n_atoms} atoms, and none was found for {closest!r}: say less")
+
+
+def _taken(source: Any, sigma: Optional[float]) -> Configuration:
+    """A source as a configuration, of this sigma if it is said."""
+    if isinstance(source, Configuration):
+        return source if sigma is None else dataclasses.replace(source, sigma=units.checked_positive("sigma", sigma))
+    if not ase_bridge.is_atoms(source):
+        raise TypeError(f"source must be a Configuration or Atoms of ASE, got {type(source).__name__}")
+    if sigma is None:
+        raise ValueError("sigma must be said where the source is no Configuration, got None: say sigma=")
+    positions = tuple((float(x), float(y), float(z)) for x, y, z in source.get_positions())
+    symbols = tuple(source.get_chemical_symbols())
+    return Configuration(symbols, positions, ase_bridge.edge_of(source), units.checked_positive("sigma", sigma))
 
 
 def _pairs(positions: Any, edge: float, reach: float) -> Any:

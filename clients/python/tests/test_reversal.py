@@ -1,14 +1,16 @@
 """Echoes, runs that part, entropies of mixing and the direction of time, of atoms whose motion is known by hand."""
 import math
+import os
 import pathlib
+import signal
 from typing import Any, List
 from unittest import mock
 
 import pytest
 
-from ljclient import ClientError, arrays, refusals, reversal, run
+from ljclient import ClientError, ConnectionLost, arrays, refusals, reversal, run
 from ljclient.reversal import Kick, arrow, divergence, echo, entropy_of_mixing
-from support import PROGRAM, dimer, listed
+from support import PROGRAM, dimer, joined, listed, process_of
 
 numpy = pytest.importorskip("numpy", reason="numpy is not installed")
 
@@ -166,6 +168,31 @@ def test_an_interrupt_leaves_the_session_as_it_was(user: Any) -> None:
         echo(a, 3)
     assert seen == [0, 1, 2, 3, 2]
     assert state_of(a) == before
+
+
+def test_a_lost_connection_says_how_to_go_back(user: Any) -> None:
+    a = dimer(user)
+    places: Any = type(a).places
+
+    def lost(session: Any) -> Any:
+        if session.step == 2:
+            os.kill(process_of(user), signal.SIGKILL)
+        return places(session)
+
+    with mock.patch.object(type(a), "places", lost), pytest.raises(ConnectionLost, match=r"a was on its way: restore\('reversal-start'\)"):
+        echo(a, 3)
+
+
+def test_at_a_server_and_in_the_order_of_space(server: Any) -> None:
+    with joined(server.port) as user:
+        for name, order in (("plain", None), ("space", "space")):
+            a = dimer(user, name, order=order)
+            a.advance(2)
+            before = state_of(a)
+            assert echo(a, 4, None).returned == 0
+            assert echo(a, 4, Kick(1, (5, 0, 0))).distances[-1] == pytest.approx(5 * 3 * UNIT / math.sqrt(2), rel=0.02)
+            assert arrow(a, 2).is_exact
+            assert state_of(a) == before and a.order.numbers == user.session(name).order.numbers
 
 
 def test_where_the_quota_has_no_place_for_a_branch() -> None:

@@ -63,6 +63,18 @@ def test_only_what_overlaps_is_pushed_apart() -> None:
     assert neighbours(round_the_box).min() == pytest.approx(0.918)
 
 
+def test_atoms_of_ase_are_relaxed() -> None:
+    ase = pytest.importorskip("ase", reason="ASE is not installed")
+    atoms = ase.Atoms("ArKr", positions=[[16.3, 17, 17], [17.7, 17, 17]], cell=[34] * 3, pbc=True)
+    relaxed = relax(atoms, sigma=3.4)
+    assert numpy.array(relaxed.positions)[:, 0] == pytest.approx([17 - 0.459 * 3.4, 17 + 0.459 * 3.4])
+    assert (relaxed.symbols, relaxed.edge, relaxed.sigma) == (("Ar", "Kr"), 34, 3.4)
+    with pytest.raises(ValueError, match="say sigma="):
+        relax(atoms)
+    with pytest.raises(TypeError, match="got list"):
+        relax([[0, 0, 0]])
+
+
 def test_a_slab() -> None:
     """Of fcc cells with an edge of (4 / 0.8)^(1/3) = 1.71: 10 sigma are 6 of them and 4 sigma are 2."""
     film = slab("fcc", density=0.8, edge=10, thickness=4)
