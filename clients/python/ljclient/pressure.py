@@ -5,12 +5,14 @@ The forces between two atoms are those of the program's table: 800 bins of the s
 from __future__ import annotations
 
 import functools
-from typing import TYPE_CHECKING, Any, NamedTuple, Sequence, Tuple
+from typing import TYPE_CHECKING, Any, Iterator, NamedTuple, Sequence, Tuple
 
 from . import arrays
 from .centred import ThreeFrames, three_frames
 from .errors import ClientError
+from .neighbours import Near, near_parts
 from .state import symbols_of
+from .tails import energy_tail, pressure_tail
 from .units import POTENTIAL_UNIT, RING, Scale
 
 if TYPE_CHECKING:
@@ -18,16 +20,15 @@ if TYPE_CHECKING:
     from .user import User
 
 BINS_TO_SQUARE, BINS, MIN_BIN = 128, 800, 64
-# So many atoms are compared with all others at a time.
-BLOCK = 256
 
 
 class Composition(NamedTuple):
     """How atoms interact: the scales of two atoms of the first species, of one of each and of two of the second; and of each
-    atom whether it is of the second. Of one species there is one scale, and no second."""
+    atom whether it is of the second. Of one species there is one scale, and no second. Then the symbols of both species."""
 
     classes: Tuple[Scale, ...]
     seconds: Sequence[bool] = ()
+    species: Tuple[str, ...] = ()
 
 
 def composition_of(session: "Session", user: "User") -> Composition:
@@ -35,13 +36,20 @@ def composition_of(session: "Session", user: "User") -> Composition:
     if session.mixture is None:
         return Composition((session.scale,))
     second = session.mixture.species[1]
-    return Composition(session.mixture.classes, [symbol == second for symbol in symbols_of(user, session.name)])
+    seconds = [symbol == second for symbol in symbols_of(user, session.name)]
+    return Composition(session.mixture.classes, seconds, session.mixture.species)
 
 
-def pressure(session: "Session", user: "User") -> float:
+def pressure(session: "Session", user: "User", tail: bool = False) -> float:
     """As `Session.pressure`."""
     checked_numpy()
-    return of_frames(three_frames(user, session.name), composition_of(session, user))
+    three, atoms = three_frames(user, session.name), composition_of(session, user)
+    return of_frames(three, atoms) + (pressure_tail(atoms, len(three.now)) if tail else 0.0)
+
+
+def lacking_energy(session: "Session", user: "User") -> float:
+    """What the energy of a session lacks by the cutoff, in epsilon of the first class."""
+    return energy_tail(composition_of(session, user), session.atoms)
 
 
 def checked_numpy() -> None:
@@ -55,43 +63,83 @@ def of_frames(three: ThreeFrames, atoms: Composition) -> float:
     in epsilon / sigma^3 of the first class."""
     checked_numpy()
     scale = atoms.classes[0]
-    moved = arrays.added(arrays.least_images(three.now, three.before), arrays.least_images(three.after, three.now)) / 2
-    volume = (RING / scale.sigma_on_ring) ** 3
-    return float((2 * scale.kinetic_energy((moved**2).sum()) + virial(three.now, atoms)) / (3 * volume))
+    return float((2 * scale.kinetic_energy((_moved(three) ** 2).sum()) + virial(three.now, atoms)) / (3 * _volume(scale)))
+
+
+def tensor_of_frames(three: ThreeFrames, atoms: Composition) -> Any:
+    """The pressure tensor of three frames, an array of shape (3, 3) whose trace is three times the pressure, in its units."""
+    checked_numpy()
+    scale, moved = atoms.classes[0], _moved(three)
+    kinetic = 2 * scale.kinetic_energy(1) * (moved.T @ moved)
+    return (kinetic + virial_tensor(three.now, atoms)) / _volume(scale)
+
+
+def _moved(three: ThreeFrames) -> Any:
+    """How far each atom moves in a step, by the step before and the step after."""
+    return arrays.added(arrays.least_images(three.now, three.before), arrays.least_images(three.after, three.now)) / 2
+
+
+def _volume(scale: Scale) -> float:
+    """The volume of the box, in sigma^3."""
+    return float((RING / scale.sigma_on_ring) ** 3)
 
 
 def virial(places: Any, atoms: Composition) -> float:
     """The sum of force times distance over all pairs of atoms, in epsilon of the first class. Repulsion counts above 0."""
-    # Differences of 32 bits are those round the box the nearer way.
-    axes = arrays.numpy.ascontiguousarray(arrays.numpy.asarray(places).astype(arrays.numpy.uint32).T)
-    seconds = arrays.numpy.array(atoms.seconds or [False] * len(places), dtype=arrays.numpy.intp)
-    between = functools.partial(_between, axes, seconds, atoms.classes)
-    total = 0.0
-    for start in range(0, axes.shape[1], BLOCK):
-        block, later = slice(start, start + BLOCK), slice(start + BLOCK, None)
-        total += between(block, block) / 2 + between(block, later)
+    return sum(float((each.entries * each.squares).sum()) * each.unit for each in _interacting(places, atoms))
+
+
+def virial_tensor(places: Any, atoms: Composition) -> Any:
+    """The sums over all pairs of a component of the force times one of the distance: an array of shape (3, 3), whose trace is the
+    virial."""
+    total = arrays.numpy.zeros((3, 3))
+    for each in _interacting(places, atoms):
+        images = each.near.images[:, each.which] / each.sigma
+        total += (images * each.entries) @ images.T * each.unit
     return total
 
 
-def _between(axes: Any, seconds: Any, classes: Sequence[Scale], block: slice, others: slice) -> float:
-    """The virial of each of some atoms with each of others. That of an atom with itself is 0, since their distance is."""
-    squares = arrays.numpy.zeros((axes[0, block].size, axes[0, others].size))
-    for axis in axes:
-        image = (axis[block, None] - axis[None, others]).view(arrays.numpy.int32).astype(arrays.numpy.float64)
-        squares += image * image
-    if len(classes) == 1:
-        return _of_class(squares, classes[0], classes[0])
-    kinds = seconds[block, None] + seconds[None, others]
-    return sum(_of_class(squares[kinds == kind], each, classes[0]) for kind, each in enumerate(classes))
+class Interacting(NamedTuple):
+    """Pairs of one class that are nearer to each other than the cutoff.
+
+    near     the pairs, with others
+    which    which of them these are
+    sigma    that of the class, in ring units
+    squares  the squared distances, in squares of sigma
+    entries  the force of each divided by the distance, in epsilon / sigma^2 of the class
+    unit     an epsilon of the class in those of the first class
+    """
+
+    near: Near
+    which: Any
+    sigma: float
+    squares: Any
+    entries: Any
+    unit: float
 
 
-def _of_class(squares: Any, scale: Scale, first: Scale) -> float:
-    """The virial of pairs of one class, of these squared distances in ring units."""
-    near = squares[squares < scale.sigma_on_ring**2 * (BINS / BINS_TO_SQUARE)] / float(scale.sigma_on_ring) ** 2
-    entries = _table()[(near * BINS_TO_SQUARE).astype(arrays.numpy.intp)]
+def _interacting(places: Any, atoms: Composition) -> Iterator[Interacting]:
+    """The pairs of atoms within the cutoff, some of one class at a time."""
+    classes = atoms.classes
+    seconds = arrays.numpy.array(atoms.seconds, dtype=arrays.numpy.intp)
+    for near in near_parts(places, max(each.sigma_on_ring for each in classes) ** 2 * (BINS / BINS_TO_SQUARE)):
+        if len(classes) == 1:
+            yield _of_class(near, slice(None), classes[0], classes[0])
+            continue
+        kinds = seconds[near.first] + seconds[near.second]
+        for kind, scale in enumerate(classes):
+            within = (kinds == kind) & (near.squares < scale.sigma_on_ring**2 * (BINS / BINS_TO_SQUARE))
+            yield _of_class(near, arrays.numpy.flatnonzero(within), scale, classes[0])
+
+
+def _of_class(near: Near, which: Any, scale: Scale, first: Scale) -> Interacting:
+    """Those of pairs, all of one class and within its cutoff."""
+    sigma = float(scale.sigma_on_ring)
+    squares = near.squares[which] / sigma**2
+    entries = _table()[(squares * BINS_TO_SQUARE).astype(arrays.numpy.intp)]
     # Pushes go by h, so an epsilon / sigma^2 of this class is h / h of the first one.
     unit = scale.h / first.h * (scale.sigma_on_ring / first.sigma_on_ring) ** 2
-    return float((entries * near).sum()) * unit
+    return Interacting(near, which, sigma, squares, entries, unit)
 
 
 @functools.lru_cache(maxsize=1)

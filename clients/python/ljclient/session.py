@@ -295,13 +295,41 @@ class Session:
         return centred.three_frames(self._user, self.name).forces(self.scale)
 
     @whole
-    def pressure(self) -> float:
-        """The pressure at this step in epsilon / sigma^3, of a mixture those of its first class: `(2 K + W) / (3 V)`, with the
-        kinetic energy K of `velocities` and the virial W of all pairs by the program's own table. It needs numpy.
+    def pressure(self, tail: bool = False) -> float:
+        """The pressure at this step: `(2 K + W) / (3 V)`, with the kinetic energy K of `velocities` and the virial W of all pairs
+        by the program's own table. It needs numpy.
 
-        `session.pressure() * epsilon / sigma**3 / units.bar` is in bar. The cutoff has no correction, as everything here.
+        Parameters
+        ----------
+        tail : bool
+            Adds what the pairs beyond the cutoff would, if they were as dense there as anywhere.
+
+        Returns
+        -------
+        float
+            In epsilon / sigma^3, of a mixture those of its first class. Times `epsilon / sigma**3 / units.bar` it is in bar.
         """
-        return pressure.pressure(self, self._user)
+        return pressure.pressure(self, self._user, tail)
+
+    @whole
+    def energy(self, tail: bool = False) -> float:
+        """The potential energy at this step, in epsilon as `measure` tells it.
+
+        Parameters
+        ----------
+        tail : bool
+            As in `pressure`.
+
+        Examples
+        --------
+        >>> with run() as user:
+        ...     pair = user.load("pair", [(0, 0, 0), (1.5, 0, 0)], symbols="Ar", edge=20, sigma=1, h=4295)
+        ...     print(f"{pair.energy():.4f} {pair.energy(tail=True) - pair.energy():.5f}")
+        ...     print(f"{pair.pressure():.3e} {pair.pressure(tail=True) - pair.pressure():.3e}")
+        -0.3188 -0.00027
+        -7.196e-05 -6.684e-08
+        """
+        return self.measure().potential_energy + (pressure.lacking_energy(self, self._user) if tail else 0.0)
 
     @whole
     def displacements(self) -> arrays.FloatArray:
