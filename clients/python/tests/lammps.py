@@ -13,11 +13,12 @@ IN_FILE = TOP / "bench" / "lammps" / "forces.in"
 
 
 class Told(NamedTuple):
-    """What LAMMPS tells of frames: the pressure of each in epsilon / sigma^3, and forces in epsilon / sigma, of shape
-    (frames, atoms, 3)."""
+    """What LAMMPS tells of frames: the pressure of each in epsilon / sigma^3, forces in epsilon / sigma, of shape
+    (frames, atoms, 3), and the pressure tensors, of shape (frames, 3, 3)."""
 
     pressures: Any
     forces: Any
+    tensors: Any
 
 
 def told_of(snapshots: Any, folder: Any) -> Any:
@@ -32,7 +33,8 @@ def told_of(snapshots: Any, folder: Any) -> Any:
     pressures = numpy.array([float(row.split()[1]) for row in rows])
     lines = [line for line in paths["forces"].read_text().splitlines() if line.count(" ") == 3 and line[0].isdigit()]
     forces = numpy.array([[float(word) for word in line.split()[1:]] for line in lines])
-    return Told(pressures, forces.reshape(len(snapshots), -1, 3))
+    tensors = numpy.array([[float(word) for word in row.split()[4:]] for row in rows])[:, [0, 1, 2, 1, 3, 4, 2, 4, 5]]
+    return Told(pressures, forces.reshape(len(snapshots), -1, 3), tensors.reshape(-1, 3, 3))
 
 
 def data_of(snapshot: Any) -> str:

@@ -1,0 +1,122 @@
+"""The physics of a run: what its frames say, each number with its standard error and its unit. It needs numpy, and `plot` matplotlib.
+
+rdf               the radial distribution function g(r)
+msd               the mean squared displacement, over many origins
+vacf              the velocity autocorrelation function and its spectrum, over many origins
+diffusion         the diffusion coefficient by both
+structure_factor  S(k)
+stress, pressure  the mean stress and pressure
+viscosity         the shear viscosity, by Green and Kubo
+energy            energies and temperature
+order             bond orders and cubic order
+clusters          atoms that are connected
+
+Each of these has a session go on, and looks at frames on the way. `Rdf`, `Msd` and so on look at frames that `add` gives them, of a
+session, of a file or of another program (`Frame.of`), one at a time: their memory does not grow with the run. `analyse` gives frames
+of one run to several of them.
+
+Errors are those of the mean of one run by blocks (`Blocks`): they count that a frame depends on those before. They are nan where there
+are too few frames. Of two species each result has `partial`, the same by species or by pairs of them.
+
+The liquid argon of Rahman (1964), which has a diffusion coefficient of 2.43 there:
+
+    from ase.build import bulk
+    from matplotlib import pyplot
+
+    from ljclient import analysis, run, units
+
+    pairs = analysis.Rdf(r_max=13, stride=10)
+    motion = analysis.Diffusion(lags=150, msd_lags=500, fit=(2000, 10_000))
+    pressure, energy = analysis.Pressure(tail=True), analysis.Energy(tail=True)
+    with run() as user:
+        crystal = bulk("Ar", cubic=True, a=5.7964) * 6
+        argon = user.load("argon", crystal, dt=2, order="space", **units.ARGON)
+        argon.equilibrate(94.4, 10_000)
+        analysis.analyse(argon, 25_000, 10, [pairs, motion, pressure, energy])
+    g, d = pairs.result(), motion.result()
+    for each in (d.by_msd, d.by_vacf):
+        print("diffusion", each.in_unit(1e-4, "10^-5 cm^2 / s"))
+    print("pressure", pressure.result(), "at", energy.result().temperature)
+    figure, axes = pyplot.subplots(2, 2, figsize=(10, 7), layout="constrained")
+    g.plot(axes[0, 0])
+    d.msd.plot(axes[0, 1])
+    d.vacf.plot(axes[1, 0])
+    d.vacf.plot_spectrum(axes[1, 1])
+    figure.savefig("rahman.png")
+
+And the liquid of Kob and Andersen (1995), of which `partial` has g(r) of each pair of species:
+
+    import numpy
+
+    from ljclient import analysis, run, units
+
+    edge = units.edge_of_density(1000, 1.2)
+    sites = numpy.indices((10, 10, 10)).reshape(3, -1).T * edge / 10
+    symbols = list(numpy.random.default_rng(1).permutation(["A"] * 800 + ["B"] * 200))
+    with run() as user:
+        words = units.KOB_ANDERSEN
+        liquid = user.load_mix("ka", sites, symbols=symbols, edge=edge, order="space", **words)
+        liquid.equilibrate(1.0, 20_000)
+        g = analysis.rdf(liquid, steps=20_000, every=100, r_max=3.0)
+    for pair, each in g.partial.items():
+        print(*pair, each.r[each.g.argmax()], each.g.max(), each.error[each.g.argmax()])
+    g.plot().figure.savefig("kob_andersen.png")
+"""
+from .analyses import Analysis, analyse
+from .clusters import Clusters, ClustersResult, clusters
+from .diffusion import Diffusion, DiffusionResult, diffusion
+from .energy import Energy, EnergyResult, energy
+from .estimates import Blocks, Estimate, mean_of
+from .frames import METAL, REDUCED, Frame, Units, frame_of
+from .msd import Msd, MsdResult, msd
+from .order import Order, OrderResult, order
+from .rdf import Rdf, RdfResult, rdf
+from .stress import Pressure, Stress, StressResult, pressure, stress
+from .structure_factor import StructureFactor, StructureFactorResult, structure_factor
+from .vacf import Vacf, VacfResult, vacf
+from .viscosity import Viscosity, ViscosityResult, viscosity
+
+__all__ = [
+    "Analysis",
+    "Blocks",
+    "Clusters",
+    "ClustersResult",
+    "Diffusion",
+    "DiffusionResult",
+    "Energy",
+    "EnergyResult",
+    "Estimate",
+    "Frame",
+    "METAL",
+    "Msd",
+    "MsdResult",
+    "Order",
+    "OrderResult",
+    "Pressure",
+    "REDUCED",
+    "Rdf",
+    "RdfResult",
+    "Stress",
+    "StressResult",
+    "StructureFactor",
+    "StructureFactorResult",
+    "Units",
+    "Vacf",
+    "VacfResult",
+    "Viscosity",
+    "ViscosityResult",
+    "analyse",
+    "clusters",
+    "diffusion",
+    "energy",
+    "frame_of",
+    "mean_of",
+    "msd",
+    "order",
+    "pressure",
+    "rdf",
+    "stress",
+    "structure_factor",
+    "vacf",
+    "viscosity",
+]

@@ -1,0 +1,151 @@
+"""What all analyses have in common: they take frames one at a time, and tell a result. `analyse` gives them those of a session."""
+from __future__ import annotations
+
+from typing import TYPE_CHECKING, Any, Dict, Generic, Iterator, List, Sequence, TypeVar
+
+from .. import progress as bars
+from ..names import whole_of
+from ..sampling import Progress, checked_stops, onward
+from ..snapshots import Snapshot
+from .frames import Frame, Source, frame_of, position_frame
+from .library import numpy
+
+if TYPE_CHECKING:
+    from ..session import Session
+
+Result = TypeVar("Result", covariant=True)
+
+
+class Analysis(Generic[Result]):
+    """What takes frames, one at a time, and tells what they say together. Its memory does not grow with their number.
+
+    Parameters
+    ----------
+    stride : int
+        Of the frames that are added, each so many-th is looked at, beginning with the first.
+    """
+
+    # What frames have to have: more than positions, and the stress.
+    needs_motion = False
+    needs_stress = False
+
+    def __init__(self, stride: int = 1):
+        self.stride = checked_count("stride", stride)
+        self._added = 0
+
+    def add(self, frame: Source) -> None:
+        """Looks at the next frame.
+
+        Parameters
+        ----------
+        frame : Frame or Snapshot
+            Atoms at an instant, or a frame that `Session.frames` gives.
+
+        Raises
+        ------
+        ValueError
+            If the frame has not what is looked at, or does not follow those before. It is as if it were not added.
+        """
+        if self._added % self.stride == 0:
+            self._take(frame_of(frame, self.needs_stress) if isinstance(frame, Snapshot) else frame)
+        self._added += 1
+
+    def result(self) -> Result:
+        """What the frames so far say. ValueError if they are too few."""
+        raise NotImplementedError
+
+    def _take(self, frame: Frame) -> None:
+        """Looks at a frame."""
+        raise NotImplementedError
+
+
+def checked_count(name: str, number: int, least: int = 1) -> int:
+    """A whole number that is not below another one. Raises TypeError or ValueError, which names it, for what is none."""
+    count = whole_of(number, name)
+    if count < least:
+        raise ValueError(f"{name} must be {least} at least, got {count}")
+    return count
+
+
+def analyse(session: "Session", steps: int, every: int, analyses: Sequence["Analysis[object]"], progress: Progress = False) -> None:
+    """Has a session go on, and gives frames on the way to analyses.
+
+    Parameters
+    ----------
+    session : Session
+        It goes on by so many steps, at the end of which it stands.
+    steps : int
+        How many steps it goes on by. What is left behind the last frame is gone on by too.
+    every : int
+        How many steps there are from one frame to the next. The first frame is the present one.
+    analyses : sequence of Analysis
+        What takes the frames, such as `[Rdf(), Vacf(100)]`. Their `result()` tells what is found, also where this is broken off.
+    progress : bool or callable
+        As in `Session.advance`.
+
+    Raises
+    ------
+    ValueError
+        If the session's scale is not known, or these are no whole numbers above 0.
+
+    Examples
+    --------
+    >>> from ljclient import analysis, run, units
+    >>> with run() as user:
+    ...     pair = user.load("pair", [(0, 0, 0), (4, 0, 0)], symbols="Ar", edge=34, dt=2, **units.ARGON)
+    ...     energy, moved = analysis.Energy(), analysis.Msd(lags=2)
+    ...     analysis.analyse(pair, 40, 10, [energy, moved])
+    >>> print(energy.result().total.unit, len(moved.result().times))
+    eV 3
+    """
+    checked_stops(every, steps, "steps")
+    for frame in _frames(session, steps, every, analyses, progress):
+        for each in analyses:
+            each.add(frame)
+
+
+def _frames(session: "Session", steps: int, every: int, analyses: Sequence["Analysis[object]"], progress: Progress) -> Iterator[Frame]:
+    """Frames of a session that goes on by so many steps, with what analyses need."""
+    count, with_stress = steps // every + 1, any(each.needs_stress for each in analyses)
+    with bars.reporter(progress, session.name) as report:
+        step: Progress = onward(report, 0, steps) if report else False
+        if any(each.needs_motion for each in analyses):
+            for snapshot in session.frames(every, count, step):
+                yield frame_of(snapshot, with_stress)
+        else:
+            yield from _positions(session, every, count, step)
+        if rest := steps % every:
+            session.advance(rest)
+
+
+def _positions(session: "Session", every: int, count: int, progress: Progress) -> Iterator[Frame]:
+    """Frames with positions alone."""
+    species = session.symbols() if session.mixture else []
+    for number in range(count):
+        if number:
+            session.advance(every, onward(progress, (number - 1) * every, (count - 1) * every) if callable(progress) else False)
+        yield position_frame(session, species)
+
+
+class Groups:
+    """The atoms of each species, if there are two, and all atoms.
+
+    names    of the species, in the order of their first atoms
+    members  of each species the numbers of its atoms; `None` stands for all
+    """
+
+    def __init__(self, frame: Frame):
+        self.count = frame.atoms
+        self.species = list(frame.species)
+        self.names: List[str] = list(dict.fromkeys(self.species))
+        if self.species and len(self.species) != self.count:
+            raise ValueError(f"species must be one symbol for each of {self.count} atoms, got {len(self.species)}")
+        if len(self.names) < 2:
+            self.names = []
+        symbols = numpy.array(self.species)
+        self.members: Dict[str, Any] = {name: numpy.flatnonzero(symbols == name) for name in self.names}
+
+    def check(self, frame: Frame) -> None:
+        """Raises ValueError unless a frame has the same atoms."""
+        if frame.atoms != self.count or list(frame.species) != self.species:
+            raise ValueError(f"all frames must have the same atoms, got {frame.atoms} after {self.count}, or other symbols")

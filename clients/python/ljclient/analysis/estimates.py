@@ -1,0 +1,236 @@
+"""Means of series whose values depend on those before, with their standard errors by blocks (Flyvbjerg and Petersen, 1989).
+
+A series is kept as means of blocks, which grow with it: there are never more than twice `MOST` of them.
+"""
+from __future__ import annotations
+
+import math
+from dataclasses import dataclass
+from typing import Any, Callable, List, Sequence, Tuple, Union
+
+from ..arrays import FloatArray
+from .library import numpy
+
+# A series has so many blocks at least, once it has as many values, and less than twice as many.
+MOST = 64
+# Blocks are joined in pairs as long as so many are left.
+LEAST = 8
+# What chi squared is below in half of all cases, of 1, 2, 3, .. degrees of freedom. With larger limits blocks that still depend on
+# each other would pass, and errors of short runs would be told too small.
+CHI_SQUARED = (0.455, 1.386, 2.366, 3.357, 4.351)
+
+
+@dataclass(frozen=True)
+class Estimate:
+    """A number with its standard error.
+
+    Parameters
+    ----------
+    value, error : float
+        The number, and its standard error. This is nan where there are too few values to tell it.
+    unit : str
+        The unit of both.
+
+    Examples
+    --------
+    >>> from ljclient.analysis import Estimate
+    >>> print(Estimate(2.4312, 0.052, "angstrom^2 / fs"))
+    2.431 +- 0.052 angstrom^2 / fs
+    """
+
+    value: float
+    error: float
+    unit: str = ""
+
+    def __float__(self) -> float:
+        return self.value
+
+    def __str__(self) -> str:
+        digits = 0
+        if math.isfinite(self.error) and self.error > 0:
+            digits = 1 - math.floor(math.log10(self.error))
+        plain = f"{self.value:.{max(digits, 0)}f} +- {self.error:.{max(digits, 0)}f}"
+        text = plain if 0 < digits <= 8 else f"{self.value:.6g} +- {self.error:.2g}"
+        return f"{text} {self.unit}".rstrip()
+
+    def in_unit(self, size: float, unit: str) -> "Estimate":
+        """The same in another unit.
+
+        Parameters
+        ----------
+        size : float
+            What the new unit is in the unit of before.
+        unit : str
+            Its name.
+
+        Examples
+        --------
+        >>> from ljclient.analysis import Estimate
+        >>> print(Estimate(0.000243, 0.000005, "angstrom^2 / fs").in_unit(1e-4, "10^-5 cm^2 / s"))
+        2.430 +- 0.050 10^-5 cm^2 / s
+        """
+        return Estimate(self.value / size, self.error / size, unit)
+
+
+class Blocks:
+    """Means of blocks of a series of numbers, or of arrays of one shape.
+
+    Parameters
+    ----------
+    most : int
+        How many blocks are kept at least, and less than twice as many: a power of 2.
+    overlap : int
+        Over how many values that follow one another these depend on each other anyway, such as by frames that they share. Errors are
+        those of blocks that are as long at least.
+
+    Examples
+    --------
+    >>> from ljclient.analysis import Blocks
+    >>> blocks = Blocks()
+    >>> for value in range(1000):
+    ...     blocks.add(value % 10)
+    >>> print(blocks.mean(), len(blocks.means()))
+    4.5 125
+    """
+
+    def __init__(self, most: int = MOST, overlap: int = 1):
+        if most < 2 or most & (most - 1):
+            raise ValueError(f"most must be a power of 2, got {most}")
+        self._most, self._overlap = most, overlap
+        self._length = 1
+        self._blocks: List[Any] = []
+        self._open: Any = 0.0
+        self._opened = 0
+        self._total: Any = 0.0
+        self.count = 0
+
+    def add(self, values: Any) -> None:
+        """Takes the next value of the series.
+
+        Parameters
+        ----------
+        values : float or array
+            One number, or an array of the shape of those before.
+        """
+        values = numpy.array(values, dtype=float)
+        self._open, self._total = self._open + values, self._total + values
+        self._opened, self.count = self._opened + 1, self.count + 1
+        if self._opened == self._length:
+            self._blocks.append(self._open / self._length)
+            self._open, self._opened = 0.0, 0
+        if len(self._blocks) == 2 * self._most:
+            self._blocks = list(joined(numpy.array(self._blocks)))
+            self._length *= 2
+
+    def mean(self) -> Any:
+        """The mean of all values, of the shape of one. ValueError if there are none."""
+        if not self.count:
+            raise ValueError("a series must have 1 value at least, got 0: add frames first, more of them than the longest lag")
+        return self._total / self.count
+
+    def means(self) -> FloatArray:
+        """The means of the blocks in their order: an array of shape (blocks, ..)."""
+        means: FloatArray = numpy.array(self._blocks)
+        return means
+
+    def error(self) -> Any:
+        """The standard error of the mean, of the shape of one value."""
+        return self._error_of(self.means())
+
+    def estimate(self, function: Callable[[Any], Any], unit: str = "") -> Estimate:
+        """What a function says of the mean, with its error.
+
+        Parameters
+        ----------
+        function : callable
+            From an array of the shape of one value to a number.
+        unit : str
+            Its unit.
+        """
+        value, error = self.derived(function)
+        return Estimate(float(value), float(error), unit)
+
+    def derived(self, function: Callable[[Any], Any]) -> Tuple[Any, Any]:
+        """What a function says of the mean, with its error: one number or an array.
+
+        The error is that of the means of blocks, each put in place of a small part of the mean. So it is exact where the function is
+        linear, and else that of its tangent.
+        """
+        mean = self.mean()
+        value = numpy.asarray(function(mean))
+        # Far less than a block, so that a function which is no line is looked at near the mean alone.
+        part = 1e-3
+        near = [(numpy.asarray(function(mean + part * (block - mean))) - value) / part for block in self._blocks]
+        return value, self._error_of(numpy.array(near))
+
+    def _error_of(self, blocks: Any) -> Any:
+        """The standard error by what the blocks say, of which as many are put together as overlap."""
+        together = -(-self._overlap // self._length)
+        count = len(blocks) // together
+        return errors_of(blocks[: count * together].reshape(count, together, *blocks.shape[1:]).mean(axis=1))
+
+
+def joined(blocks: Any) -> Any:
+    """The means of each two blocks that follow one another. One that is left over is left out."""
+    pairs = len(blocks) // 2
+    return blocks[: 2 * pairs].reshape(pairs, 2, *blocks.shape[1:]).mean(axis=1)
+
+
+def errors_of(blocks: Any) -> Any:
+    """The standard error of the mean of blocks, of the shape of one.
+
+    Blocks are joined in pairs until those of one size, and of each larger one, no longer depend on the one before: until the sum of
+    their squared correlations is what it would be by chance (Jonsson, 2018).
+    """
+    if len(blocks) < 2:
+        return numpy.full(numpy.shape(blocks)[1:], math.nan)
+    levels = _levels(numpy.asarray(blocks, dtype=float))
+    # Also where no size passes, the largest blocks say the most.
+    statistic, found = 0.0, levels[-1][0]
+    for number, (error, correlation) in enumerate(reversed(levels)):
+        statistic = statistic + correlation
+        limit = CHI_SQUARED[min(number, len(CHI_SQUARED) - 1)]
+        found = numpy.where(statistic < limit, error, found)
+    return found if numpy.ndim(found) else float(found)
+
+
+def _levels(series: Any) -> Sequence[Tuple[Any, Any]]:
+    """For each size of blocks the error of the mean, and how far they depend on the one before: by chance this is some 1."""
+    levels: List[Tuple[Any, Any]] = []
+    while len(series) >= 2 and (not levels or len(series) >= LEAST):
+        count = len(series)
+        apart = series - series.mean(axis=0)
+        variance = (apart**2).mean(axis=0)
+        following = (apart[1:] * apart[:-1]).sum(axis=0) / count
+        with numpy.errstate(divide="ignore", invalid="ignore"):
+            part = numpy.nan_to_num(((count - 1) * variance / count**2 + following) / variance)
+        levels.append((numpy.sqrt(variance / (count - 1)), count * part**2))
+        series = joined(series)
+    return levels
+
+
+def mean_of(series: Union[Sequence[float], FloatArray], unit: str = "") -> Estimate:
+    """The mean of a series of numbers, such as the temperatures of a run, with its standard error.
+
+    Parameters
+    ----------
+    series : sequence of float, or array of shape (values,)
+        Numbers in the order of time. Each may depend on those before.
+    unit : str
+        Their unit.
+
+    Returns
+    -------
+    Estimate
+        Mean and standard error, in the unit.
+
+    Examples
+    --------
+    >>> from ljclient import analysis
+    >>> print(analysis.mean_of([1.0, 3.0, 2.0, 2.0], "epsilon"))
+    2.00 +- 0.41 epsilon
+    """
+    blocks = Blocks()
+    for value in series:
+        blocks.add(value)
+    return blocks.estimate(lambda mean: mean, unit)

@@ -1,0 +1,185 @@
+"""The stress and the pressure: the mean over frames, with the long-range term if that is asked for."""
+from __future__ import annotations
+
+from dataclasses import dataclass, field
+from typing import TYPE_CHECKING, Any, Dict
+
+from ..arrays import FloatArray
+from ..sampling import Progress
+from .analyses import Analysis, analyse
+from .estimates import Blocks, Estimate
+from .frames import Frame, Units
+from .library import numpy
+
+if TYPE_CHECKING:
+    from ..session import Session
+
+NO_STRESS = "a frame must have a stress, got none: say stress= of Frame.of, or take Session.frames"
+
+
+@dataclass(frozen=True)
+class StressResult:
+    """The stress of some frames. It is the negative of the pressure tensor, as ASE has it: a body that is pressed has one below 0.
+
+    Parameters
+    ----------
+    stress, error : array of shape (3, 3)
+        The mean and its standard error, in the unit of pressure.
+    pressure : Estimate
+        The negative third of its trace.
+    units : dict of str to str
+        The units of `stress`, `error` and `pressure`.
+    """
+
+    stress: FloatArray
+    error: FloatArray
+    pressure: Estimate
+    units: Dict[str, str] = field(repr=False)
+
+
+class Stress(Analysis[StressResult]):
+    """The mean stress of the frames that are added.
+
+    Parameters
+    ----------
+    tail : bool
+        Adds what the pairs beyond the cutoff would, if they were as dense there as anywhere.
+    stride : int
+        As in `Analysis`.
+
+    Examples
+    --------
+    >>> import numpy
+    >>> from ljclient.analysis import Frame, Stress
+    >>> pressed = Stress()
+    >>> for pressure in (1.0, 3.0, 2.0, 2.0):
+    ...     pressed.add(Frame.of([(0, 0, 0)], edge=10, stress=-pressure * numpy.eye(3)))
+    >>> print(pressed.result().pressure)
+    2.00 +- 0.41 epsilon / sigma^3
+    """
+
+    needs_motion = needs_stress = True
+
+    def __init__(self, tail: bool = False, stride: int = 1):
+        super().__init__(stride)
+        self._tail = tail
+        self._blocks = Blocks()
+        self._units = Units()
+
+    def _take(self, frame: Frame) -> None:
+        if frame.stress is None:
+            raise ValueError(NO_STRESS)
+        if self._tail and "pressure" not in frame.tails:
+            raise ValueError("a frame must say its tails for tail=True, got none: say tails= of Frame.of, or take Session.frames")
+        self._units = frame.units
+        self._blocks.add(frame.stress - (frame.tails["pressure"] if self._tail else 0.0) * numpy.eye(3))
+
+    def result(self) -> StressResult:
+        mean, unit = self._blocks.mean(), self._units.pressure
+        pressure = self._blocks.estimate(pressure_of, unit)
+        return StressResult(mean, self._blocks.error(), pressure, {"stress": unit, "error": unit, "pressure": unit})
+
+
+def pressure_of(stress: Any) -> float:
+    """The pressure of a stress."""
+    return float(-numpy.trace(stress) / 3)
+
+
+class Pressure(Analysis[Estimate]):
+    """The mean pressure of the frames that are added.
+
+    Parameters
+    ----------
+    tail : bool
+        As in `Stress`.
+    stride : int
+        As in `Analysis`.
+
+    Examples
+    --------
+    >>> import numpy
+    >>> from ljclient.analysis import Frame, Pressure
+    >>> pressed = Pressure(tail=True)
+    >>> for pressure in (1.0, 3.0):
+    ...     pressed.add(Frame.of([(0, 0, 0)], edge=10, stress=-pressure * numpy.eye(3), tails={"pressure": -0.5}))
+    >>> print(pressed.result())
+    1.5 +- 1.0 epsilon / sigma^3
+    """
+
+    needs_motion = needs_stress = True
+
+    def __init__(self, tail: bool = False, stride: int = 1):
+        super().__init__(stride)
+        self._stress = Stress(tail)
+
+    def _take(self, frame: Frame) -> None:
+        self._stress.add(frame)
+
+    def result(self) -> Estimate:
+        return self._stress.result().pressure
+
+
+def stress(session: "Session", steps: int, every: int, tail: bool = False, progress: Progress = False) -> StressResult:
+    """The mean stress of a session on its way, and its pressure.
+
+    Parameters
+    ----------
+    session : Session
+        It goes on, and stands behind its last step then.
+    steps, every : int
+        How many steps it goes on by, and how many there are from one frame to the next. The first frame is the present one.
+    tail : bool
+        As in `Stress`.
+    progress : bool or callable
+        As in `Session.advance`.
+
+    Returns
+    -------
+    StressResult
+        In bar, or in epsilon / sigma^3 of the first class if epsilon and mass are not known.
+
+    Examples
+    --------
+    >>> from ljclient import analysis, run, units
+    >>> with run() as user:
+    ...     pair = user.load("pair", [(0, 0, 0), (5.1, 0, 0)], symbols="Ar", edge=34, dt=2, **units.ARGON)
+    ...     pulled = analysis.stress(pair, steps=20, every=10)
+    >>> print(pulled.units["stress"], pulled.stress[0, 0] > 0, pulled.stress[1, 1].round(9))
+    bar True 0.0
+    """
+    pressed = Stress(tail)
+    analyse(session, steps, every, [pressed], progress)
+    return pressed.result()
+
+
+def pressure(session: "Session", steps: int, every: int, tail: bool = False, progress: Progress = False) -> Estimate:
+    """The mean pressure of a session on its way.
+
+    Parameters
+    ----------
+    session : Session
+        It goes on, and stands behind its last step then.
+    steps, every : int
+        How many steps it goes on by, and how many there are from one frame to the next. The first frame is the present one.
+    tail : bool
+        As in `Stress`.
+    progress : bool or callable
+        As in `Session.advance`.
+
+    Returns
+    -------
+    Estimate
+        In bar, or in epsilon / sigma^3 of the first class if epsilon and mass are not known.
+
+    Examples
+    --------
+    >>> from ljclient import analysis, run, units
+    >>> with run() as user:
+    ...     pair = user.load("pair", [(0, 0, 0), (5.1, 0, 0)], symbols="Ar", edge=34, dt=2, **units.ARGON)
+    ...     pulled = analysis.pressure(pair, steps=20, every=10, tail=True)
+    >>> print(pulled.unit, pulled.value < 0)
+    bar True
+    """
+    pressed = Pressure(tail)
+    analyse(session, steps, every, [pressed], progress)
+    return pressed.result()
