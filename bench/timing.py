@@ -1,7 +1,8 @@
 """Best-of-n timing: rounds in turn and the best of each, what was found as JSON beside the table that is printed, and streams to time.
 
 A figure that is told is the best of some rounds, in each of which all ways run once. `--json FILE` keeps each with the rounds that it
-is the best of, the command, and the machine: its processor and cores, the load before and after, and what the host took away.
+is the best of, the command, the program with the hashes of its sources (bin/measured.py), and the machine: its processor and cores, the
+load before and after, and what the host took away.
 """
 from __future__ import annotations
 
@@ -19,6 +20,9 @@ from typing import Any, Callable, Dict, Hashable, List, Mapping, NamedTuple, Opt
 
 from shared.loads import liquid_stream
 from shared.program import TOP
+
+sys.path.append(os.path.join(TOP, "bin"))
+from measured import what_is_measured  # noqa: E402
 
 Name = TypeVar("Name", bound=Hashable)
 Value = TypeVar("Value")
@@ -77,9 +81,10 @@ def in_turn(ways: Mapping[Name, Callable[[], Value]], rounds: int, to_and_fro: b
 
 
 class Findings:
-    """Figures, and the machine that they were measured on from here on."""
+    """Figures of a program, and the machine that they were measured on from here on."""
 
-    def __init__(self) -> None:
+    def __init__(self, program: str) -> None:
+        self.program = what_is_measured(program, os.path.relpath(os.path.realpath(sys.argv[0]), TOP))
         self.host, self.load = Host.now(), os.getloadavg()[0]
         self.began = time.strftime("%Y-%m-%dT%H:%M:%SZ", time.gmtime())
         self.figures: List[Dict[str, Any]] = []
@@ -113,9 +118,9 @@ class Findings:
     def write(self, path: Optional[str]) -> None:
         """Writes all as JSON, where a file is named for it."""
         if path is not None:
-            told = {"command": shlex.join(sys.argv), "began": self.began, "machine": self.machine(), "figures": self.figures}
+            told = {"command": shlex.join(sys.argv), "began": self.began, "program": self.program, "machine": self.machine()}
             with open(path, "w", encoding="utf-8") as file:
-                json.dump(told, file, indent=2)
+                json.dump({**told, "figures": self.figures}, file, indent=2)
                 file.write("\n")
 
 

@@ -12,6 +12,7 @@ import sys
 from typing import List
 
 import pytest
+from shared.launching import newest_version
 from shared.program import Program
 
 TOP = pathlib.Path(__file__).resolve().parents[2]
@@ -114,8 +115,8 @@ def test_ways_run_in_turn() -> None:
     assert timing.in_turn({"a": lambda: way("a"), "b": lambda: way("b")}, 3, to_and_fro=True) == {"a": [1, 4, 5], "b": [2, 3, 6]}
 
 
-def test_findings_are_kept_with_the_machine(tmp_path: pathlib.Path) -> None:
-    found = timing.Findings()
+def test_findings_are_kept_with_the_program_and_the_machine(program: Program, tmp_path: pathlib.Path) -> None:
+    found = timing.Findings(program.path)
     assert found.add_best("steps", "ms", [3.0, 1.5, 2.0]) == 1.5
     found.add("ratio", "", 1.25)
     found.write(str(tmp_path / "found.json"))
@@ -125,7 +126,8 @@ def test_findings_are_kept_with_the_machine(tmp_path: pathlib.Path) -> None:
         {"name": "steps", "unit": "ms", "value": 1.5, "rounds": [3.0, 1.5, 2.0]},
         {"name": "ratio", "unit": "", "value": 1.25},
     ]
-    assert set(told) == {"command", "began", "machine", "figures"}
+    assert set(told) == {"command", "began", "program", "machine", "figures"}
+    assert told["program"] == {"version": newest_version(), "commit": None, "sources": {}}  # (since it is no command of bench/)
     assert set(told["machine"]) == {"processor", "cores", "load_before", "load_after", "steal"}
     assert told["machine"]["cores"] == len(os.sched_getaffinity(0)) and 0 <= told["machine"]["steal"] <= 1
 

@@ -18,17 +18,17 @@ TOP = pathlib.Path(__file__).resolve().parents[2]
 SECONDS = 600
 # Where modules are searched by which the scripts of a folder stand.
 SEARCHED = {
-    "bench": "tests clients/python conformance tools",
-    "bench/book": "bench tests",
-    "bench/lammps": "bench tests clients/python",
-    "clients/python/tests": "clients/python tests bench tools conformance",
+    "bench": "tests clients/python conformance tools bin",
+    "bench/book": "bench tests bin",
+    "bench/lammps": "bench tests clients/python bin",
+    "clients/python/tests": "clients/python tests bench tools conformance bin",
     "conformance": "tests",
     "conformance/random": "conformance tests",
     "docs/api": "clients/python",
     "examples": "clients/python",
     ".": "tests",
     "tests": "conformance",
-    "tests/bench": "bench tests",
+    "tests/bench": "bench tests bin",
     "tests/client": "tests",
     "tests/documents": "bin clients/python clients/python/tests conformance tests",
     "tests/faults": "tests conformance",

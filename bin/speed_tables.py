@@ -5,6 +5,7 @@ import shlex
 from typing import Any, Callable, Iterable, Iterator
 
 import sources
+from measured import name_of
 from tables import table
 
 FOLDER = sources.TOP / "docs" / "speed"
@@ -45,10 +46,11 @@ class Found:
 
 
 def moment(*found: Found) -> str:
-    """The day, and the load before the first of these measurements began and at the end of the last one."""
+    """The programs, the day, and the load before the first of these measurements began and at the end of the last one."""
     told = sorted((each.told for each in found), key=lambda each: str(each["began"]))
     before, after = told[0]["machine"]["load_before"], told[-1]["machine"]["load_after"]
-    return f"{told[0]['began'][:10]}, load {before:.1f} to {after:.1f}"
+    programs = dict.fromkeys(name_of(each.get("program", {})) for each in told)
+    return ", ".join([*filter(None, programs), told[0]["began"][:10], f"load {before:.1f} to {after:.1f}"])
 
 
 # A step.

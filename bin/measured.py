@@ -1,0 +1,152 @@
+"""What a measurement has measured: the program's version and commit, and a hash of each source that its figures depend on.
+
+Each command of bench/ that writes JSON keeps it there (bench/timing.py). Where a source has another hash now, the figures are stale
+(bin/speeds). A hash is that of code alone: no comment, contract or docstring changes it.
+"""
+
+import ast
+import hashlib
+import re
+import subprocess
+from pathlib import Path
+from typing import Any, Callable, Iterable, Iterator, Optional, Sequence
+
+import sources
+
+TOP = sources.TOP
+CLAUSE = re.compile(r"\s*(?:ghost|requires|ensures)\b")
+SECONDS = 10
+
+
+def code_of_crates(*names: str) -> tuple[str, ...]:
+    return tuple(f"crates/{name}/src" for name in names)
+
+
+def modules_of_client(*names: str) -> tuple[str, ...]:
+    return tuple(f"clients/python/ljclient/{name}" for name in names)
+
+
+STEP = code_of_crates("lj_ring", "lj_table", "lj_task", "lj_tile", "lj_step", "lj_end", "lj_engine")
+POOL = (*STEP, *code_of_crates("lj_book", "lj_lock", "lj_queue"))
+SHOW = code_of_crates("lj_fixed", "lj_session", "lj_wire", "lj_engine")
+USERS = code_of_crates("lj_access", "lj_visit", "lj_program")
+WIRE = modules_of_client("wire.py", "replies.py", "transport.py")
+PLACES = modules_of_client("reading.py", "frames.py", "xyz.py", "columns.py", "digits.py", "decimals.py", "arrays.py", "exact.py")
+START = modules_of_client("__init__.py", "user.py", "session.py", "loading.py")
+# What takes the time that a command of bench/ measures: files, and folders with all their code.
+HOT = {
+    "bench/ratio": STEP,
+    "bench/lammps/step": STEP,
+    "bench/order": STEP,
+    "bench/tiles": STEP,
+    "bench/species": STEP,
+    "bench/lines": SHOW,
+    "bench/reader": code_of_crates("lj_fixed", "lj_ring", "lj_xyz", "lj_wire"),
+    "bench/scale": POOL,
+    "bench/server": (*POOL, *SHOW),
+    "bench/shards": (*STEP, *SHOW, *USERS),
+    "bench/memory": (*POOL, *USERS),
+    "bench/keep": (*SHOW, "tools/keep", "tools/keeping"),
+    "bench/client": (*SHOW, *code_of_crates("lj_xyz"), *WIRE, *PLACES, *modules_of_client("order.py", "sampling.py")),
+    "bench/start": (*START, *WIRE, *modules_of_client("prompt")),
+    "bench/prompt": (*START, *WIRE, *modules_of_client("prompt")),
+    "bench/view": (*STEP, *WIRE, *PLACES, *modules_of_client("view")),
+}
+
+
+# Hashes.
+
+
+def code_in_rattle(text: str) -> Iterator[str]:
+    """The lines of code, without comments and contracts: a clause goes on until its braces are closed."""
+    depth = 0
+    for line in text.splitlines():
+        if depth or CLAUSE.match(line):
+            depth += line.count("{") - line.count("}")
+        elif line.strip() and not line.lstrip().startswith("//"):
+            yield line
+
+
+def code_in_python(text: str) -> Iterator[str]:
+    """The lines of code, without comments that have a line of their own, and docstrings."""
+    has_docs = (ast.Module, ast.ClassDef, ast.FunctionDef, ast.AsyncFunctionDef)
+    docs = [each.body[0] for each in ast.walk(ast.parse(text)) if isinstance(each, has_docs) and ast.get_docstring(each) is not None]
+    told = {number for doc in docs for number in range(doc.lineno, (doc.end_lineno or doc.lineno) + 1)}
+    for number, line in enumerate(text.splitlines(), 1):
+        if number not in told and line.strip() and not line.lstrip().startswith("#"):
+            yield line
+
+
+CODE_IN: dict[str, Callable[[str], Iterable[str]]] = {".rt": code_in_rattle, ".py": code_in_python, ".js": str.splitlines}
+
+
+def code_of(file: Path) -> str:
+    return "\n".join(CODE_IN.get(file.suffix, code_in_python)(file.read_text(encoding="utf-8")))
+
+
+def files_of(source: str) -> list[Path]:
+    """The file of a name, or the files of code below a folder."""
+    path = TOP / source
+    return sorted(file for file in path.rglob("*") if file.suffix in CODE_IN) if path.is_dir() else [path]
+
+
+def hash_of(source: str) -> str:
+    """The first 16 digits of a hash over the code of a file or of a folder with its files' names; none where it is not there."""
+    if not (TOP / source).exists():
+        return ""
+    code = "\0".join(f"{file.relative_to(TOP)}\0{code_of(file)}" for file in files_of(source))
+    return hashlib.sha256(code.encode()).hexdigest()[:16]
+
+
+# What was measured.
+
+
+def printed(words: Sequence[str]) -> str:
+    """What a command prints; nothing where it fails or does not end."""
+    try:
+        done = subprocess.run(words, cwd=TOP, timeout=SECONDS, stdin=subprocess.DEVNULL, capture_output=True)
+    except (OSError, subprocess.TimeoutExpired):
+        return ""
+    return "" if done.returncode else done.stdout.decode(errors="replace").strip()
+
+
+def is_built_of_these(program: str) -> bool:
+    """Whether a program is one that bin/ljserve has built, and no code is newer."""
+    path, built = Path(program).resolve(), TOP / "crates" / "ljserve" / "out"
+    if built not in path.parents:
+        return False
+    newest = max((file.stat().st_mtime for crate in sources.crates() for file in sources.code_of(crate)), default=0.0)
+    return newest <= path.stat().st_mtime
+
+
+def commit_of(hot: Sequence[str]) -> Optional[str]:
+    """The commit of this folder, and whether some of these sources have changes."""
+    commit = printed(["git", "rev-parse", "--short=8", "HEAD"]) or None
+    changes = commit and printed(["git", "status", "--porcelain", "--", *hot])
+    return f"{commit}, with changes" if changes else commit
+
+
+def what_is_measured(program: str, command: str) -> dict[str, Any]:
+    """What a command of bench/ keeps of the program that it measures. Of one that is not built of this folder's sources, as they
+    are, it keeps the version alone."""
+    version = re.fullmatch(r"ljserve (\S+)", printed([program, "--version"]).split("\n")[0])
+    hot = HOT.get(command, ()) if is_built_of_these(program) else ()
+    return {
+        "version": version[1] if version else None,
+        "commit": commit_of(hot) if hot else None,
+        "sources": {source: hash_of(source) for source in hot},
+    }
+
+
+def name_of(program: dict[str, Any]) -> str:
+    """A program as a line names it: by its version and commit, as far as they are known."""
+    return " of ".join(program[each] for each in ("version", "commit") if program.get(each))
+
+
+def changes_since(told: dict[str, Any]) -> Optional[list[str]]:
+    """The sources of a measurement that have another hash now, by what it has kept; None where it has not kept them."""
+    kept = told.get("program", {}).get("sources")
+    if not kept:
+        return None
+    hot = HOT.get(told["command"].split()[0], ())
+    return [source for source in dict.fromkeys([*hot, *kept]) if kept.get(source) != hash_of(source)]
