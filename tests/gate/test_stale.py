@@ -78,6 +78,7 @@ def gate_over(monkeypatch: pytest.MonkeyPatch, clone: pathlib.Path) -> Any:
     monkeypatch.setattr(test, "pass_gate", lambda: test.Gate(3, 2, 0))
     monkeypatch.setattr(test, "pass_tests", lambda python, report: test.Tests(5, 0, ["skipped: one"]))
     monkeypatch.setenv("PATH", f"{clone / 'tools'}:{os.defpath}")
+    monkeypatch.delenv("LJSERVE", raising=False)  # which it takes out of the environment itself, and which other tests need
     return test
 
 
