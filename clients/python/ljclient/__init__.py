@@ -15,23 +15,31 @@
 
 `connect(host, port, name, token)` in place of `run()` speaks to a server. Each refusal is a class of `ljclient.refusals`.
 """
-from . import refusals, reversal, state_points, units
-from .arrays import distance, least_images
-from .energy_watch import EnergyWarning
-from .ensemble import Job, ensemble
-from .errors import BadReply, CannotStart, ClientError, Closed, ConnectionLost, Damaged, Missing, NotRecorded, Refused, TimedOut
-from .leftovers import LeftWarning
-from .measurement import Measurement
-from .mixture import Mixture
-from .motion import Motion
-from .order import Order
-from .sampling import Samples
-from .session import Row, Saved, Session
-from .snapshots import Snapshot
-from .thermo import Thermo, ThermoInElectronvolt, ThermoInKelvin
-from .transport import PlainTextWarning
-from .units import Scale
-from .user import User, connect, run
+import sys
+from types import ModuleType
+
+TYPE_CHECKING = False  # which type checkers take for True; that of `typing` takes as long as this whole package
+
+if TYPE_CHECKING:
+    from typing import Any, List
+
+    from . import refusals, reversal, state_points, units
+    from .arrays import distance, least_images
+    from .energy_watch import EnergyWarning
+    from .ensemble import Job, ensemble
+    from .errors import BadReply, CannotStart, ClientError, Closed, ConnectionLost, Damaged, Missing, NotRecorded, Refused, TimedOut
+    from .leftovers import LeftWarning
+    from .measurement import Measurement
+    from .mixture import Mixture
+    from .motion import Motion
+    from .order import Order
+    from .sampling import Samples
+    from .session import Row, Saved, Session
+    from .snapshots import Snapshot
+    from .thermo import Thermo, ThermoInElectronvolt, ThermoInKelvin
+    from .transport import PlainTextWarning
+    from .units import Scale
+    from .user import User, connect, run
 
 __version__ = "1.1.0"
 
@@ -74,3 +82,64 @@ __all__ = [
     "state_points",
     "units",
 ]
+
+# The modules that have the names of `__all__`, each of which is imported when one of its names is first asked for.
+_NAMES = {
+    "arrays": ("distance", "least_images"),
+    "energy_watch": ("EnergyWarning",),
+    "ensemble": ("Job", "ensemble"),
+    "errors": (
+        "BadReply",
+        "CannotStart",
+        "ClientError",
+        "Closed",
+        "ConnectionLost",
+        "Damaged",
+        "Missing",
+        "NotRecorded",
+        "Refused",
+        "TimedOut",
+    ),
+    "leftovers": ("LeftWarning",),
+    "measurement": ("Measurement",),
+    "mixture": ("Mixture",),
+    "motion": ("Motion",),
+    "order": ("Order",),
+    "sampling": ("Samples",),
+    "session": ("Row", "Saved", "Session"),
+    "snapshots": ("Snapshot",),
+    "thermo": ("Thermo", "ThermoInElectronvolt", "ThermoInKelvin"),
+    "transport": ("PlainTextWarning",),
+    "units": ("Scale",),
+    "user": ("User", "connect", "run"),
+}
+_MODULE_OF = {name: module for module, names in _NAMES.items() for name in names}
+
+
+class _Package(ModuleType):
+    """This package, whose names are imported when they are first asked for, and then kept. A module of it is one of its names too."""
+
+    def __getattr__(self, name: str) -> "Any":
+        from importlib import import_module
+
+        if name.startswith("_"):
+            raise AttributeError(f"module {self.__name__!r} has no attribute {name!r}")
+        if name in _MODULE_OF:
+            found = getattr(import_module(f"{self.__name__}.{_MODULE_OF[name]}"), name)
+            self.__dict__[name] = found
+            return found
+        try:
+            return import_module(f"{self.__name__}.{name}")
+        except ModuleNotFoundError as error:
+            raise AttributeError(f"module {self.__name__!r} has no attribute {name!r}") from error
+
+    def __setattr__(self, name: str, value: object) -> None:
+        """As usual, but that `ensemble` stays the function once its module is imported."""
+        if not (name in _MODULE_OF and isinstance(value, ModuleType)):
+            super().__setattr__(name, value)
+
+    def __dir__(self) -> "List[str]":
+        return sorted({*self.__dict__, *__all__})
+
+
+sys.modules[__name__].__class__ = _Package

@@ -8,17 +8,22 @@ from __future__ import annotations
 
 import contextlib
 import dataclasses
-import hashlib
-import json
 import os
-import pathlib
 import re
-import secrets
-from typing import Any, Callable, Dict, Iterator, List, Optional, Sequence, Tuple
+from typing import TYPE_CHECKING, Any, Callable, Dict, Iterator, List, Optional, Sequence, Tuple
 
 from .errors import ClientError
 from .files import write_whole
+from .later import Later
 from .order import Place
+
+if TYPE_CHECKING:
+    import hashlib
+    import json
+    import pathlib
+    import secrets
+else:
+    hashlib, json, pathlib, secrets = map(Later, ("hashlib", "json", "pathlib", "secrets"))
 
 FORMAT = "ljclient note 1"
 THIS_MACHINE = ("127.0.0.1", "::1", "[::1]")

@@ -5,8 +5,14 @@ import contextlib
 import errno
 import os
 import stat
-import tempfile
-from typing import Tuple, Union
+from typing import TYPE_CHECKING, Tuple, Union
+
+from .later import Later
+
+if TYPE_CHECKING:
+    import tempfile
+else:
+    tempfile = Later("tempfile")
 
 Path = Union[str, os.PathLike[str]]
 KINDS = {

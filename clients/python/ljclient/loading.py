@@ -6,12 +6,13 @@ import dataclasses
 import threading
 from typing import TYPE_CHECKING, Any, Dict, Iterable, Iterator, List, Optional, Sequence, Set, Tuple, cast
 
-from . import checkpoint, files, units, xyz
+from . import files, units, xyz
 from .atom_groups import adapted
 from .energy_watch import EnergyWatch, warn_of_large_steps
 from .errors import ClientError, NotRecorded
 from .guards import branches_of, checked_session
 from .interrupts import held
+from .later import Later
 from .mixture import Mixture, Pair, RawClass
 from .motion import motion_of
 from .new_session import NewSession
@@ -29,7 +30,10 @@ from .threads import whole
 from .wire import Reply
 
 if TYPE_CHECKING:
+    from . import checkpoint
     from .user import User
+else:
+    checkpoint = Later(".checkpoint")
 
 
 class Loader:

@@ -2,14 +2,19 @@
 from __future__ import annotations
 
 import os
-import pathlib
-import shutil
 import subprocess
 import sys
-from typing import Dict, List, Optional
+from typing import TYPE_CHECKING, Dict, List, Optional
 
 from .errors import CannotStart
+from .later import Later
 from .tokens import environment_without_token
+
+if TYPE_CHECKING:
+    import pathlib
+    import shutil
+else:
+    pathlib, shutil = Later("pathlib"), Later("shutil")
 
 BUILD_SECONDS = 3600.0
 VERSION_SECONDS = 30.0

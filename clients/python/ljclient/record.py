@@ -6,10 +6,16 @@ line, without the checks. So the first line that was changed is known, and the l
 from __future__ import annotations
 
 import enum
-import hashlib
 import re
 from dataclasses import dataclass
-from typing import List, NamedTuple, Optional, Sequence, Tuple
+from typing import TYPE_CHECKING, List, NamedTuple, Optional, Sequence, Tuple
+
+from .later import Later
+
+if TYPE_CHECKING:
+    import hashlib
+else:
+    hashlib = Later("hashlib")
 
 FORMAT = b"ljserve record "
 # The heads that are read. The last one is written.

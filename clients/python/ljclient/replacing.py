@@ -7,19 +7,23 @@ saved to a file meanwhile.
 from __future__ import annotations
 
 import contextlib
-import pathlib
 from typing import TYPE_CHECKING, Callable, Iterator, List, Optional, Sequence
 
-from . import checkpoint
 from .disk_notes import Owned, saved_file_of
 from .errors import ClientError, Refused
 from .guards import REPLACING, RESERVED, branches_of
 from .interrupts import held
+from .later import Later
 from .refusals import Memory, QuotaAtoms, QuotaBranches, QuotaSessions
 from .state import Command
 
 if TYPE_CHECKING:
+    import pathlib
+
+    from . import checkpoint
     from .loading import Loader
+else:
+    checkpoint = Later(".checkpoint")
 
 # How many commands it takes at most, which all go over one connection, but for those by which an older session is read.
 COMMANDS = 20

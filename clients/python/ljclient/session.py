@@ -4,15 +4,13 @@ from __future__ import annotations
 import dataclasses
 from typing import TYPE_CHECKING, Any, ContextManager, Iterator, List, NamedTuple, Optional, Sequence, Tuple, Union
 
-from . import arrays, ase_bridge, box, centred, checkpoint, equilibrating, files, frames, heating, pressure, progress as bars
-from . import reading, sampling, saving, snapshots, stepping, trajectories
+from . import arrays, ase_bridge, box, files, frames, progress as bars, reading, sampling, stepping
 from .elements import Replacements, with_symbols
 from .energy_watch import WatchedHooks
 from .guards import NO_PLACE, RESERVED, change, checked_branch, turning
 from .interrupts import held
+from .later import Later
 from .measurement import Measurement, known
-from .mixture import Mixture
-from .motion import Motion
 from .names import checked_name, count_of, displacement_of
 from .order import Order, Place
 from .replies import fields, number_after, of_session, whole_number
@@ -23,7 +21,13 @@ from .units import RING, Scale
 from .unwrapping import Path
 
 if TYPE_CHECKING:
+    from . import centred, checkpoint, equilibrating, heating, pressure, saving, snapshots, trajectories
+    from .mixture import Mixture
+    from .motion import Motion
     from .user import User
+else:
+    centred, checkpoint, equilibrating, heating = map(Later, (".centred", ".checkpoint", ".equilibrating", ".heating"))
+    pressure, saving, snapshots, trajectories = map(Later, (".pressure", ".saving", ".snapshots", ".trajectories"))
 
 
 class Saved(NamedTuple):

@@ -1,16 +1,21 @@
 """The two ends of a stream that a wire reads and writes: those of a socket, and those of a child process."""
 from __future__ import annotations
 
-import ipaddress
 import os
 import socket
 import subprocess
-import tempfile
-from typing import IO, Dict, List, Optional, Protocol, Set, Tuple, cast
+from typing import IO, TYPE_CHECKING, Dict, List, Optional, Protocol, Set, Tuple, cast
 
 from .errors import CannotStart, ConnectionLost, printable
+from .later import Later
 from .tokens import environment_without_token
 from .warning import warn_caller
+
+if TYPE_CHECKING:
+    import ipaddress
+    import tempfile
+else:
+    ipaddress, tempfile = Later("ipaddress"), Later("tempfile")
 
 PATIENCE = 5.0
 MAX_LAST_WORDS = 500

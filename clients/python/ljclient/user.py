@@ -7,15 +7,16 @@ import functools
 import math
 import os
 from types import TracebackType
-from typing import Callable, Dict, Iterable, Iterator, List, Optional, Sequence, Set, Tuple, Type, Union
+from typing import TYPE_CHECKING, Callable, Dict, Iterable, Iterator, List, Optional, Sequence, Set, Tuple, Type, Union
 
-from . import leftovers, migrate, progress as bars, stepping, units
+from . import progress as bars, stepping, units
 from .box import take_up
 from .energy_watch import EnergyWatch, WatchedHooks, look_at_started
 from .errors import BadReply, CannotStart, ClientError, ConnectionLost, TimedOut
 from .files import Path
 from .guards import RESERVED
 from .interrupts import held
+from .later import Later
 from .loading import Loader
 from .locate import find_program, version_of
 from .names import checked_name, count_of
@@ -30,6 +31,11 @@ from .threads import whole
 from .tokens import without_blanks
 from .transport import ChildTransport, Transport, opened_plainly
 from .wire import Reply, Wire, checked_timeout
+
+if TYPE_CHECKING:
+    from . import leftovers, migrate
+else:
+    leftovers, migrate = Later(".leftovers"), Later(".migrate")
 
 MAX_ITEMS = 1_000_000
 FAREWELL_SECONDS = 2.0

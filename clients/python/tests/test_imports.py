@@ -1,11 +1,15 @@
-"""What is imported when: numpy, which takes as long as all else, where an array is asked for, and executors with an ensemble."""
+"""What is imported when: a name of the package where it is first asked for, numpy, which takes as long as all else, where an array is,
+and executors with an ensemble."""
+import inspect
 import json
 import os
 import pathlib
 import subprocess
 import sys
+from types import ModuleType
 from typing import Any, Dict
 
+import ljclient
 import pytest
 
 from support import DIMER, PROGRAM, SECONDS, TOP
@@ -25,6 +29,73 @@ def imported(text: Any) -> Any:
     done = subprocess.run(command, env=environment, capture_output=True, text=True, timeout=SECONDS)
     assert done.returncode == 0, done
     return set(json.loads(done.stdout.splitlines()[-1]))
+
+
+# What takes the most time of what Python has, and modules that a user needs for some things alone.
+OF_PYTHON = {"dataclasses", "hashlib", "inspect", "ipaddress", "json", "pathlib", "re", "secrets", "shutil", "socket", "tempfile", "typing"}
+FOR_SOME_THINGS = {
+    *("centred", "checkpoint", "ensemble", "equilibrating", "heating", "leftovers", "migrate", "notes", "pressure", "saving"),
+    *("snapshots", "trajectories", "verify"),
+}
+
+
+def test_the_package_alone() -> None:
+    """It imports nothing that takes long, and none of its modules. What Python itself imports at its start does not count."""
+    new = imported("import ljclient") - imported("pass")
+    assert {name for name in new if name.startswith("ljclient")} == {"ljclient"}
+    assert not new & OF_PYTHON and len(new) <= 2
+
+
+def test_a_user_needs_a_part_of_the_package() -> None:
+    new = imported("from ljclient import connect, run, units") - imported("pass")
+    assert not {f"ljclient.{name}" for name in FOR_SOME_THINGS} & new
+    assert not {"hashlib", "json", "pathlib", "secrets", "shutil", "tempfile"} & new
+    assert len({name for name in new if name.startswith("ljclient")}) <= 55
+
+
+@pytest.mark.parametrize("name", ljclient.__all__)
+def test_each_name_of_the_package(name: str) -> None:
+    """It is the one of its module, and is kept."""
+    found = getattr(ljclient, name)
+    assert found is getattr(ljclient, name) and name in dir(ljclient)
+    module = inspect.getmodule(found)
+    assert isinstance(module, ModuleType) and module.__name__.startswith("ljclient.")
+    assert module is found or getattr(module, name) is found
+
+
+@pytest.mark.parametrize(
+    "text",
+    [
+        "import ljclient, ljclient.ensemble\nensemble = ljclient.ensemble",
+        "from ljclient.ensemble import Job\nfrom ljclient import ensemble",
+        "from ljclient import ensemble, Job",
+        "from ljclient import *",
+        "import ljclient\nljclient.Job\nensemble = ljclient.ensemble",
+    ],
+)
+def test_ensemble_is_the_function_however_its_module_was_imported(text: Any) -> None:
+    imported(f"{text}\nimport sys\nassert ensemble is sys.modules['ljclient.ensemble'].ensemble")
+
+
+def test_modules_are_names_of_the_package() -> None:
+    imported("import ljclient\nassert ljclient.units.RING == 2**32 and ljclient.session.Session is ljclient.Session")
+
+
+@pytest.mark.parametrize("name", ["nothing", "_nothing", "units_", "Session_"])
+def test_a_name_that_the_package_has_not(name: str) -> None:
+    with pytest.raises(AttributeError, match=f"module 'ljclient' has no attribute '{name}'"):
+        getattr(ljclient, name)
+    with pytest.raises(ImportError, match=f"cannot import name '{name}' from 'ljclient'"):
+        exec(f"from ljclient import {name}")
+
+
+def test_a_name_may_be_another_one(monkeypatch: pytest.MonkeyPatch) -> None:
+    """As where a test puts something in its place."""
+    with monkeypatch.context() as patched:
+        other: Any = len
+        patched.setattr(ljclient, "ensemble", other)
+        assert ljclient.ensemble is other
+    assert ljclient.ensemble.__name__ == "ensemble"
 
 
 def test_the_package_and_the_prompt() -> None:
