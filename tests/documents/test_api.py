@@ -73,7 +73,8 @@ def test_each_refusal_is_told(page: Any) -> None:
 
 def test_modules_that_say_what_is_public_are_there(page: Any) -> None:
     titles = re.findall(r"<h2>(ljclient[\w.]*)", page("modules"))
-    assert {"ljclient.prompt", "ljclient.refusals", "ljclient.reversal", "ljclient.state_points", "ljclient.view"} <= set(titles)
+    named = {"analysis", "prompt", "refusals", "reversal", "state_points", "units", "view"}
+    assert {f"ljclient.{name}" for name in named} <= set(titles)
     shown = names_in(page("modules"))
     assert {"units.ARGON", "units.step_factor"} <= set(shown) and "units.Scale" not in shown
     assert {"reversal.echo", "state_points.lattice", "state_points.StatePoint"} <= set(shown)
