@@ -570,7 +570,7 @@ def _departure(values: Any) -> float:
 def _checked_kicks(session: "Session", kicks: Union[int, Sequence[Kick]]) -> Tuple[Kick, ...]:
     """Kicks as they were said, or so many of which each has another atom."""
     atoms = session.atoms
-    if isinstance(kicks, int):
+    if not isinstance(kicks, Sequence):
         count = _at_least_1(kicks, "kicks")
         if count > atoms:
             raise ValueError(f"kicks must be at most {atoms}, which is how many atoms there are, got {count}")
