@@ -126,6 +126,17 @@ def count_of_lines(text: bytes) -> int:
     return int(numpy.count_nonzero(numpy.frombuffer(text, dtype=numpy.uint8) == ord("\n")))
 
 
+def has_others(text: bytes, plain: bytes) -> bool:
+    """Whether a text has other bytes than the plain ones: printing characters of ASCII, and ends of lines. Those of a long one are
+    looked at by numpy, if it is imported: less that of a blank, a printing character is at most 94."""
+    numpy = globals().get("numpy")
+    if numpy is None or len(text) < LONG_TEXT:
+        return bool(text.translate(None, plain))
+    data = numpy.frombuffer(text, dtype=numpy.uint8)
+    unprinted = numpy.count_nonzero(data - numpy.uint8(ord(" ")) > ord("~") - ord(" "))
+    return bool(unprinted != numpy.count_nonzero(data == ord("\n")))
+
+
 def added(images: Any, others: Any) -> Any:
     """The sums of two lists of differences, or of coordinates: an array, or a list of tuples."""
     numpy = _numpy()

@@ -1,8 +1,8 @@
 """Whole numbers out of the bytes of many lines, which numpy reads all at once.
 
-A place is found by where it ends: before each end as many bytes are taken as the longest has, and those that stand before
-the number count for nothing. A position is found by where it ends, too: its point stands six digits before. Sums of floats are
-exact below 2^53. Little memory is taken anew, since that costs as much as to compute.
+A place is found by where it ends: the eight bytes before are taken as one number, and those that stand before its digits count for
+nothing. A position is found by where it ends, too: its point stands six digits before. Little memory is taken anew, since that costs
+as much as to compute.
 """
 from __future__ import annotations
 
@@ -10,6 +10,7 @@ from typing import Any, NamedTuple, Optional
 
 from .arrays import numpy
 
+NUMBER_DIGITS = 4
 PLACE_DIGITS = 10
 DECIMALS = 6
 # The digits of an edge at most.
@@ -17,22 +18,26 @@ MOST_DIGITS = 7
 
 
 def places(text: bytes, head: bytes) -> Optional[Any]:
-    """The numbers and places of atoms, of lines that are this head and four whole numbers: an array of shape (atoms, 4).
-
-    None if any line is something else.
+    """The numbers and places of atoms, of lines that are this head, of 8 bytes or more, and four whole numbers: an array of shape
+    (4, atoms). None if any line is something else.
     """
     data = numpy.frombuffer(text, dtype=numpy.uint8)
     ends = _word_ends(data, head.count(b" ") + 4)
     if ends is None:
         return None
     starts = numpy.concatenate(([0], ends[:-1, -1] + 1))
-    if (ends[:, -1] - starts).min() < len(head):
+    ends = numpy.ascontiguousarray(ends[:, -5:].T)
+    if (ends[0] - starts).min() != len(head) - 1 or not _begin_with(data, starts, head):
         return None
-    heads = numpy.lib.stride_tricks.sliding_window_view(data, len(head))[starts]
-    numbers = _before(data, ends[:, -5:-1] + 1, ends[:, -4:], PLACE_DIGITS)
-    if numbers is None or numbers.max() > 9 or not (heads == numpy.frombuffer(head, dtype=numpy.uint8)).all():
+    lengths = ends[1:] - ends[:-1]
+    lengths -= 1
+    if lengths.min() < 1 or lengths[0].max() > NUMBER_DIGITS or lengths.max() > PLACE_DIGITS:
         return None
-    return _summed(numbers).reshape(-1, 4).astype(numpy.int64)
+    numbers, high = _last_eight(data, ends[1:], lengths), _first_two(data, ends[2:], lengths[1:])
+    if numbers is None or high is None:
+        return None
+    numbers[1:] += high
+    return numbers
 
 
 class Rows(NamedTuple):
@@ -142,28 +147,41 @@ def _numbers(eights: Any, free: Any, carry: int, wrong: int, shift: int = 0) -> 
 def _word_ends(data: Any, words: int) -> Optional[Any]:
     """Where the words of each line end, of which there are so many with one blank between two. None if any line has others."""
     ends = numpy.flatnonzero(data <= ord(" "))
-    if not ends.size or ends.size % words or data[-1] != ord("\n"):
+    if not ends.size or ends.size % words:
         return None
     ends = ends.reshape(-1, words)
-    return ends if (data[ends] == [ord(" ")] * (words - 1) + [ord("\n")]).all() else None
+    lines, blanks = (numpy.count_nonzero(data == ord(end)) for end in "\n ")
+    return ends if (data.take(ends[:, -1]) == ord("\n")).all() and lines == len(ends) and lines + blanks == ends.size else None
 
 
-def _before(data: Any, starts: Any, ends: Any, width: int) -> Optional[Any]:
-    """The bytes of each word, less that of the digit 0, at the end of a row of this width that begins with zeros.
+def _begin_with(data: Any, starts: Any, head: bytes) -> bool:
+    """Whether each line begins with this head, of 8 bytes or more: eight of them are compared at once."""
+    places = [*range(0, len(head) - 7, 8), len(head) - 8]
+    return all((_eights(data, starts + place) == int.from_bytes(head[place : place + 8], "little")).all() for place in places)
 
-    None if a word is empty or longer than that.
-    """
-    starts, ends = starts.ravel(), ends.ravel()
-    lengths = ends - starts
-    if lengths.min() < 1 or lengths.max() > width:
+
+def _last_eight(data: Any, ends: Any, lengths: Any) -> Optional[Any]:
+    """The whole numbers of the last eight digits, or of all if there are fewer, of words that end here. None if any is none."""
+    kept = numpy.array([0xFFFFFFFFFFFFFFFF << 64 - 8 * min(length, 8) & 0xFFFFFFFFFFFFFFFF for length in range(PLACE_DIGITS + 1)], "<u8")
+    masks, eights = kept.take(lengths), _eights(data, ends - 8)
+    eights &= masks
+    masks &= numpy.uint64(0x3030303030303030)
+    eights ^= masks
+    return _numbers(eights, masks, 0x0606060606060606, 0xF0F0F0F0F0F0F0F0)
+
+
+def _first_two(data: Any, ends: Any, lengths: Any) -> Optional[Any]:
+    """What the digits are worth that stand before the last eight. None if any is none."""
+    kept = numpy.array([0] * 9 + [0xFF00, 0xFFFF], "<u8")
+    masks, twos = kept.take(lengths), _eights(data, ends - PLACE_DIGITS)
+    twos &= masks
+    masks &= numpy.uint64(0x3030)
+    twos ^= masks
+    if ((twos + numpy.uint64(0x0606) | twos) & numpy.uint64(0xF0F0)).any():
         return None
-    rows = numpy.lib.stride_tricks.sliding_window_view(data, width)[ends - width]
-    rows -= ord("0")
-    kept = numpy.arange(width) >= width - numpy.arange(width + 1)[:, None]
-    rows *= kept.astype(numpy.uint8)[lengths]
-    return rows
-
-
-def _summed(digits: Any) -> Any:
-    """The numbers whose digits the rows are."""
-    return digits.astype(numpy.float64) @ 10.0 ** numpy.arange(digits.shape[1] - 1, -1, -1)
+    ones = twos >> numpy.uint64(8)
+    twos &= numpy.uint64(0xFF)
+    twos *= numpy.uint64(10)
+    twos += ones
+    twos *= numpy.uint64(10**8)
+    return twos.view(numpy.int64)

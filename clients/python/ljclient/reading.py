@@ -197,9 +197,9 @@ def _arrayed_places(text: bytes, head: bytes, count: int) -> Any:
     from . import digits
 
     numbers = digits.places(text, head)
-    if numbers is None or numbers[:, 0].tolist() != list(range(count)) or numbers.max() >= RING:
+    if numbers is None or not arrays.numpy.array_equal(numbers[0], arrays.numpy.arange(count)) or numbers.max() >= RING:
         return None
-    return numbers[:, 1:].copy()
+    return arrays.numpy.ascontiguousarray(numbers[1:].T)
 
 
 def _listed_places(text: bytes, head: bytes, count: int) -> Any:

@@ -14,7 +14,7 @@ import time
 from collections import deque
 from typing import Callable, Deque, Dict, Iterable, List, NamedTuple, Optional, Protocol, Sequence, Tuple, Union
 
-from .arrays import count_of_lines
+from .arrays import count_of_lines, has_others
 from .errors import BadReply, ClientError, Closed, ConnectionLost, Refused, TimedOut, not_answered, refusal_of, shown
 from .interrupts import held
 from .record import Answer
@@ -153,6 +153,8 @@ class Wire:
         if not lines:
             return b""
         self._put("\n".join(lines).encode() + b"\n", lines)
+        if whole := self._whole_rows(len(lines)):
+            return whole
         self._gather(len(lines))
         text = b"\n".join([*itertools.islice(self._lines, len(lines)), b""])
         if text[:3] != b"OK " or text.count(b"\nOK ") < len(lines) - 1:
@@ -276,6 +278,26 @@ class Wire:
                 self._keeps_whole = False
                 self._split()
 
+    def _whole_rows(self, count: int) -> Optional[bytes]:
+        """The replies that are awaited, of one line each, as `_whole_reply`."""
+        if self._lines or self.listener is not None:
+            return None
+        self._keeps_whole = True
+        try:
+            self._gather(count)
+            text = self._partial
+            if self._unsplit != count or text[:3] != b"OK " or text[-1:] != b"\n" or text.count(b"\nOK ") < count - 1:
+                return None
+            self._torn = True
+            self._partial, self._unsplit = b"", 0
+            self._unanswered.clear()
+            self._torn = False
+            return text
+        finally:
+            with held():
+                self._keeps_whole = False
+                self._split()
+
     def _take(self, data: bytes) -> None:
         """Takes in what was received."""
         self._partial += data
@@ -392,7 +414,7 @@ class Wire:
                 data = b""
             except OSError as error:
                 data, self._at_end = b"", f"the connection is lost ({error.strerror or error})"
-            self._torn = bool(data.translate(None, PLAIN))
+            self._torn = has_others(data, PLAIN)
             if not self._torn:
                 self._take(data)
         if self._torn:

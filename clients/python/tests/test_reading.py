@@ -35,6 +35,38 @@ class ByEither(unittest.TestCase):
             self.assertEqual((step, listed(places)), (-12, wanted))
             self.assertEqual(isinstance(places, list), kind is None)
 
+    def test_places_of_each_length(self) -> None:
+        rng = random.Random(7)
+        for count in (1, 2, 11, 4096):
+            wanted = [tuple(min(rng.randrange(10 ** rng.randint(1, 10)), RING - 1) for _ in range(3)) for _ in range(count)]
+            text = b"".join(b"OK SHOW a 0 %d %d %d %d\n" % (atom, *place) for atom, place in enumerate(wanted))
+            for kind in KINDS:
+                with by(kind):
+                    self.assertEqual(listed(reading.places_of("a", count, text).places), wanted)
+
+    def test_both_ways_refuse_the_same(self) -> None:
+        """Texts with one byte put in the place of another, taken out, or put in."""
+        if not arrays.numpy:
+            self.skipTest("numpy is not installed")
+        rng, head = random.Random(8), b"OK SHOW a 7 "
+        right = b"".join(b"%b%d %d 4294967295 %d\n" % (head, atom, rng.randrange(RING), rng.randrange(10)) for atom in range(12))
+        taken = 0
+        for _ in range(4000):
+            at, byte, kind = rng.randrange(len(right)), rng.choice(b"0123456789 \n\t-.A\x00\xff"), rng.randrange(3)
+            text = right[:at] + bytes([byte]) * (kind > 0) + right[at + (kind < 2) :]
+            by_numpy, alone = (read(text, head, 12) for read in (reading._arrayed_places, reading._listed_places))
+            self.assertEqual(by_numpy if by_numpy is None else listed(by_numpy), alone, text)
+            taken += alone is not None
+        self.assertTrue(500 < taken < 3500)
+
+    def test_other_bytes_of_long_texts(self) -> None:
+        text = b"OK SHOW a 7 0 589 0 4294967295\n" * 500
+        plain = b"\n" + bytes(range(0x20, 0x7F))
+        for kind in KINDS:
+            with by(kind):
+                found = [byte for byte in range(256) if not arrays.has_others(text[:9999] + bytes([byte]) + text[9999:], plain)]
+            self.assertEqual(bytes(found), plain)
+
     def test_positions(self) -> None:
         rng = random.Random(6)
         words = [f"{rng.uniform(0, 10 ** rng.randint(-6, 6)):.6f}" for _ in range(3000)]
@@ -142,7 +174,7 @@ class Interrupts(unittest.TestCase):
             stays(connection, stop)
 
         with peer(says(LISTED, then=slowly)) as port, joined(port) as user:
-            with interrupted_when(lambda: len(user.unanswered) == 2 and user._wire._lines):
+            with interrupted_when(lambda: len(user.unanswered) == 2 and user._wire._unsplit):
                 unasked(user).places()
             caught.set()
             self.assertEqual(user.sessions(), [])
