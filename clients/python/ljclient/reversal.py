@@ -22,6 +22,7 @@ from . import arrays
 from .errors import ClientError
 from .names import count_of, displacement_of, whole_of
 from .optional import needed_numpy, pyplot
+from .quantities import above_maxwell, departure, mixing_entropy, rank_correlation
 
 if TYPE_CHECKING:
     from .session import Session
@@ -40,8 +41,6 @@ TELLING_TREND, TELLING_DEPARTURE = 0.5, 5.0
 """From this rank correlation with the time on, or this many standard deviations, a quantity tells the direction of time."""
 SHUFFLES = 20
 """Over so many random mixtures the mean is taken."""
-SPEED_BIN, SPEED_BINS = 0.25, 16
-"""Of the histogram of velocity components, in units of their root mean square."""
 
 
 class Kick(NamedTuple):
@@ -240,13 +239,13 @@ class Arrow:
     def trends(self) -> Dict[str, float]:
         """Kendall's rank correlation of each quantity with the time on the way there, from -1 to 1. On the way back it has the other
         sign. It is near 0 of what only fluctuates."""
-        return {name: _rank_correlation(values) for name, values in self.there.items()}
+        return {name: rank_correlation(values) for name, values in self.there.items()}
 
     @property
     def departures(self) -> Dict[str, float]:
         """How far the start is from the mean of the second half of the way there, in standard deviations of that half. A run that
         begins with a large one comes to its equilibrium, and one that ends with it was turned back."""
-        return {name: _departure(values) for name, values in self.there.items()}
+        return {name: departure(values) for name, values in self.there.items()}
 
     @property
     def telling(self) -> List[str]:
@@ -406,9 +405,9 @@ def entropy_of_mixing(
         raise ValueError(f"labels must be one of each of {session.atoms} atoms, and of two kinds at least: say labels=")
     numbers = numpy.array([sorted(set(kinds), key=repr).index(kind) for kind in kinds])
     frames, returned = _there_and_back(session, stops, session.places)
-    there, back = (numpy.array([_entropy_of(places, numbers, cells) for places in way]) for way in (frames, returned))
+    there, back = (numpy.array([mixing_entropy(places, numbers, cells) for places in way]) for way in (frames, returned))
     parts, drawn = numpy.bincount(numbers) / len(numbers), numpy.random.default_rng(0)
-    shuffled = [_entropy_of(frames[-1], drawn.permutation(numbers), cells) for _ in range(SHUFFLES)]
+    shuffled = [mixing_entropy(frames[-1], drawn.permutation(numbers), cells) for _ in range(SHUFFLES)]
     ideal = float(-(parts * numpy.log(parts)).sum())
     return Mixing(numpy.array(stops), there, back, ideal, float(numpy.mean(shuffled)), cells)
 
@@ -514,17 +513,6 @@ def _inside(distances: Sequence[float]) -> List[int]:
     return list(range(first, after))
 
 
-def _entropy_of(places: Any, kinds: Any, cells: int) -> float:
-    """The entropy of mixing of a frame, in k_B for each atom, by the kind of each atom as a number."""
-    numpy = arrays.numpy
-    parts = (numpy.asarray(places) * cells) >> 32
-    cell_of = (parts[:, 0] * cells + parts[:, 1]) * cells + parts[:, 2]
-    count = int(kinds.max()) + 1
-    counts = numpy.bincount(cell_of * count + kinds, minlength=cells**3 * count).reshape(-1, count)
-    inside, total = counts[counts > 0], numpy.broadcast_to(counts.sum(axis=1, keepdims=True), counts.shape)[counts > 0]
-    return abs(float((inside * numpy.log(inside / total)).sum())) / len(kinds)
-
-
 def _quantities_of(frame: "Snapshot", start: Any) -> Dict[str, float]:
     """The quantities of a frame by which `arrow` looks for the direction of time."""
     energies, atoms = frame.energies, len(start)
@@ -533,38 +521,8 @@ def _quantities_of(frame: "Snapshot", start: Any) -> Dict[str, float]:
         "potential": energies.potential / atoms,
         "total": energies.total / atoms,
         "distance": arrays.distance(frame.places, start) / frame.scale.sigma_on_ring,
-        "maxwell": _above_maxwell(frame.velocities),
+        "maxwell": above_maxwell(frame.velocities),
     }
-
-
-def _above_maxwell(velocities: Any) -> float:
-    """Boltzmann's H of the velocity components, above that of Maxwell's distribution of the same temperature: `sum p ln(p / q)` over
-    bins of their amounts, which reversal does not change. 0 if all atoms are at rest."""
-    numpy = arrays.numpy
-    parts = abs(numpy.asarray(velocities).ravel())
-    root = math.sqrt((parts**2).mean())
-    if not root:
-        return 0.0
-    edges = [math.erf(SPEED_BIN * number / math.sqrt(2)) for number in range(SPEED_BINS)] + [1.0]
-    wanted = numpy.diff(edges)
-    bins = numpy.minimum((parts / root / SPEED_BIN).astype(int), SPEED_BINS - 1)
-    found = numpy.bincount(bins, minlength=SPEED_BINS) / len(parts)
-    there = found > 0
-    return float((found[there] * numpy.log(found[there] / wanted[there])).sum())
-
-
-def _rank_correlation(values: Any) -> float:
-    """Kendall's rank correlation with the time: pairs of frames that rise, without those that fall, as a part of all pairs."""
-    numpy, count = arrays.numpy, len(values)
-    rises = numpy.sign(numpy.subtract.outer(values, values))
-    return float(numpy.tril(rises).sum()) / (count * (count - 1) / 2)
-
-
-def _departure(values: Any) -> float:
-    """How far the first value is from the mean of the second half, in its standard deviations."""
-    later = values[len(values) // 2 :]
-    apart, deviation = float(values[0] - later.mean()), float(later.std())
-    return apart / deviation if deviation else math.copysign(math.inf, apart) if apart else 0.0
 
 
 def _checked_kicks(session: "Session", kicks: Union[int, Sequence[Kick]]) -> Tuple[Kick, ...]:

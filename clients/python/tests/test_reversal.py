@@ -9,6 +9,7 @@ from unittest import mock
 import pytest
 
 from ljclient import ClientError, ConnectionLost, arrays, refusals, reversal, run
+from ljclient.quantities import above_maxwell
 from ljclient.reversal import Kick, arrow, divergence, echo, entropy_of_mixing
 from support import PROGRAM, dimer, joined, listed, process_of
 
@@ -126,10 +127,10 @@ def test_how_far_velocities_are_from_those_of_maxwell() -> None:
     """If all components have the amount of their root mean square, it is minus the logarithm of the part that the normal distribution
     has from 1 to 1.25: 0.3173105 - 0.2112995, of a table. Drawn ones have some 16 / (2 n)."""
     equal = numpy.array([[1, -1, 1], [-1, -1, 1]]) * 7.0
-    assert reversal._above_maxwell(equal) == pytest.approx(-math.log(0.3173105 - 0.2112995), abs=1e-6)
+    assert above_maxwell(equal) == pytest.approx(-math.log(0.3173105 - 0.2112995), abs=1e-6)
     drawn = numpy.random.default_rng(1).normal(size=(4000, 3))
-    assert 0 <= reversal._above_maxwell(drawn) < 3e-3
-    assert reversal._above_maxwell(numpy.zeros((2, 3))) == 0
+    assert 0 <= above_maxwell(drawn) < 3e-3
+    assert above_maxwell(numpy.zeros((2, 3))) == 0
 
 
 @pytest.mark.parametrize(

@@ -1,0 +1,51 @@
+"""Numbers of frames and of runs, by which `reversal` looks for the direction of time. They need numpy."""
+from __future__ import annotations
+
+import math
+from typing import Any
+
+from . import arrays
+
+SPEED_BIN, SPEED_BINS = 0.25, 16
+"""Of the histogram of velocity components, in units of their root mean square."""
+
+
+def mixing_entropy(places: Any, kinds: Any, cells: int) -> float:
+    """The entropy of mixing of a frame, in k_B for each atom, by the kind of each atom as a number."""
+    numpy = arrays.numpy
+    parts = (numpy.asarray(places) * cells) >> 32
+    cell_of = (parts[:, 0] * cells + parts[:, 1]) * cells + parts[:, 2]
+    count = int(kinds.max()) + 1
+    counts = numpy.bincount(cell_of * count + kinds, minlength=cells**3 * count).reshape(-1, count)
+    inside, total = counts[counts > 0], numpy.broadcast_to(counts.sum(axis=1, keepdims=True), counts.shape)[counts > 0]
+    return abs(float((inside * numpy.log(inside / total)).sum())) / len(kinds)
+
+
+def above_maxwell(velocities: Any) -> float:
+    """Boltzmann's H of the velocity components, above that of Maxwell's distribution of the same temperature: `sum p ln(p / q)` over
+    bins of their amounts, which reversal does not change. 0 if all atoms are at rest."""
+    numpy = arrays.numpy
+    parts = abs(numpy.asarray(velocities).ravel())
+    root = math.sqrt((parts**2).mean())
+    if not root:
+        return 0.0
+    edges = [math.erf(SPEED_BIN * number / math.sqrt(2)) for number in range(SPEED_BINS)] + [1.0]
+    wanted = numpy.diff(edges)
+    bins = numpy.minimum((parts / root / SPEED_BIN).astype(int), SPEED_BINS - 1)
+    found = numpy.bincount(bins, minlength=SPEED_BINS) / len(parts)
+    there = found > 0
+    return float((found[there] * numpy.log(found[there] / wanted[there])).sum())
+
+
+def rank_correlation(values: Any) -> float:
+    """Kendall's rank correlation with the time: pairs of frames that rise, without those that fall, as a part of all pairs."""
+    numpy, count = arrays.numpy, len(values)
+    rises = numpy.sign(numpy.subtract.outer(values, values))
+    return float(numpy.tril(rises).sum()) / (count * (count - 1) / 2)
+
+
+def departure(values: Any) -> float:
+    """How far the first value is from the mean of the second half, in its standard deviations."""
+    later = values[len(values) // 2 :]
+    apart, deviation = float(values[0] - later.mean()), float(later.std())
+    return apart / deviation if deviation else math.copysign(math.inf, apart) if apart else 0.0
