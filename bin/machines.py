@@ -49,9 +49,22 @@ def run(words: List[str]) -> None:
         raise NotCompiled(f"{Path(words[0]).name}: {done.stdout[-2000:]}")
 
 
-def keep_module(rt: Any, crate: Any, flags: List[str], folder: Path) -> Path:
-    """Builds a proved program, and returns the module that it is compiled from."""
-    kit, module = Path(rt.KIT, "toolchain"), folder / "module.bc"
+def kept_module(rt: Any, crate: Any, flags: List[str], folder: Path) -> Path:
+    """The module that a proved program is compiled from. It stays in the folder of the crate, with a sum of all that it was made of, so
+    that the next kind is compiled from the same module, and nothing is proved again."""
+    kept, made_of = Path(crate.folder, "out", "module"), crate.stamp()
+    module, mark = kept / "module.bc", kept / "made_of"
+    if not (mark.is_file() and mark.read_text() == made_of):
+        shutil.rmtree(kept, ignore_errors=True)
+        kept.mkdir(parents=True)
+        keep_module(rt, crate, flags, folder, module)
+        mark.write_text(made_of)
+    return module
+
+
+def keep_module(rt: Any, crate: Any, flags: List[str], folder: Path, module: Path) -> None:
+    """Builds a proved program, and keeps the module that it is compiled from."""
+    kit = Path(rt.KIT, "toolchain")
     (folder / "kit" / "bin").mkdir(parents=True)
     (folder / "kit" / "lib").symlink_to(kit / "lib")
     for tool in (kit / "bin").iterdir():
@@ -63,7 +76,6 @@ def keep_module(rt: Any, crate: Any, flags: List[str], folder: Path) -> Path:
     words = ["build", *crate.words(flags), "--toolchain", str(folder / "kit"), "--backend", "llvm", "-o", str(folder / "program.o")]
     if crate.call(rt.rtlib.RATTLE, *words):
         raise NotCompiled(f"{crate.name} is not proved, or not built")
-    return module
 
 
 def for_wasm(text: str, features: str) -> str:
@@ -100,7 +112,7 @@ def target_of_wasm(lanes: bool) -> List[str]:
 def linked_for_wasm(rt: Any, crate: Any, flags: List[str], folder: Path, lanes: bool) -> Path:
     """Builds a proved program for WebAssembly with memory of 64 bits."""
     clang, text, made = str(Path(rt.KIT, "toolchain", "bin", "clang")), folder / "module.ll", folder / "linked.wasm"
-    module = keep_module(rt, crate, flags, folder)
+    module = kept_module(rt, crate, flags, folder)
     run([clang, "-x", "ir", str(module), "-S", "-emit-llvm", "-Xclang", "-disable-llvm-passes", "-o", str(text)])
     features = WASM_FEATURES + (LANES if lanes else "")
     text.write_bytes(for_wasm(text.read_bytes().decode("latin-1"), features).encode("latin-1"))
