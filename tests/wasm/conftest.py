@@ -15,8 +15,8 @@ SECONDS = 1800
 
 @pytest.fixture(scope="session")
 def compiled() -> Callable[[str], Path]:
-    """The program of each kind, `lj_run` as WebAssembly and `ljserve` for arm64. It is compiled when it is first asked for, or stands in
-    the folder that LJSERVE_WASM names, as wasm64.wasm, wasm32.wasm and arm64."""
+    """The program `lj_run` of each kind, which is compiled when it is first asked for. Or it stands in the folder that LJSERVE_WASM
+    names, as wasm64.wasm and wasm32.wasm, and `ljserve` as arm64."""
     made: Dict[str, Path] = {}
 
     def program(kind: str) -> Path:
@@ -37,10 +37,8 @@ def there(kind: str) -> Path:
 def compile_now(kind: str) -> Path:
     if shutil.which("rt") is None or not (TOP / "crates/lj_program/out/rlib").is_dir():
         pytest.skip("the libraries of the program are not built: bin/ljserve builds them")
-    crate = "ljserve" if kind == "arm64" else "lj_run"
-    words = [kind, f"out/{kind}", "--crate", crate]
-    done = subprocess.run([TOP / "bin/compile", *words], capture_output=True, text=True, timeout=SECONDS)
+    done = subprocess.run([TOP / "bin/compile", kind, f"out/{kind}", "--crate", "lj_run"], capture_output=True, text=True, timeout=SECONDS)
     if done.returncode == 69:
         pytest.skip(done.stderr.strip())
     assert done.returncode == 0, done.stdout[-2000:] + done.stderr
-    return TOP / "crates" / crate / "out" / kind / (crate if kind == "arm64" else f"{crate}.wasm")
+    return TOP / "crates/lj_run/out" / kind / ("lj_run" if kind == "arm64" else "lj_run.wasm")
