@@ -37,6 +37,7 @@ START = modules_of_client("__init__.py", "user.py", "session.py", "loading.py")
 HOT = {
     "bench/ratio": STEP,
     "bench/lammps/step": STEP,
+    "bench/lammps/cores": POOL,
     "bench/order": STEP,
     "bench/tiles": STEP,
     "bench/species": STEP,

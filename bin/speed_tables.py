@@ -77,6 +77,24 @@ def lammps(name: str) -> str:
     return found.under("Way | ms a step | To LAMMPS | To its package OPT", *rows)
 
 
+def cores(name: str) -> str:
+    """Steps by processes of LAMMPS and by workers of a server, with what its threads take, a column for each number of them."""
+    found = Found(name)
+    steps = [each["name"].rpartition(", ") for each in found.told["figures"] if each["unit"] == "ms per step"]
+    ways, counts = list(dict.fromkeys(way for way, _, _ in steps)), sorted({count for _, _, count in steps})
+    rows = [row_of_counts(found, way, counts, f"{way}, ") for way in ways]
+    for way in ways:
+        if f"{way}, {counts[0]}, connection" in found.figures:
+            rows.append(row_of_counts(found, f"{way}: processor time of the connection", counts, f"{way}, ", ", connection"))
+            rows.append(row_of_counts(found, f"{way}: that of the first worker", counts, f"{way}, ", ", worker 1"))
+    return found.under(f"ms a step, by processes or workers | {' | '.join(counts)}", *rows)
+
+
+def row_of_counts(found: Found, head: str, counts: Iterable[str], begin: str, end: str = "") -> str:
+    figures = (found.figures.get(f"{begin}{count}{end}") for count in counts)
+    return " | ".join([head, *("-" if figure is None else shown(figure) for figure in figures)])
+
+
 def order(name: str) -> str:
     found = Found(name)
     first = next(iter(found.figures.values()))
@@ -195,6 +213,7 @@ def client(name: str) -> str:
 KINDS: dict[str, Callable[..., str]] = {
     "steps": steps,
     "lammps": lammps,
+    "cores": cores,
     "order": order,
     "lines": lines,
     "reader": reader,

@@ -28,6 +28,7 @@ SCRIPTS = [path for path in FILES if path.suffix in ("", ".py") and os.access(pa
 KEPT_AS_JSON = (
     "client",
     "keep",
+    "lammps/cores",
     "lammps/step",
     "lines",
     "memory",

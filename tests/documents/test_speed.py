@@ -67,6 +67,24 @@ def test_a_step_beside_lammps(folder: Path) -> None:
     assert rows[4:] == ["| plain | 4.00 | 1.00 | 2.00 |", "| OPT | 2.00 | 0.50 | 1.00 |", "| run | 3.00 | 0.75 | 1.50 |"]
 
 
+def test_workers_beside_processes_of_lammps(folder: Path) -> None:
+    """A column for each number of them, and below what threads of a server take."""
+    steps = {"LAMMPS, 1": 4.0, "LAMMPS, 2": 2.0, "v2, lock, 1": 3.0, "v2, lock, 3": 1.5}
+    kept(folder, "a", "bench/lammps/cores X --json a.json", steps, "ms per step")
+    told = json.loads((folder / "a.json").read_text())
+    spent = {"v2, lock, 1, connection": 0.25, "v2, lock, 3, connection": 0.5, "v2, lock, 1, worker 1": 2.5, "v2, lock, 1, stolen": 0.1}
+    told["figures"] += [{"name": name, "unit": "ms of processor time per step", "value": value} for name, value in spent.items()]
+    (folder / "a.json").write_text(json.dumps(told))
+    assert speed_tables.speed("cores", "a").splitlines()[2:] == [
+        "| ms a step, by processes or workers | 1 | 2 | 3 |",
+        "|---|---|---|---|",
+        "| LAMMPS | 4.00 | 2.00 | - |",
+        "| v2, lock | 3.00 | - | 1.50 |",
+        "| v2, lock: processor time of the connection | 0.250 | - | 0.500 |",
+        "| v2, lock: that of the first worker | 2.50 | - | - |",
+    ]
+
+
 def test_lines_beside_the_twin(folder: Path) -> None:
     kept(folder, "a", "bench/lines X --json a.json", {"program": 4.0, "plain C": 2.0})
     assert speed_tables.speed("lines", "a").splitlines()[-1] == "| 4,000,000 | 2,000,000 | 0.50 |"

@@ -1,0 +1,94 @@
+"""A liquid that LAMMPS makes of a crystal, and the same one as commands for the program."""
+from __future__ import annotations
+
+import pathlib
+import random
+import re
+import subprocess
+import sys
+from typing import Dict, List, NamedTuple
+
+HERE = pathlib.Path(__file__).resolve().parent
+sys.path[:0] = [str(HERE.parent), str(HERE.parents[1] / "clients" / "python")]
+from ljclient import User  # noqa: E402
+from ljclient.order import Order, by_halves  # noqa: E402
+from ljclient.session import Session  # noqa: E402
+
+DENSITY, DT = 0.8442, 0.005
+H = round(2**32 * DT**2)
+# The lines of the atoms of a frame, as XYZ text has them.
+Frame = List[str]
+
+
+class Crystal(NamedTuple):
+    """What is melted: a lattice, how many cells of it stand along each axis, and how many atoms a cell has."""
+
+    lattice: str
+    cells: int
+    atoms_of_cell: int
+
+    @property
+    def atoms(self) -> int:
+        return self.atoms_of_cell * self.cells**3
+
+
+class Liquid(NamedTuple):
+    """What LAMMPS has made: a file that it goes on from, the last two frames, and the potential energy of an atom."""
+
+    restart: str
+    before: Frame
+    present: Frame
+    energy: float
+
+    @property
+    def edge(self) -> str:
+        return f"{(len(self.present) / DENSITY) ** (1 / 3):.9f}"
+
+    def in_order(self, order: Order) -> Liquid:
+        return self._replace(before=list(order.for_server(self.before)), present=list(order.for_server(self.present)))
+
+    def in_space(self) -> Liquid:
+        """The same atoms in the order in which the client has them."""
+        rows = [[round(1e9 * float(word)) for word in line.split()[1:]] for line in self.present]
+        return self.in_order(Order(by_halves([(x, y, z) for x, y, z in rows])))
+
+    def shuffled(self) -> Liquid:
+        count = len(self.present)
+        return self.in_order(Order(tuple(random.Random(1).sample(range(count), count))))
+
+    def load(self) -> bytes:
+        """The command that loads it."""
+        body = text_of(self.before) + text_of(self.present)
+        return f"LOAD a {self.edge} 1 {H} pair {len(body)}\n{body}".encode()
+
+    def stream(self, steps: int) -> bytes:
+        """The commands that load it and make so many steps."""
+        return self.load() + f"ADVANCE a {steps}\n".encode()
+
+    def loaded(self, user: User) -> Session:
+        before, present = (text_of(frame) for frame in (self.before, self.present))
+        return user.load("a", present, before=before, edge=self.edge, sigma=1, h=H, order="space")
+
+
+def text_of(frame: Frame) -> str:
+    return f"{len(frame)}\nliquid, density {DENSITY}\n" + "".join(frame)
+
+
+def lammps(file: str, variables: Dict[str, object], *words: str, is_shown: bool = False) -> List[str]:
+    """The command that has LAMMPS run one of the files of this folder, and print what it does, or nothing."""
+    said = [word for name, value in variables.items() for word in ("-var", name, str(value))]
+    return ["lmp", "-log", "none", *([] if is_shown else ["-screen", "none"]), *words, "-in", str(HERE / file), *said]
+
+
+def made(folder: pathlib.Path, crystal: Crystal) -> Liquid:
+    """Has LAMMPS make the liquid, whose files are kept in a folder."""
+    paths = {name: folder / name for name in ("frames", "restart", "energies")}
+    subprocess.run(lammps("liquid.in", {**paths, "lattice": crystal.lattice, "cells": crystal.cells}), check=True, cwd=folder)
+    blocks = paths["frames"].read_text().split("ITEM: ATOMS id x y z\n")[1:]
+    before, present = ([re.sub(r"^\d+", "Ar", line) for line in block.splitlines(keepends=True)[: crystal.atoms]] for block in blocks)
+    return Liquid(str(paths["restart"]), before, present, float(paths["energies"].read_text().split()[0]))
+
+
+def version_of_lammps() -> str:
+    told = subprocess.run(["lmp", "-h"], capture_output=True, text=True, check=True).stdout
+    return told.split("Simulator - ")[1].splitlines()[0]
