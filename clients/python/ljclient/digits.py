@@ -22,14 +22,13 @@ def places(text: bytes, head: bytes) -> Optional[Any]:
     (4, atoms). None if any line is something else.
     """
     data = numpy.frombuffer(text, dtype=numpy.uint8)
-    ends = _word_ends(data, head.count(b" ") + 4)
+    ends = _last_ends(data, head.count(b" ") + 4)
     if ends is None:
         return None
-    starts = numpy.concatenate(([0], ends[:-1, -1] + 1))
-    ends = numpy.ascontiguousarray(ends[:, -5:].T)
-    if (ends[0] - starts).min() != len(head) - 1 or not _begin_with(data, starts, head):
+    starts = ends[0] - (len(head) - 1)
+    if starts[0] or not (starts[1:] == ends[4, :-1] + 1).all() or not _begin_with(data, starts, head):
         return None
-    lengths = ends[1:] - ends[:-1]
+    lengths = ends[1:] - ends[:4]
     lengths -= 1
     if lengths.min() < 1 or lengths[0].max() > NUMBER_DIGITS or lengths.max() > PLACE_DIGITS:
         return None
@@ -139,19 +138,21 @@ def _numbers(eights: Any, free: Any, carry: int, wrong: int, shift: int = 0) -> 
         fours >>= numpy.uint32(bits)
         fours &= numpy.uint32(kept)
     numbers = free.view(numpy.int64)
-    numpy.multiply(fours[:, ::2], 10000, out=numbers, casting="unsafe")
-    numbers += fours[:, 1::2]
+    numpy.multiply(fours[..., ::2], 10000, out=numbers, casting="unsafe")
+    numbers += fours[..., 1::2]
     return numbers
 
 
-def _word_ends(data: Any, words: int) -> Optional[Any]:
-    """Where the words of each line end, of which there are so many with one blank between two. None if any line has others."""
-    ends = numpy.flatnonzero(data <= ord(" "))
-    if not ends.size or ends.size % words:
+def _last_ends(data: Any, words: int) -> Optional[Any]:
+    """Where the last five words of each line end, of which there are so many with one blank between two: an array of shape (5, lines).
+    None if any line has others."""
+    marks = data <= ord(" ")
+    ends = numpy.flatnonzero(marks)
+    lines, blanks = (numpy.count_nonzero(numpy.equal(data, ord(end), out=marks)) for end in "\n ")
+    if not lines or ends.size != words * lines or lines + blanks != ends.size:
         return None
-    ends = ends.reshape(-1, words)
-    lines, blanks = (numpy.count_nonzero(data == ord(end)) for end in "\n ")
-    return ends if (data.take(ends[:, -1]) == ord("\n")).all() and lines == len(ends) and lines + blanks == ends.size else None
+    ends = numpy.ascontiguousarray(ends.reshape(-1, words)[:, -5:].T)
+    return ends if (data.take(ends[4]) == ord("\n")).all() else None
 
 
 def _begin_with(data: Any, starts: Any, head: bytes) -> bool:
