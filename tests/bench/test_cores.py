@@ -7,12 +7,15 @@ import pathlib
 import shutil
 import subprocess
 import sys
+from importlib.machinery import SourceFileLoader
+from types import ModuleType
 from typing import Any, Dict, List
 
 import pytest
 from shared.program import Program
 
-CORES = pathlib.Path(__file__).resolve().parents[2] / "bench" / "lammps" / "cores"
+BENCH = pathlib.Path(__file__).resolve().parents[2] / "bench"
+CORES = BENCH / "lammps" / "cores"
 SECONDS = 300
 TOOLS = {"lmp": "lammps", "mpirun": "openmpi-bin"}
 
@@ -41,6 +44,16 @@ def test_each_way_is_kept(program: Program, tmp_path: pathlib.Path) -> None:
         assert [each for each in spent if each.startswith(f"{name}, ")] == [f"{name}, {thread}" for thread in threads]
         assert spent[f"{name}, connection"] > 0 and spent[f"{name}, worker 1"] >= 0
     assert all(name in done.stdout for name in servers) and "| ms per step, by processes or workers |" in done.stdout
+
+
+@pytest.mark.parametrize("names, has_v3, count", [([], False, 1), (["cores"], False, 1), ([], True, 2), (["cores"], True, 2)])
+def test_the_program_for_v3_is_measured_where_it_is_asked_for(names: List[str], has_v3: bool, count: int) -> None:
+    speeds: Any = ModuleType("bench_speeds")
+    SourceFileLoader("bench_speeds", str(BENCH / "speeds")).exec_module(speeds)
+    chosen = speeds.chosen(names, has_v3)
+    assert chosen["cores"].split() == ["bench/lammps/cores", speeds.PROGRAM, speeds.PROGRAM_V3][: 1 + count]
+    assert ("v3_lammps" in chosen) == (has_v3 and not names)
+    assert speeds.chosen(["v3_lammps"], has_v3) == {"v3_lammps": f"bench/lammps/step {speeds.PROGRAM_V3} --steps 400"}
 
 
 @pytest.mark.parametrize("tool", TOOLS)
