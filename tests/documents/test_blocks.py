@@ -53,8 +53,9 @@ def runs(but: Any = None) -> Any:
     return check
 
 
-def prints(*wanted: Any) -> Any:
+def prints(*wanted: Any, needs: str = "ljclient") -> Any:
     def check(block: Any, folder: Any) -> None:
+        pytest.importorskip(needs, reason=f"{needs} is not installed")
         assert folder.python(block.text) == list(wanted)
 
     return check
@@ -392,11 +393,6 @@ def driver_of_ase(block: Any, folder: Any) -> None:
     assert back == "True"
 
 
-def calculator_of_ase(block: Any, folder: Any) -> None:
-    pytest.importorskip("ase", reason="ASE is not installed")
-    assert folder.python(block.text) == ["True"]
-
-
 def two_species(block: Any, folder: Any) -> None:
     *told, energy = folder.python(block.text)
     assert "\n".join(["```", *told, "```"]) in contents(block.document)
@@ -470,7 +466,7 @@ BLOCKS = {
         "bin/release": NEEDS_KIT,
     },
     "docs/ARCHITECTURE.md": {"                      lock: DirectoryState": DRAWING},
-    "docs/api/ase.md": {"ReversibleVerlet(": driver_of_ase, "Ljserve(": calculator_of_ase},
+    "docs/api/ase.md": {"ReversibleVerlet(": driver_of_ase, "Ljserve(": prints("True", needs="ase")},
     "docs/api/ensemble.md": {"partial(begin": many_runs},
     "docs/api/examples.md": {"(examples/load": own_file},
     "docs/api/files.md": {
