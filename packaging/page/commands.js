@@ -15,7 +15,7 @@ export function split(text) {
     const line = left.slice(0, end);
     left = left.slice(end + 1);
     if (!line) continue;
-    const body = left.slice(0, announced(line));
+    const body = new TextDecoder().decode(new TextEncoder().encode(left).subarray(0, announced(line)));
     left = left.slice(body.length);
     commands.push({ line, body });
   }

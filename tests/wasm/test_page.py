@@ -4,7 +4,9 @@ from __future__ import annotations
 import functools
 import hashlib
 import http.server
+import json
 import os
+import shutil
 import subprocess
 import sys
 import threading
@@ -101,3 +103,14 @@ def test_a_module_that_is_not_there_is_told(tmp_path: Path) -> None:
     done = subprocess.run([TOP / "bin/page", tmp_path / "site", "--modules", tmp_path], capture_output=True, text=True, timeout=SECONDS)
     assert (done.returncode, done.stderr) == (69, f"page: there is no {tmp_path}/wasm64.wasm\n")
     assert not (tmp_path / "site").exists()
+
+
+@pytest.mark.skipif(shutil.which("node") is None, reason="no node")
+def test_bodies_are_cut_by_their_bytes() -> None:
+    """A letter may be two bytes of a body. A body that is cut short has what there is of it."""
+    text = "LOAD a 9 1 1 rest 9\n1\nK\u00fc\nAr\nLIST\n\nLOADMIX b 9\nAr"
+    module, given = str(TOP / "packaging/page/commands.js"), json.dumps(text)
+    words = f"const {{ split }} = await import({module!r}); console.log(JSON.stringify(split({given})))"
+    done = subprocess.run(["node", "--input-type=module", "-e", words], capture_output=True, text=True, timeout=SECONDS, check=True)
+    bodies = [("LOAD a 9 1 1 rest 9", "1\nK\u00fc\nAr\n"), ("LIST", ""), ("LOADMIX b 9", "Ar\n")]
+    assert json.loads(done.stdout) == [{"line": line, "body": body} for line, body in bodies]
