@@ -16,7 +16,7 @@ use std::alloc::{AllocError, Global};
 use std::fmt;
 use std::marker::Model;
 
-/// The most users of a server, or of a world.
+/// Maximum number of users of a server or a schedule.
 pub const MAX_USERS: usize = 64;
 
 /// Users, numbered from 0, with their tickets and their states. A user's state is either at home or lent to one ticket.
@@ -74,8 +74,8 @@ impl Directory {
     /// # Errors
     /// No user has both, or all tickets of this user are granted. Nothing has changed then.
     ///
-    /// Promise: only a HELLO with the name and the token of a user gets a ticket, which is that user's next one; a HELLO that is
-    /// denied changes nothing.
+    /// Promise: only a HELLO with the name and the token of a user gets a ticket, the next one of that user. A HELLO that is denied
+    /// changes nothing.
     pub fn hello(&mut self, name: &[u8], token: &[u8]) -> Result<Ticket, Denied>
         ensures granted { IsOk result
             ↔ IsSomeAnd (user_with self.old name.now token.now)
@@ -106,7 +106,8 @@ impl Directory {
     /// Lends the state of the ticket's user to this ticket, if it is the user's first one that has not left and the state is at
     /// home; else returns None.
     ///
-    /// Promise: a state is lent exactly to its user's first ticket that has not left, and exactly while it is at home.
+    /// Promise: a state is handed out if and only if no other connection has it, and the ticket is its user's first one that has
+    /// not left.
     pub fn try_enter(&mut self, ticket: &Ticket) -> Option<UserState>
         ensures enters { IsSome result
             ↔ IsSomeAnd (slice_get self.old ticket.now.user) (CanEnter ticket.now.number) }
@@ -127,7 +128,7 @@ impl Directory {
     /// # Errors
     /// The ticket has not entered, or has already left. Both are handed back, and nothing has changed.
     ///
-    /// Promise: a state is taken home exactly from the ticket that it was lent to; any other ticket is handed back with its
+    /// Promise: a state is taken back if and only if it comes with the ticket that got it. Any other ticket is returned with its
     /// state, and nothing changes.
     pub fn leave(&mut self, ticket: Ticket, state: UserState) -> Result<(), NotEntered>
         ensures entered { IsOk result

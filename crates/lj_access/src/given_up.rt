@@ -53,8 +53,7 @@ impl GivenUp {
     /// Passes over the kept tickets of a user whose turn has come, one after the other: each enters, leaves at once, and is no
     /// longer kept.
     ///
-    /// Promise: in the directory only tickets of this user have left, and none of the user's tickets that are still kept may
-    /// enter.
+    /// Promise: only tickets of this user leave the directory, and no remaining ticket of the user may enter.
     pub fn pass(&mut self, directory: &mut Directory, user: u8)
         ensures passed { PassesOver user directory.old directory.new }
         ensures kept { IsPermutation self.old (self.new ++ tickets_passed user directory.old directory.new) }

@@ -1,4 +1,4 @@
-//! The directory of users: who may use a user's state now. States are lent out by ticket order, one ticket at a time.
+//! The directory of users: it lends the state of a user to one connection at a time, in the order of their tickets.
 #![tactic(auto)]
 
 mod directory;

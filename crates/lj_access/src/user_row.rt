@@ -9,7 +9,7 @@ use lj_session::UserState;
 use std::alloc::Global;
 use std::marker::Model;
 
-/// The most tickets of one user.
+/// Maximum number of tickets of one user.
 pub const MAX_TICKETS: u64 = 4_294_967_296;
 
 /// A user: the number of tickets granted and of those that have left, and the state while it is at home.

@@ -12,7 +12,7 @@ use std::hash::{Hash, Hasher};
 use std::marker::Model;
 use std::{fmt, str};
 
-/// The most bytes of a name.
+/// Maximum number of bytes in a name.
 pub const MAX_NAME_BYTES: usize = 16;
 
 /// The name of a user, a session or a saved simulation: 1 to 16 letters, digits, `_` and `-`.
@@ -35,7 +35,7 @@ impl Model for Name {
 impl Name {
     /// Parses a name; `None` if `word` is not one.
     ///
-    /// Promise: the result is the name that the word is, if it is one.
+    /// Promise: a word that is a name gives that name; any other word gives nothing.
     pub fn parse(word: &[u8]) -> Option<Name>
         ensures { result ≡ name_of word.now }
     {

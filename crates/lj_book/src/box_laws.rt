@@ -4,8 +4,8 @@ ghost use Rattle.lj_book.specs.Book.{user_of_task};
 ghost use Rattle.lj_book.specs.Boxes.{AreOlder, BoxBook, GivesBox, IsOut, LentTask, WithdrawsBox};
 ghost use Rattle.lj_book.specs.Refused.{HasLeft, Runs};
 
-/// Promise: a box whose task was withdrawn while it was out, or whose result was given, is refused from then on, whatever
-/// is posted, taken, given, handed back, fetched or withdrawn later.
+/// Promise: if a task was withdrawn while a worker had it, or its result was accepted, its box is refused from then on, whatever
+/// happens to the book later.
 pub fn boxes_that_left_are_refused()
     ensures withdrawn { (old new : BoxBook) (lent : LentTask) → AreOlder old.inner → IsOut old lent
         → WithdrawsBox (user_of_task lent.work) old new → HasLeft new lent }

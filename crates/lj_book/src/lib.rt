@@ -1,4 +1,4 @@
-//! The book of tasks: which task is open, out or done.
+//! The book: a table of tasks, each of which is open, handed out or done.
 #![tactic(auto)]
 
 mod book;

@@ -46,8 +46,8 @@ impl Branches {
     /// # Errors
     /// `Exists` if the name is taken, else `Memory` if there is none for the copy. Nothing is saved then.
     ///
-    /// Promise: a saved simulation is last in the list, under its name and exactly as it was; a refused save changes
-    /// nothing.
+    /// Promise: a saved simulation becomes the last of the list, under its name and exactly as it was. A save that is refused
+    /// changes nothing.
     pub fn save(&mut self, name: Name, sim: &Sim) -> Result<(), SaveFault>
         ensures exists { IsErrOf result Exists ↔ IsSome (value_named name self.old) }
         ensures saved { OnOk result (self.new ≡ with_value name sim.now.sim self.old) }
@@ -69,7 +69,7 @@ impl Branches {
     /// # Errors
     /// `NoBranch` if nothing is saved under it. The simulation is unchanged then.
     ///
-    /// Promise: the simulation becomes the one saved under the name exactly where there is one, and else stays as it was.
+    /// Promise: if a simulation was saved under the name, it is restored. Otherwise nothing changes.
     pub fn restore_into(&self, name: &Name, sim: &mut Sim) -> Result<(), NoBranch>
         requires { ForSome (value_named name.now self.now) (λ s. length s.cur ≡ length sim.old.sim.cur) }
         ensures found { IsOk result ↔ IsSome (value_named name.now self.now) }

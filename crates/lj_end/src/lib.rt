@@ -1,4 +1,4 @@
-//! The interface of a pool of workers: an end, to which tasks are owed; a worker's share of the results; and whom to wake.
+//! The interface of a pool of workers: ends, which post tasks and fetch results; the counts of workers; and who is woken.
 #![tactic(auto)]
 
 mod account;

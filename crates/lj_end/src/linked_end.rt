@@ -15,7 +15,7 @@ use std::marker::Model;
 /// What an end has of its pool: how tasks go there and results come. Each kind of pool has its own link, which says by its ghost
 /// members what each call has changed. `C` is the token of the pool's close.
 ///
-/// Promise: the result that is shown changes only where the next one is taken.
+/// Promise: the result that is shown changes only when the next one is taken.
 pub trait PoolLink<C>: Drop {
     // the task of the result that is shown
     ghost shown: { Self → Task };
@@ -86,7 +86,8 @@ pub trait Finish {
 
 /// An end of a pool, over its link to the pool. It keeps a copy of each task that is owed to it, and allocates no memory.
 ///
-/// Promise: it is a `PoolEnd`, for every number of workers, so what is served over it is the same dialogue.
+/// Promise: a `LinkedEnd` keeps all clauses of `PoolEnd`, for every number of workers. So the replies of `serve` are the same over
+/// it.
 #[derive(Drop)]
 pub struct LinkedEnd<X, C> {
     link: X,

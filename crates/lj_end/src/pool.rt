@@ -10,20 +10,20 @@ use crate::task_list::TaskList;
 use lj_task::{Done, DoneRef, Task, TaskRef};
 use thiserror::Error;
 
-/// The most ends at once for which a pool has boxes. With more of them a post may be refused before the book is full.
+/// Maximum number of ends at once for which a pool has boxes. With more of them a post may be refused before the book is full.
 pub const MAX_ENDS: usize = 64;
 
-/// The most tasks that may be owed to an end of a pool at once.
+/// Maximum number of tasks of an end that are posted and not fetched.
 pub const MAX_OWED: usize = 64;
 
-/// The most tasks that one call posts.
+/// Maximum number of tasks that one call posts.
 pub const MAX_POSTS: usize = 16;
 
-/// The number of consecutive strays that ends the work for a user.
+/// The number of consecutive stray results that ends the work for a user.
 pub const MAX_STRAYS: u64 = 4096;
 
-/// The most tasks that may be owed while a connection waits for its next command. 63 waiting connections then leave room for
-/// the last one among the 1,024 entries of a book.
+/// Maximum number of unfinished tasks while a connection waits for its next command. 63 waiting connections then leave room for the
+/// last one among the 1,024 entries of a book.
 pub const MAX_AHEAD: usize = 15;
 
 /// Why a task was not posted. `C` is the token of the pool's close.
@@ -51,8 +51,8 @@ pub enum Refused {
 ///
 /// Tasks and results are large, so they are passed by reference.
 ///
-/// Promise: a task that was posted is owed until its result is handed out, and each result that is handed out is
-/// counted, as owed or as a stray, or is the next one again until it is counted.
+/// Promise: a posted task is owed until its result is handed out. Each result that is handed out is counted, as owed or as a stray;
+/// until then it is the next result again.
 pub trait PoolEnd {
     /// The token of the pool's close. Only a closed pool makes one.
     type Closed: Drop;

@@ -1,4 +1,4 @@
-//! The engine, which serves a stream of commands over any pool.
+//! The engine, which answers a stream of commands over any pool.
 #![tactic(auto)]
 
 mod running;

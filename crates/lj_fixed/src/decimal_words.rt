@@ -12,10 +12,10 @@ ghost use Rattle.lj_fixed.specs.WordParts.{is_exponent_start};
 use crate::digits::Significand;
 use crate::numbers::{Nano, NumberFault};
 
-/// The most bytes of a decimal word.
+/// Maximum number of bytes in a decimal word.
 const MAX_WORD_BYTES: usize = 40;
 
-/// The most digits of an exponent.
+/// Maximum number of digits in an exponent.
 const MAX_EXPONENT_DIGITS: usize = 3;
 
 /// The decimal places of a billionth.
@@ -189,8 +189,7 @@ impl Numeral {
 /// assert_eq!(parse_nano(b"15D-1")?.get(), 1_500_000_000);
 /// ```
 ///
-/// Promise: the result is the nano of the word, its value times 10^9 with halves rounded away from zero, or the fault
-/// of the word.
+/// Promise: the result is the value of the word times 10^9, with halves rounded away from zero, or what is wrong with the word.
 pub fn parse_nano(word: &[u8]) -> Result<Nano, NumberFault>
     ensures { result ≡ nano_of word.now }
 {

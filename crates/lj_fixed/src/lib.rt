@@ -1,4 +1,4 @@
-//! Parsing of decimal words into billionths of a file unit and of whole numbers, and printing of millionths.
+//! Parses decimal numbers, in units of 10^-9, and whole numbers, and prints numbers with six decimals.
 #![tactic(auto)]
 
 mod decimal_words;

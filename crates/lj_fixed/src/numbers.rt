@@ -6,7 +6,7 @@ use std::fmt;
 use std::marker::Model;
 use thiserror::Error;
 
-/// The largest size of a [`Nano`]: a million file units.
+/// Maximum absolute value of a [`Nano`]: a million file units.
 pub const MAX_NANO: u64 = 1_000_000_000_000_000;
 
 /// The reason why a decimal word is no [`Nano`].

@@ -5,7 +5,7 @@ ghost use Rattle.std.specs.Char.{is_ascii_digit};
 ghost use Rattle.std.specs.Str.Parse.{digits_value};
 ghost use Rattle.lj_fixed.specs.Numbers.{is_number, number_of};
 
-/// The most digits of a whole number. Any 19 digits fit a `u64`.
+/// Maximum number of digits in a whole number. Any 19 digits fit a `u64`.
 const MAX_DIGITS: usize = 19;
 
 /// Parses a word of 1 to 19 digits; `None` for any other word.
@@ -15,7 +15,7 @@ const MAX_DIGITS: usize = 19;
 /// assert_eq!(parse_number(b"+1"), None);
 /// ```
 ///
-/// Promise: the result is the value of a word of 1 to 19 digits, and nothing for any other word.
+/// Promise: a word of 1 to 19 digits gives its value; any other word gives nothing.
 #[tactic(auto, unfolding(crate::specs::Numbers::number_of))]
 pub fn parse_number(word: &[u8]) -> Option<u64>
     ensures { result ≡ number_of word.now }

@@ -13,13 +13,13 @@ use lj_task::{Done, DoneRef, SharedFrame, TaskRef};
 use std::marker::Model;
 use std::mem;
 
-/// The most results that an end has in hand, fetched and not handed out yet.
+/// Maximum number of results that an end has fetched and not handed out yet.
 pub const MAX_IN_HAND: usize = 16;
 
-/// The most results in hand and spare boxes of an end.
+/// Maximum number of such results and spare boxes of an end together.
 pub const MAX_SPARE: usize = MAX_IN_HAND + 1;
 
-/// The most boxes of an end: those, and that of the result handed out last.
+/// Maximum number of boxes of an end: those, and the one of the last result that was handed out.
 pub const MAX_END_BOXES: usize = MAX_SPARE + 1;
 
 /// Copies of tasks that are to be posted, in their boxes. The place of a box that was posted is empty.

@@ -1,4 +1,4 @@
-//! A pool behind a lock, whose workers run in threads of their own.
+//! A pool of workers behind one lock. Each worker runs in its own thread.
 #![tactic(auto)]
 
 mod end_boxes;

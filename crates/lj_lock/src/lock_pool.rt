@@ -104,7 +104,8 @@ impl<L: Ledger> LockPool<L> {
 
     /// Returns the counts of the book.
     ///
-    /// Promise: each task posted has been fetched or withdrawn, or is in the book; no more results were given than tasks posted.
+    /// Promise: every task that was posted was fetched, was withdrawn, or is in the book. No more results were given than tasks
+    /// posted.
     pub fn counts<R: Wait>(&self, rt: &R) -> Counts
         ensures balance { result.posted ≡ result.fetched + result.withdrawn + result.entries }
         ensures given_posted { result.given ≤ result.posted }

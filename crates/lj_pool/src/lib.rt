@@ -1,4 +1,4 @@
-//! Pools that compute tasks, and the engine that serves a stream of commands over any pool, under one name for those who use them.
+//! Exports the pools and the engine under one name.
 #![tactic(auto)]
 
 pub use lj_end::{

@@ -44,8 +44,8 @@ pub fn run<R: Read + Drop, W: Write + Drop>(
 /// # Errors
 /// `Read` or `Write`.
 ///
-/// Promise: what is written to a sink whose bytes are known is what `serve` writes, from a user of this quota without sessions
-/// on, and all of it is sent unless a write or a flush fails.
+/// Promise: a sink whose bytes are known gets what `serve` writes for a user of this quota who begins without sessions. All of it
+/// is sent unless a write or a flush fails.
 pub fn run_over<R: Source + Drop, W: Sink>(
     alloc: Global,
     quota: Quota,

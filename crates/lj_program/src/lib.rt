@@ -1,5 +1,5 @@
-//! What the program does, as functions that take what they read and write: one user served over a reader and a writer,
-//! many users over TCP, and a schedule replayed; and the readers of users and of schedules.
+//! The functions of the program: they serve one user over a reader and a writer, serve many users over TCP, and replay a
+//! schedule. It also has the parsers of users and of schedules.
 #![tactic(auto)]
 
 mod conversing;

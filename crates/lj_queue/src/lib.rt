@@ -1,4 +1,4 @@
-//! A pool of workers whose open tasks lie in a queue that no lock guards.
+//! A pool of workers whose open tasks are in a queue without a lock.
 #![tactic(auto)]
 
 mod free_passes;

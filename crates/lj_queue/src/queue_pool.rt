@@ -30,7 +30,7 @@ use std::sync::ledger::{self, Blank};
 use std::sync::{Condvar, Mutex, MutexGuard, Wait};
 use std::{array, thread};
 
-/// The most tasks that are open at once in the pool with a queue.
+/// Maximum number of open tasks in the pool with a queue.
 pub const MAX_OPEN_TASKS: usize = MAX_ENTRIES;
 
 /// The number of passes for connections. Those of the workers come after them.

@@ -9,7 +9,7 @@ use std::alloc::{AllocError, Global};
 use std::collections::VecDeque;
 use std::marker::Model;
 
-/// The most results that the pool with a queue keeps for a user.
+/// Maximum number of results that the pool with a queue keeps for a user.
 pub const MAX_RESULTS: usize = MAX_OWED;
 
 /// At most `MAX_RESULTS` results, all of one user, first in, first out. Each comes in and goes out in its box. The list takes its

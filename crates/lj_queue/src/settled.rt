@@ -18,8 +18,8 @@ pub struct Settled {
 impl<L: PoolIdentity> QueuePool<L> {
     /// Takes all passes of the pool back, and counts what they pushed and popped and what is left in the queue.
     ///
-    /// Promise: what all passes pushed is, task by task and as often, what they popped together with what the queue
-    /// holds.
+    /// Promise: the tasks that all passes pushed are those that they popped and those that the queue still holds, each counted as
+    /// often as it occurs.
     pub fn settle<R: Wait>(self, rt: &R, passes: Vec<PoolPass<L>>) -> Settled
         requires all { vec_len passes ≡ L.passes }
         ensures pushed { result.pushed ≡ pushes_of passes.items }

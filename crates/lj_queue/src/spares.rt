@@ -10,11 +10,11 @@ use lj_book::TaskBox;
 use std::alloc::{AllocError, Global};
 use std::sync::Wait;
 
-/// The most boxes with an open task or an awaited result, if each end is withdrawn before it is finished. An end has no more
-/// results in its list and in hand than it may be owed.
+/// Maximum number of boxes with an open task or an awaited result, if each end is withdrawn before it is finished. An end has no
+/// more results in its list and in hand than it may be owed.
 const FULL_BOXES: usize = MAX_OPEN_TASKS + CONNECTIONS * MAX_RESULTS;
 
-/// The most boxes that the passes of connections keep for tasks to come.
+/// Maximum number of boxes that the passes of connections keep for tasks to come.
 const KEPT_BOXES: usize = CONNECTIONS * MAX_SPARE_BOXES;
 
 /// The number of boxes added last that are taken before all others.

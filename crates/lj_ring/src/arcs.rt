@@ -30,7 +30,7 @@ impl Arcs {
     /// assert_eq!(Arcs::of(&places).x, Arc { start: 4_294_967_290, len: 11 });
     /// ```
     ///
-    /// Promise: the arcs hold each of the places, along each axis.
+    /// Promise: the arcs contain every place, along each axis.
     pub fn of(places: &[Place]) -> Arcs
         requires { 1 ≤ length places.now }
         ensures value { result ≡ arcs.arcs_of places.now }
@@ -71,7 +71,7 @@ impl Arcs {
 /// assert_eq!(gap(&Arc { start: 4_294_967_290, len: 10 }, &Arc { start: 9, len: 2 }), 5);
 /// ```
 ///
-/// Promise: the gap of two arcs is at most the size of the image of any two coordinates on them.
+/// Promise: the gap between two arcs is at most the distance of any coordinate on the one from any coordinate on the other.
 #[inline]
 pub fn gap(a: &Arc, b: &Arc) -> u32
     ensures value { result ≡ arcs.gap a.now b.now }

@@ -20,7 +20,7 @@ pub struct Place {
 /// assert_eq!(image(4, 4_294_967_290), 10);
 /// ```
 ///
-/// Promise: the result is the difference of the two that is nearest to 0 round the ring.
+/// Promise: the result is the difference of the two coordinates, the shorter way around the ring.
 #[inline]
 pub fn image(to: u32, from: u32) -> i32
     ensures value { result ≡ ring.image to from }
@@ -64,7 +64,7 @@ pub fn dist2(a: &Place, b: &Place) -> u64
 /// assert_eq!(place_of(parse_nano(b"1.5")?, &scale.edge()), 25_165_824);
 /// ```
 ///
-/// Promise: the result is floor(position * 2^32 / edge) round the ring.
+/// Promise: the result is floor(position * 2^32 / edge), modulo 2^32.
 pub fn place_of(position: Nano, edge: &Edge) -> u32
     ensures { result ≡ places.place_of edge.now position }
 {

@@ -1,5 +1,5 @@
-//! The periodic box as a ring of 2^32 units on each axis: coordinates, least images, the scale of a simulation, and mixtures of
-//! two species.
+//! The periodic box, with 2^32 units along each axis: coordinates, least images, the scale of a simulation, and mixtures of two
+//! species.
 #![tactic(auto)]
 
 mod arcs;

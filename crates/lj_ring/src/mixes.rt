@@ -9,7 +9,7 @@ use std::fmt;
 use std::marker::Model;
 use thiserror::Error;
 
-/// The greatest weight of energies, in 256ths.
+/// Maximum weight of the energies of a class of pairs, in units of 1/256.
 const MAX_WEIGHT: u32 = 65_536;
 
 /// The weight of energies that leaves them as they are, in 256ths.
@@ -189,7 +189,7 @@ impl Mix {
     /// assert_eq!(mix.class(Species::Second, Species::Second).scale.step_factor(), 400);
     /// ```
     ///
-    /// Promise: the result is the mixture, or the first fault of the first class that has one.
+    /// Promise: the result is the mixture, or the first fault of the first class of pairs that has a fault.
     pub fn new(classes: [(Nano, u64, u64); 3], edge: Nano) -> Result<Mix, MixFault>
         ensures { (first unlike second : ℤ × ℕ × ℕ) → classes ≡ first ∷ unlike ∷ second ∷ [] →
             result ≡ mixture_of edge first unlike second }
@@ -253,7 +253,7 @@ impl Mix {
     /// assert_eq!(mix.class(Species::Second, Species::First).weight.parts(), 128);
     /// ```
     ///
-    /// Promise: the class of two atoms is that of their species, in either order.
+    /// Promise: the class of a pair follows from the species of its two atoms, in either order.
     #[inline]
     pub fn class(&self, one: Species, other: Species) -> &Class
         ensures value { result.now ≡ class_of self.now one other }
@@ -275,7 +275,7 @@ impl Mix {
     /// assert_eq!(mix.reach(), 83_886_080 * 83_886_080); // 2.5 times the greatest sigma
     /// ```
     ///
-    /// Promise: some pair can interact exactly below this squared distance.
+    /// Promise: pairs of some class interact below this squared distance, and no pair interacts from it on.
     #[inline]
     pub fn reach(&self) -> u64
         ensures value { (s : ℕ) → can_interact self.now s ≡ nat_lt s result }

@@ -14,16 +14,16 @@ use std::marker::Model;
 use std::simd::prelude::*;
 use thiserror::Error;
 
-/// The least edge of a box, in nano.
+/// Minimum edge of a box, in nano.
 const MIN_EDGE: u64 = 1_000_000;
 
-/// The greatest edge of a box, in nano.
+/// Maximum edge of a box, in nano.
 const MAX_EDGE: u64 = MAX_NANO;
 
-/// The least sigma, in ring units.
+/// Minimum sigma, in ring units.
 const MIN_SIGMA: u32 = 65_536;
 
-/// The greatest step factor, in units of 2^-32.
+/// Maximum step factor, in units of 2^-32.
 const MAX_STEP_FACTOR: u32 = 1 << 24;
 
 /// The cutoff in halves of sigma: no pair interacts from 2.5 sigma on.
@@ -35,7 +35,7 @@ const BINS_TO_SQUARE: u64 = 128;
 /// The number of bins of squared distance within the cutoff: 128 * 2.5².
 pub const BINS: usize = (BINS_TO_SQUARE * CUTOFF_HALVES * CUTOFF_HALVES / 4) as usize;
 
-/// The least bin with entries of its own: closer pairs use them too.
+/// The smallest bin with entries of its own. Smaller bins use the same entries.
 pub const MIN_BIN: u16 = 64;
 
 /// The edge of the cubic box, 10^6 to 10^15 nano (billionths of a file unit).
@@ -229,7 +229,7 @@ impl Scale {
     /// assert_eq!(scale.reach(), 41_943_040 * 41_943_040); // 2.5 sigma
     /// ```
     ///
-    /// Promise: a pair is within the cutoff exactly below this squared distance.
+    /// Promise: a pair is within the cutoff if and only if its squared distance is below the result.
     #[inline]
     pub fn reach(&self) -> u64
         ensures value { (s : ℕ) → is_in_cutoff self.now s ≡ nat_lt s result }
@@ -247,7 +247,7 @@ impl Scale {
     /// assert_eq!(scale.bins(x, zero, zero), u32x8::splat(288));
     /// ```
     ///
-    /// Promise: each bin is that of its pair's squared distance, and 800 out of reach.
+    /// Promise: each bin is the bin of its pair's squared distance, or 800 beyond the cutoff.
     #[inline(always)]
     pub fn bins(&self, x: u32x8, y: u32x8, z: u32x8) -> u32x8
         ensures value { (k : ℕ) → k < 8 → slice_index result k

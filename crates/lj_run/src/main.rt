@@ -1,4 +1,4 @@
-//! Answers the commands of one user of the usual quota on standard input, for machines that have two streams and no more.
+//! Answers the commands of one user with the usual quota on standard input, for machines that have only two streams.
 #![tactic(auto)]
 
 ghost use Rattle.std.specs.Prelude.{◌≡◌, IfErr, OnOk};

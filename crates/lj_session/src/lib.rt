@@ -1,4 +1,4 @@
-//! The sessions of a user: the commands on them, and the reply to each command.
+//! The sessions of a user: carries out commands, and gives the reply to each.
 #![tactic(auto)]
 
 mod body;

@@ -15,7 +15,7 @@ use lj_task::{Kind, TaskRef};
 use lj_xyz::Symbol;
 use std::marker::Model;
 
-/// The most steps of one ADVANCE or START.
+/// Maximum number of steps of one ADVANCE or START.
 const MAX_STEPS: u64 = 1_000_000;
 
 /// The symbols of some atoms, their simulation, its saved copies, and the number of pending steps. Callers use `sim` and

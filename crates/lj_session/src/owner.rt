@@ -78,9 +78,9 @@ impl Owner {
     /// of its own; else it waits. START is always answered at once, with the step number at the end. Only LOAD, LOADMIX
     /// and BRANCH take memory.
     ///
-    /// Promise: a command is answered at once exactly where it has no turn to wait for, with the reply and the next
-    /// user of the definition; else it waits, and will be answered as it would be now. If it is refused nothing has
-    /// changed, and it changes no other session.
+    /// Promise: a command that needs no step is answered immediately, with the reply and the next user of the definition. Any other
+    /// command waits, and will get the reply that it would get now. A refused command changes nothing, and no command changes
+    /// another session.
     pub fn begin(&mut self, command: Command) -> Begin
         requires idle { self.old.waiting ≡ None }
         ensures answered { IfAnswered result (AnswersAtOnce command self.old self.new) }
@@ -186,8 +186,8 @@ impl Owner {
 
     /// Accepts the result of a task that the step of a session awaits. Any other is handed back, and nothing has changed.
     ///
-    /// Promise: a result is accepted exactly where the step of its session awaits that very task; else it is handed
-    /// back, and nothing has changed.
+    /// Promise: a result is accepted if and only if the step of its session waits for its task. Otherwise it is returned, and
+    /// nothing changes.
     pub fn accept(&mut self, done: Done) -> Result<(), Stray>
         ensures accepted { IsOk result ↔ IsAwaitedIn self.old done }
         ensures taken { OnOk result (self.new ≡ with_task_in done self.old) }
@@ -248,8 +248,8 @@ impl Owner {
     /// command needs this session, it begins again: it is answered, begins its own steps, or waits on. No other session
     /// is changed. If the command is refused, the step is made and nothing else.
     ///
-    /// Promise: the waiting command is answered exactly at its last turn, with the reply and the next user of the
-    /// definition; no other session is changed.
+    /// Promise: the waiting command is answered at its last turn, and not before, with the reply and the next user by definition.
+    /// No other session changes.
     pub fn turn_session(&mut self, name: &Name) -> Option<Reply>
         requires { is_whole_in self.old.state name.now ≡ true }
         ensures last { IsSome result ↔ IsLastTurn name.now self.old }
@@ -300,7 +300,7 @@ impl Owner {
     /// Returns the state, with the pending steps of its sessions. Open steps are restarted, so that no tile is posted
     /// or in.
     ///
-    /// Promise: the state that is handed back means the same user, with the pending steps of its sessions.
+    /// Promise: the state that is returned has the same user as its value, with the pending steps of its sessions.
     pub fn into_state(self) -> UserState
         requires { self.waiting ≡ None }
         ensures state { result ≡ with_steps_restarted self.state }

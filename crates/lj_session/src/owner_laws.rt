@@ -17,8 +17,8 @@ pub fn accept_keeps_user()
     ensures { AcceptKeepsUser }
 {}
 
-/// Promise: a command that is begun and waits will be answered as it would be now, and the user does not change, except
-/// for the steps of an ADVANCE that it begins.
+/// Promise: a command that was begun and waits will be answered as it would be now. Only an ADVANCE changes the user when it
+/// begins, by its pending steps.
 pub fn begun_waits_alike()
     ensures { BegunWaitsAlike }
 {}

@@ -8,19 +8,19 @@ use std::fmt;
 /// The reason why an item is refused. A refusal changes nothing.
 #[derive(Clone, Copy, Debug, PartialEq, Eq)]
 pub enum Refusal {
-    /// The first line is no HELLO with the name and the token of a user.
+    /// The first line is not a HELLO with the name and the token of a user.
     Denied,
     /// A line has more than 256 bytes.
     Line,
-    /// A line has no word, a wrong number of words, a word of the wrong form, or the same symbol twice.
+    /// A line has no word, a wrong number of words, a word of the wrong form, or, of LOADMIX, the same symbol twice.
     Syntax,
-    /// A line of LOAD or LOADMIX has no count.
+    /// A line of LOAD or LOADMIX does not end with a count.
     Body,
     /// 65,536 bytes came without a line feed.
     Long,
-    /// The first word is no command.
+    /// The first word is not a command.
     Command,
-    /// A million items were answered.
+    /// A million items of the connection were answered.
     Enough,
     /// No session has this name.
     NoSession,
@@ -30,27 +30,27 @@ pub enum Refusal {
     NoBranch,
     /// Something is saved under this name already.
     BranchExists,
-    /// The session has no atom of this number.
+    /// The session has no atom with this number.
     NoAtom,
     /// The quota of sessions is used up.
     QuotaSessions,
-    /// The quota of atoms has no room for these.
+    /// The quota of atoms would be exceeded.
     QuotaAtoms,
     /// The quota of saved simulations, over all sessions, is used up.
     QuotaBranches,
-    /// More than a million steps are asked for, or the step number would pass 10^12 in size.
+    /// More than a million steps are asked for, or the absolute value of the step number would exceed 10^12.
     StepRange,
     /// The first fault of a body.
     Xyz(XyzFault),
-    /// The edge is no decimal number from 0.001 to 1000000.
+    /// The edge is not a decimal number from 0.001 to 1000000.
     Edge,
-    /// Sigma is no decimal number, or out of range for this edge.
+    /// Sigma is not a decimal number, or is out of range for this edge.
     Sigma,
-    /// The step factor h is no whole number from 1 to 16777216.
+    /// The step factor h is not a whole number from 1 to 16777216.
     StepFactor,
-    /// A weight of energies is no whole number from 1 to 65536.
+    /// A weight of energies is not a whole number from 1 to 65536.
     Weight,
-    /// There is no memory for it.
+    /// There is not enough memory for the command.
     Memory,
 }
 

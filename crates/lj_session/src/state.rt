@@ -34,7 +34,8 @@ use std::mem;
 
 /// A user's quota, how much of it is used, and the sessions by their names, in order of loading, with their pending steps.
 ///
-/// Promise: with all pending steps done, it is always the last user of some list of commands, begun without sessions.
+/// Promise: once its pending steps are done, a state is always what some list of commands leaves of a user who began without
+/// sessions.
 #[derive(Drop)]
 pub struct UserState {
     quota: Quota,

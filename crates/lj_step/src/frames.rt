@@ -7,7 +7,7 @@ use lj_ring::Place;
 use lj_task::Push;
 use std::marker::Model;
 
-/// The most atoms of a simulation.
+/// Maximum number of atoms in a simulation.
 pub const MAX_ATOMS: usize = 4096;
 
 /// The places of all atoms at one moment, in the order of the file.

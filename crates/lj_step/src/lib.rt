@@ -1,4 +1,4 @@
-//! The simulation: two frames of places, stepped reversibly, each step divided into tasks.
+//! The simulation: two frames of atoms, reversible steps, and the tasks of each step.
 #![tactic(auto)]
 
 mod atoms;

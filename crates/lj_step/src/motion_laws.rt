@@ -18,16 +18,15 @@ pub fn steps_are_undone()
         → reversal (steps u n (reversal (steps u n sim))) ≡ sim }
 {}
 
-/// Promise: the drift, the ring sum of `cur - prev`, stays under any number of steps, and changes its sign under a
-/// reversal.
+/// Promise: steps conserve the drift, which is the sum of `cur - prev` on the ring, and a reversal changes its sign.
 pub fn drift_is_conserved()
     ensures steps { (u : Composition) (n : ℕ) (sim : Simulation) → IsMixture u.mix → IsWellFormed sim
         → drift (steps u n sim) ≡ drift sim }
     ensures reverse { (sim : Simulation) → IsWellFormed sim → drift (reversal sim) ≡ opposite_push (drift sim) }
 {}
 
-/// Promise: a step by the sums of any cover, its tiles in any order, is the step over all pairs, and the energies of
-/// any cover add up to the potential.
+/// Promise: a step computed from any cover, with its tiles in any order, is the step over all pairs, and the energies of the tiles
+/// add up to the potential.
 pub fn covers_are_all_pairs()
     ensures step { (u : Composition) (sim : Simulation) (tiles : List Tile) → IsForceCover u sim.cur tiles
         → next_simulation_by u tiles sim ≡ next_simulation u sim }
@@ -35,7 +34,7 @@ pub fn covers_are_all_pairs()
         → tiles_energy u frame tiles ≡ potential u frame }
 {}
 
-/// Promise: the tiles of a step of up to `MAX_ATOMS` atoms, all on the ring, are a cover, of each kind.
+/// Promise: for up to `MAX_ATOMS` atoms, all on the ring, the tiles of a step are a cover, for forces and for energies.
 pub fn tasks_are_a_cover()
     ensures force { (u : Composition) (frame : List Place) → IsFrameOnRing frame → length frame ≤ MAX_ATOMS
         → IsForceCover u frame (cover_tiles Force u frame) }
@@ -43,7 +42,7 @@ pub fn tasks_are_a_cover()
         → IsEnergyCover u frame (cover_tiles Energy u frame) }
 {}
 
-/// Promise: the task of a tile has the value of that tile: what the tile adds to each atom, or its energy.
+/// Promise: the value of a tile's task is what the tile adds to each atom, or its energy.
 pub fn tasks_are_the_tiles()
     ensures force { (live : Sim) (label : Label) (k : ℕ)
         → HasForces live.composition live.sim.cur (tile_of Force k) (tile_task live label Force k) }

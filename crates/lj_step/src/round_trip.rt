@@ -18,8 +18,8 @@ use lj_task::{Kernel, Kind};
 /// assert_eq!((sim.step(), sim.dir(), sim.place(1).x), (0, 1, 25_165_824));
 /// ```
 ///
-/// Promise: steps, a reversal, as many steps back and a reversal change nothing, every task computed and accepted,
-/// except that an open step is closed.
+/// Promise: n steps, a reversal, n steps and a reversal change nothing, except that an open step is closed. Every task is computed
+/// and accepted.
 pub fn there_and_back<K: Kernel>(sim: &mut Sim, steps: u32, label: &Label, kernel: &K)
     requires { unsigned_abs sim.old.sim.step + 2 * steps < MAX_STEP }
     ensures { sim.new ≡ with_step_closed sim.old sim.old.sim }

@@ -27,7 +27,7 @@ use std::alloc::{AllocError, Global};
 use std::marker::Model;
 use std::mem;
 
-/// The greatest size of a step number.
+/// Maximum absolute value of a step number.
 pub const MAX_STEP: u64 = 1_000_000_000_000;
 
 /// The direction of the step numbers.
@@ -299,7 +299,7 @@ impl Sim {
     /// assert_eq!((sim.step(), sim.place(0).x), (1, 589));
     /// ```
     ///
-    /// Promise: a whole step makes the simulation the next one of the definition, whose pushes are those of all pairs.
+    /// Promise: when a step has all its sums, the simulation becomes the next one by definition, with the pushes of all pairs.
     pub fn turn(&mut self)
         requires kind { steps.kind_of self.old.part ≡ Some Force }
         requires whole { steps.is_whole self.old.part ≡ true }
@@ -325,7 +325,7 @@ impl Sim {
     /// assert_eq!(sim.potential(), -5_349_132);
     /// ```
     ///
-    /// Promise: for a whole energy step the result is the sum of the energies of all pairs.
+    /// Promise: when an energy step has all its sums, the result is the sum of the energies of all pairs.
     pub fn potential(&self) -> i128
         requires kind { steps.kind_of self.now.part ≡ Some Energy }
         requires whole { steps.is_whole self.now.part ≡ true }

@@ -1,4 +1,4 @@
-//! The Lennard-Jones tables: push and energy of a pair by its bin of squared distance.
+//! The Lennard-Jones tables: the push and the energy of each bin of squared distances.
 #![tactic(auto)]
 
 mod table_entries;

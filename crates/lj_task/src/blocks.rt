@@ -7,10 +7,10 @@ use lj_ring::Place;
 use std::marker::Model;
 use std::simd::prelude::*;
 
-/// The most atoms of a block.
+/// Maximum number of atoms in a block.
 pub const BLOCK: usize = 64;
 
-/// The most blocks of a simulation: a task names its two by numbers below it.
+/// Maximum number of blocks of a simulation. A task names its two blocks by numbers below it.
 pub const MAX_BLOCKS: usize = 64;
 
 /// A block of places of atoms that stand next to each other in the file, at most `BLOCK`. Bit `t` of `species_bits` is 1 if

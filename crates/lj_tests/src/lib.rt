@@ -1,5 +1,5 @@
-//! Tests of the libraries, through what each of them makes public: what no dialogue of `tests/` can say. A crate with
-//! tests is proved twice, so those below have none of their own.
+//! Tests of what the libraries make public, if no dialogue in `tests/` tests it. A crate with tests is proved twice, so the other
+//! crates have no tests.
 #![tactic(auto)]
 
 #[cfg(test)]

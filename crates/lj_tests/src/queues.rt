@@ -49,7 +49,7 @@ const LAST: u8 = 16;
 /// The milliseconds that a thread sleeps before it does what another waits for.
 const LATE_MILLIS: u64 = 20;
 
-/// The most checks of a gate before it lets a task pass.
+/// Maximum number of checks of a gate before it lets a task pass.
 const TURNS: u64 = 3_000_000;
 
 /// The microseconds that it waits after each check, so that other threads get on.

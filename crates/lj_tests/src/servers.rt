@@ -26,7 +26,7 @@ const HELLO: &str = "HELLO A aaaaaaaaaaaaaaaaaaaaaaaaaaaaaaaa\n";
 
 const LOAD: &str = "LOAD a 256 1 131072 rest 28\n2\ndimer\nAr 0 0 0\nAr 1.5 0 0\n";
 
-/// The most seconds that a client waits for a reply.
+/// Maximum number of seconds that a client waits for a reply.
 const PATIENCE_SECONDS: u64 = 20;
 
 /// The number of connections that count at once.

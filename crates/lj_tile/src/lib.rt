@@ -1,4 +1,4 @@
-//! How a task is computed: the pairs within reach are found in lanes, and their pushes or energies summed, eight at once.
+//! Computes a task: finds the pairs within the cutoff, and sums their pushes or energies, eight pairs at a time.
 #![tactic(auto)]
 
 mod computing;

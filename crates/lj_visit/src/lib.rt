@@ -1,5 +1,4 @@
-//! A connection of a user, from its first line to its end, over a backend that lets users in and has a pool, a reader of lines
-//! and a writer.
+//! Serves a connection from its first line to its end. A backend provides the users, the pool, the reader and the writer.
 #![tactic(auto)]
 
 mod backend;

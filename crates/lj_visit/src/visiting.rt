@@ -38,7 +38,8 @@ pub enum Visited {
 /// Serves a connection: reads its first line, lets in the user named there, answers the lines that follow, and takes the user's
 /// state home.
 ///
-/// Promise: for each way in which the visit ends, what was read, what was written, and which events the backend had, in order.
+/// Promise: the contract states, for each way in which a visit ends, what was read, what was written, and which events the backend
+/// had, in order.
 pub fn visit<B: Backend, S: Source, W: Sink>(
     backend: &mut B,
     lines: &mut LineReader<S>,

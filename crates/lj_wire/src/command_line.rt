@@ -17,7 +17,7 @@ use lj_fixed::{parse_nano, parse_number};
 use lj_session::{ClassNumbers, Command, Interactions, Load, LoadBody, Mode};
 use lj_xyz::{Symbol, SymbolPair};
 
-/// The most digits of the count of a load.
+/// Maximum number of digits in the count of a load.
 const MAX_COUNT_DIGITS: usize = 7;
 
 // Parses the count of a load: 1 to 7 digits, at most 1,048,576.

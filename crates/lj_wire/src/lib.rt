@@ -1,4 +1,4 @@
-//! The line protocol: items of a stream, and the texts of replies.
+//! The protocol: divides the input into items, and writes replies.
 #![tactic(auto)]
 
 mod asked;

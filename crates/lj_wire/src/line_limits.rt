@@ -1,13 +1,13 @@
 //! The limits of a stream of lines.
 
-/// The most bytes in the line of a command.
+/// Maximum number of bytes in the line of a command.
 pub const MAX_LINE_BYTES: usize = 256;
 
 /// The number of bytes without a line feed that ends the connection.
 pub const LONG_LINE_BYTES: usize = 65_536;
 
-/// The most bytes of the body of a load.
+/// Maximum number of bytes in the body of a load.
 pub const MAX_BODY_BYTES: u64 = 1_048_576;
 
-/// The most items of a connection that are answered. After them comes the last fault.
+/// Maximum number of items that are answered on a connection. After them comes the last fault.
 pub const MAX_ITEMS: u64 = 1_000_000;

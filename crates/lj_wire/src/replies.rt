@@ -23,7 +23,7 @@ use lj_ring::{Place, micro_of};
 use lj_session::{Refusal, Reply, UserState};
 use lj_xyz::{FrameLine, push_atom_line};
 
-/// The most bytes of a line of a reply, with its line feed.
+/// Maximum number of bytes in a line of a reply, with its line feed.
 pub const MAX_REPLY_LINE_BYTES: usize = 256;
 
 /// A line of a reply, with its line feed.
@@ -426,7 +426,7 @@ fn dump_line(line: &mut Line, state: &UserState, i: usize, name: &Name, k: usize
 
 /// Returns line k of a reply, counted from 0, with the state of the user after the command; None past the last line.
 ///
-/// Promise: line k of a reply is the one that the definition gives, and there is none past the last one.
+/// Promise: line k of a reply is line k by definition, and there is no line after the last one.
 pub fn reply_line(state: &UserState, reply: &Reply, k: usize) -> Option<Line>
     requires settled { IsSettled state.now reply.now }
     ensures { option_map (λ line. line.items) result

@@ -6,12 +6,12 @@ ghost use Rattle.lj_wire.specs.StreamLaws.{IsReachedAlone};
 
 use lj_session::UserState;
 
-/// Promise: a stream splits into items and a rest in one way only.
+/// Promise: a stream can be split into items and a rest in only one way.
 pub fn one_splitting()
     ensures { OneSplitting }
 {}
 
-/// Promise: each stream splits into items and a rest.
+/// Promise: each stream can be split into items and a rest.
 pub fn some_splitting()
     ensures { SomeSplitting }
 {}
@@ -51,7 +51,7 @@ pub fn commands_are_items()
     ensures { CommandsAreItems }
 {}
 
-/// Promise: the user of every state is the one that some items with marks, answered alone, leave.
+/// Promise: for every state there are items and marks which, answered alone, lead to its user.
 pub fn state_is_reached_alone(state: &UserState)
     ensures { IsReachedAlone (user_of state.now) }
 {

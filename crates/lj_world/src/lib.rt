@@ -1,4 +1,4 @@
-//! The world: users, connections, workers and the book of tasks as one state machine, and the laws of its runs.
+//! The world: one state machine of users, connections, workers and the book of tasks, and the laws of its runs.
 #![tactic(auto)]
 
 mod answers;

@@ -19,7 +19,7 @@ fn pending_command_laws()
     waiting_goes_on();
 }
 
-/// Promise: in every run a user's replies are the first texts of its script answered alone, one for each mark.
+/// Promise: in every run the replies to a user are the first texts of the user's script answered alone, one for each mark.
 pub fn replies_are_first_texts()
     ensures { RepliesAreFirstTexts }
 {
@@ -27,13 +27,13 @@ pub fn replies_are_first_texts()
     pending_command_laws();
 }
 
-/// Promise: if two scripts agree, one of their lists of texts is a prefix of the other.
+/// Promise: if two scripts agree, the texts of one are a prefix of the texts of the other.
 pub fn agreeing_scripts_agree_in_texts()
     ensures { AgreeingScriptsAgreeInTexts }
 {}
 
-/// Promise: for every two lists of events in which a user's scripts agree, one list of the replies to this user is a
-/// prefix of the other, and each is a prefix of the replies that this user's commands get when they are answered alone.
+/// Promise: for any two lists of events in which a user's scripts agree, one list of the replies to this user is a prefix of the
+/// other. Both are prefixes of the replies to this user's commands answered alone.
 pub fn headline()
     ensures { Headline }
 {
@@ -41,7 +41,8 @@ pub fn headline()
     agreeing_scripts_agree_in_texts();
 }
 
-/// Promise: in every run the value of a user is that of its script so far; a pending command is the script's next item.
+/// Promise: in every run the value of a user is what the user's script so far gives. A pending command is the next item of the
+/// script.
 pub fn value_is_that_of_script()
     ensures { ValueIsThatOfScript }
 {
@@ -56,18 +57,18 @@ pub fn tickets_are_in_order()
     pending_command_laws();
 }
 
-/// Promise: an event that is not a user's own changes nothing for that user, and sends it no reply.
+/// Promise: an event of other users changes nothing for a user, and sends the user no reply.
 pub fn others_change_nothing()
     ensures { OthersChangeNothing }
 {}
 
-/// Promise: a refusal replied at a NEXT leaves every session as it was, with its pending steps and its open step. A
-/// refusal replied at a TURN completes the step of its session, and changes nothing else.
+/// Promise: a refusal at NEXT changes no session, no pending step and no open step. A refusal at TURN completes the step of its
+/// session, and changes nothing else.
 pub fn refusals_leave_sessions()
     ensures { RefusalsLeaveSessions }
 {}
 
-/// Promise: no list of events is without a run, whatever the state in which it begins.
+/// Promise: every list of events has a run from every state.
 pub fn each_list_has_a_run()
     ensures { EachListHasARun }
 {}

@@ -57,8 +57,8 @@ impl World {
     /// # Errors
     /// Out of memory, at this step or at an earlier one: a lost world takes no further step.
     ///
-    /// Promise: an event is one step of the state machine, in which an event that is not possible changes nothing; its
-    /// pick decides which task is taken and which result is fetched.
+    /// Promise: every event is one step of the state machine. An event that is not possible changes nothing. The pick of an event
+    /// decides which task is taken or which result is fetched.
     pub fn step(&mut self, event: Event) -> Result<Option<Entry>, OutOfMemory>
         ensures step { IfOk result (λ reply. Step self.old.state event reply self.new.state) }
         ensures picked { IfOk result (λ _. FollowsPick self.old.state event self.new.state) }
@@ -85,8 +85,8 @@ impl World {
     /// # Errors
     /// Out of memory.
     ///
-    /// Promise: the transcript is that of a run of the machine from these users over these events, and the headline
-    /// holds of it against every other run.
+    /// Promise: the transcript is that of a run of the machine from these users over these events, and the headline holds for it
+    /// and any other run.
     pub fn run(
         alloc: Global,
         users: Vec<User>,

@@ -1,10 +1,10 @@
 //! Limits of a world.
 
-/// The most connections of a world, which are numbered from 1.
+/// Maximum number of connections of a schedule. They are numbered from 1.
 pub const MAX_CONNECTIONS: u8 = 64;
 
-/// The most workers of a world, which are numbered from 1.
+/// Maximum number of workers of a schedule. They are numbered from 1.
 pub const MAX_WORKERS: u8 = 16;
 
-/// The most tasks of one connection that are posted and not fetched.
+/// Maximum number of tasks of one connection that were posted and not fetched yet.
 pub const MAX_POSTED: usize = 64;

@@ -19,7 +19,7 @@ use lj_base::split_word;
 use lj_fixed::{parse_nano, parse_number};
 use std::alloc::Global;
 
-/// The most atoms that a frame may have.
+/// Maximum number of atoms in a frame.
 pub const MAX_FRAME_ATOMS: usize = 4096;
 
 /// The frame that is read: the first, or the second, which must have as many atoms as the first.
@@ -256,7 +256,7 @@ fn first_two_frames(
 /// assert_eq!(rows.as_slice()[1].x.get(), 1_500_000_000);
 /// ```
 ///
-/// Promise: the result is the first frame of the text, or its first fault in reading order, or that memory ran out.
+/// Promise: the result is the first frame of the text, or its first fault in reading order, or the fault that memory ran out.
 pub fn read_rest(alloc: Global, text: &[u8], symbols: Option<&SymbolPair>) -> Result<Rows, XyzError>
     ensures frame { IfOk result (λ rows.
         IsReading (option_copied symbols.entry) rest (lines_of text.now) (Ok (rows ∷ []))) }
@@ -283,7 +283,7 @@ pub fn read_rest(alloc: Global, text: &[u8], symbols: Option<&SymbolPair>) -> Re
 /// assert_eq!(frames.second.as_slice()[0].z.get(), 250_000_000);
 /// ```
 ///
-/// Promise: the result is the first two frames of the text, with equal numbers of atoms, or its first fault, or that
+/// Promise: the result is the first two frames of the text, with equal numbers of atoms, or its first fault, or the fault that
 /// memory ran out.
 pub fn read_pair(
     alloc: Global,

@@ -1,4 +1,4 @@
-//! The text of XYZ files: frames of atoms read from the lines of a body, and written line by line.
+//! Reads frames of atoms from XYZ text, and writes frames as XYZ text.
 #![tactic(auto)]
 
 mod atom_row;

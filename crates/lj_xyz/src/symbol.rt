@@ -9,7 +9,7 @@ ghost use Rattle.lj_xyz.specs.Symbols.{is_symbol};
 use arrayvec::ArrayVec;
 use std::marker::Model;
 
-/// The most bytes of a symbol.
+/// Maximum number of bytes in a symbol.
 pub const MAX_SYMBOL_BYTES: usize = 16;
 
 /// The symbol of an atom: 1 to 16 bytes, each in 0x21 to 0x7E.

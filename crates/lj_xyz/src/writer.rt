@@ -8,7 +8,7 @@ use crate::symbol::{MAX_SYMBOL_BYTES, Symbol};
 use arrayvec::ArrayVec;
 use itoa::Buffer;
 
-/// The most bytes of a line of a frame: the longest, of an atom, has a symbol and three coordinates, each after a blank.
+/// Maximum number of bytes in a line of a frame. The longest line has a symbol and three coordinates, each after a blank.
 pub const MAX_LINE_BYTES: usize = MAX_SYMBOL_BYTES + 3 * MAX_COORDINATE_BYTES;
 
 /// A line of a frame, without its line feed.

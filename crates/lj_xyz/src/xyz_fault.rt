@@ -12,19 +12,19 @@ use thiserror::Error;
 /// The kind of a fault of a body.
 #[derive(Clone, Copy, Debug, PartialEq, Eq, Error)]
 pub enum XyzKind {
-    /// The first frame has no count line, or its first word is no number of atoms from 1 to 4096.
+    /// The first frame does not begin with a number of atoms from 1 to 4096.
     Count,
     /// The comment line or an atom line is missing, or an atom line has fewer than four words.
     Short,
-    /// The first word of an atom line is no symbol.
+    /// The first word of an atom line is not a symbol.
     Symbol,
-    /// The symbol of an atom of the first frame is of neither species.
+    /// An atom of the first frame has neither of the two symbols.
     Species,
-    /// A coordinate is no decimal number.
+    /// A coordinate is not a decimal number.
     Number,
-    /// A coordinate is beyond a million file units.
+    /// A coordinate is below -1000000 or above 1000000.
     Range,
-    /// There is no second frame, or it has another number of atoms.
+    /// The second frame is missing, or has another number of atoms.
     Pair,
 }
 

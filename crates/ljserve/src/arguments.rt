@@ -85,7 +85,7 @@ pub fn no_text(alloc: Global) -> Result<Error, AllocError>
 
 fn program<'a>(alloc: Global) -> Result<Command<'a>, AllocError> {
     Command::new(alloc, "ljserve")
-        .version("1.1.0")
+        .version("2.0.0")
         .about(
             "Runs simulations of Lennard-Jones atoms that go back exactly. With no word: the same as run",
         )

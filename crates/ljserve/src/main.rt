@@ -1,4 +1,4 @@
-//! Serves simulations of Lennard-Jones atoms by commands on standard input, and replies on standard output.
+//! The program: it runs simulations of Lennard-Jones atoms by commands from standard input or TCP.
 #![tactic(auto)]
 
 ghost use Rattle.std.specs.Prelude.{◌≡◌, ◌≢◌, ◌⊎◌, IfErr};

@@ -22,7 +22,7 @@ pub type UsersFault = TextFault;
 /// # Errors
 /// The first bad line, or out of memory.
 ///
-/// Promise: there is at least one user and at most 64, and no two have one name.
+/// Promise: there are 1 to 64 users, each with a different name.
 pub fn read_users(alloc: Global, bytes: &[u8]) -> Result<Vec<User>, UsersFault>
     ensures users { IfOk result (λ users. AreUsers users.items) }
     ensures some { IfOk result (λ users. 1 ≤ length users.items) }

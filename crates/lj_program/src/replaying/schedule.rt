@@ -24,7 +24,7 @@ pub struct Schedule {
 /// The number of the first bad line, counted from 1 with the lines of bodies; of the line after the last if there is no user; or
 /// out of memory.
 ///
-/// Promise: there is at least one user and at most 64, and no two have one name.
+/// Promise: there are 1 to 64 users, each with a different name.
 pub fn read_schedule(alloc: Global, bytes: &[u8]) -> Result<Schedule, TextFault>
     ensures users { IfOk result (λ schedule. AreUsers schedule.users.items) }
     ensures some { IfOk result (λ schedule. 1 ≤ length schedule.users.items) }

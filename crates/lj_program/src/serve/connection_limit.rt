@@ -3,7 +3,7 @@
 use lj_end::MAX_ENDS;
 use std::sync::atomic::{AtomicU64, Ordering};
 
-/// The most connections that are open at once.
+/// Maximum number of connections that are open at once.
 pub const MAX_OPEN_CONNECTIONS: u64 = MAX_ENDS as u64;
 
 /// The count of open connections.

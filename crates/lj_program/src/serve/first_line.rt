@@ -8,7 +8,7 @@ use std::net::TcpStream;
 use std::rt::Clock;
 use std::time::Duration;
 
-/// The most seconds that a client may take for its first line.
+/// Maximum number of seconds that a client may take for its first line.
 pub const FIRST_LINE_SECONDS: u64 = 30;
 
 /// The deadline for the first line of a connection; none once the line is there.

@@ -22,7 +22,7 @@ use std::rt::Clock;
 use std::sync::{Condvar, CondvarTimeouts, Mutex, Wait};
 use std::time::Duration;
 
-/// The most connections of a user that wait. One more is turned away.
+/// Maximum number of waiting connections of one user. One more is turned away.
 pub const MAX_WAITING: u64 = 8;
 
 /// The state under the lock: the directory, the tickets that were given up, whether no more tickets enter, and the history of each

@@ -22,10 +22,10 @@ use std::rt::Clock;
 use std::sync::Wait;
 use std::time::Duration;
 
-/// The most seconds that a connection that has ended waits for more input, which is read and dropped.
+/// Maximum number of seconds that a connection that has ended waits for more input, which is read and dropped.
 const LINGERING_SECONDS: u64 = 1;
 
-/// The most reads of a connection that has ended.
+/// Maximum number of reads from a connection that has ended.
 const MAX_LINGERING_READS: usize = 65_536;
 
 /// What the threads of a server share.

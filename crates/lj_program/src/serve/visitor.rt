@@ -15,10 +15,10 @@ use std::rt::Clock;
 use std::sync::Wait;
 use std::time::Duration;
 
-/// The most seconds that a ticket waits before the server checks that its client is still there.
+/// Maximum number of seconds that a ticket waits before the server checks that its client is still there.
 const LOOK_SECONDS: u64 = 1;
 
-/// The most milliseconds that this check takes, if the client has sent nothing.
+/// Maximum number of milliseconds that this check takes, if the client has sent nothing.
 const LOOK_MILLIS: u64 = 1;
 
 /// A connection that asks a directory for a ticket.

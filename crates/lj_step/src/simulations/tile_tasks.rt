@@ -98,8 +98,8 @@ impl Sim {
     /// assert!(sim.accept(&label, done).is_err());
     /// ```
     ///
-    /// Promise: a result is taken exactly where the open step awaits its task; else it is handed back, and nothing has
-    /// changed.
+    /// Promise: a result is accepted if and only if the open step waits for its task. Otherwise it is returned, and nothing
+    /// changes.
     pub fn accept(&mut self, label: &Label, done: Done) -> Result<(), Stray>
         ensures accepted { IsOk result ↔ steps.IsAwaitedTask self.old label.now done }
         ensures kind { steps.kind_of self.new.part ≡ steps.kind_of self.old.part }

@@ -12,7 +12,7 @@ use std::test::Fail;
 use std::thread;
 use std::time::Duration;
 
-/// The most polls for a result.
+/// Maximum number of polls for a result.
 const POLLS: u64 = 200_000;
 
 /// The microseconds until the next poll.

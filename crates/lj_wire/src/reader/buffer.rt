@@ -7,7 +7,7 @@ ghost use Rattle.lj_wire.specs.Ends.{Rises};
 use crate::source_and_sink::{ReadFault, Source};
 use std::marker::Model;
 
-/// The most bytes that a reader holds ahead.
+/// Maximum number of bytes that a reader has read ahead.
 pub(crate) const MAX_HELD_BYTES: usize = 8192;
 
 /// A buffer that holds the bytes from `start` to `end`.
