@@ -33,6 +33,7 @@ KEPT_AS_JSON = (
     "lines",
     "memory",
     "order",
+    "page",
     "prompt",
     "ratio",
     "reader",
@@ -73,17 +74,17 @@ def test_wrong_words_are_told_in_a_line(script: pathlib.Path) -> None:
 @pytest.mark.parametrize(
     "words, line",
     [
-        (["ratio", "--", "64"], "ratio: no program stands before the `--`"),
-        (["ratio", "no/such/program", "run", "--", "64"], "ratio: there is no program no/such/program"),
-        (["ratio", "sh", "--", "0"], "ratio: argument n: 0 is no whole number from 1 on"),
-        (["lines", "sh", "run", "900"], "lines: no `--` stands behind the words of the program"),
-        (["lines", "sh", "--", "--beside=no/such/program"], "lines: argument --beside: there is no program no/such/program"),
-        (["scale", "sh", "--beside", "no/such/program"], "scale: argument --beside: there is no program no/such/program"),
-        (["tiles", "no/such/program"], "tiles: argument program: there is no program no/such/program"),
-        (["species", "sh", "sh", "--seconds=0"], "species: --seconds is more than 0"),
-        (["order", "sh", "--rounds=x"], "order: argument --rounds: x is no whole number from 1 on"),
-        (["accuracy", "gas"], "accuracy: gas is no section and no start"),
-        (["accuracy", "--steps=9"], "accuracy: --steps is at least 2000"),
+        (["ratio", "--", "64"], "ratio: a program must stand before the `--`"),
+        (["ratio", "no/such/program", "run", "--", "64"], "ratio: a program must stand before the `--`, got no/such/program"),
+        (["ratio", "sh", "--", "0"], "ratio: argument n: must be a whole number from 1 on, got 0"),
+        (["lines", "sh", "run", "900"], "lines: the words of the program must be followed by `--`"),
+        (["lines", "sh", "--", "--beside=no/such/program"], "lines: argument --beside: must be a program, got no/such/program"),
+        (["scale", "sh", "--beside", "no/such/program"], "scale: argument --beside: must be a program, got no/such/program"),
+        (["tiles", "no/such/program"], "tiles: argument program: must be a program, got no/such/program"),
+        (["species", "sh", "sh", "--seconds=0"], "species: --seconds must be above 0, got 0"),
+        (["order", "sh", "--rounds=x"], "order: argument --rounds: must be a whole number from 1 on, got x"),
+        (["accuracy", "gas"], "accuracy: WORD must be one of forces, drift, pairs, back, growth, chaos, crystal, liquid, mixture, got gas"),
+        (["accuracy", "--steps=9"], "accuracy: --steps must be at least 2000, got 9"),
         (["keep", "kills", "some", "sh"], "keep kills: argument kills: invalid int value: 'some'"),
     ],
 )
@@ -152,7 +153,7 @@ def test_a_program_takes_as_many_instructions_as_itself(program: Program, tmp_pa
     done = ended(BENCH / "lines", path, "run", "--", "--instructions", f"--beside={path}", f"--json={tmp_path}/lines.json")
     assert (done.returncode, done.stderr) == (0, "") and done.stdout.endswith("\nratio 1.000\n")
     ours, theirs = json.loads((tmp_path / "lines.json").read_text())["figures"]
-    assert (ours["name"], theirs["name"], ours["unit"]) == ("a SHOW, program", "a SHOW, old program", "instructions")
+    assert (ours["name"], theirs["name"], ours["unit"]) == ("a SHOW by the program", "a SHOW by the old program", "instructions")
     assert ours["value"] == theirs["value"] and 100 < ours["value"] < 10_000
 
 

@@ -65,5 +65,5 @@ def test_without_a_tool(tmp_path: pathlib.Path, tool: str) -> None:
         (folder / other).chmod(0o755)
     words: List[str] = [sys.executable]
     done = ended(*words, PATH=str(folder))
-    line = f"cores: there is no {tool}, which Debian's {TOOLS[tool]} has\n"
+    line = f"cores: cannot measure: {tool} is not installed; use apt-get install {TOOLS[tool]}\n"
     assert (done.returncode, done.stdout, done.stderr) == (69, "", line)

@@ -5,11 +5,11 @@ import socket
 import time
 from typing import Iterable, Iterator, Optional
 
-from shared.program import SECONDS
+from shared.program import SECONDS, SLOWNESS
 
 # How long one is looked at that is to wait for more input, and how long replies are waited for before the input ends.
 MOMENT = 0.01
-PATIENCE = 2.0
+PATIENCE = 2.0 * SLOWNESS
 CHUNK = 1 << 16
 
 

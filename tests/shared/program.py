@@ -9,7 +9,9 @@ from dataclasses import dataclass
 from typing import Any, Callable, Iterator, List, Optional, Sequence, Tuple, Union
 
 TOP = os.path.dirname(os.path.dirname(os.path.dirname(os.path.abspath(__file__))))
-SECONDS = 20
+# So many times slower may the program be than one for this machine, as under qemu: the tests wait for so much longer.
+SLOWNESS = float(os.environ.get("LJSERVE_SLOWNESS", "1"))
+SECONDS = 20 * SLOWNESS
 
 # The exit status of a process, or that it did not end in time, and what it wrote to each output.
 Ended = Tuple[Union[int, str], bytes, bytes]
@@ -117,3 +119,8 @@ def status_of(folder: str, word: str) -> int:
 def descriptors_of(process: int) -> int:
     """How many files a process has open."""
     return len(os.listdir(f"/proc/{process}/fd"))
+
+
+def is_emulated(process: int) -> bool:
+    """Whether qemu runs a program for another machine in this process."""
+    return os.path.basename(os.readlink(f"/proc/{process}/exe")).startswith("qemu-")

@@ -5,7 +5,7 @@ import subprocess
 import time
 from typing import Any, List, Optional, Tuple
 
-from shared.program import Ended, Program, descriptors_of, end_of, file_of, status_of
+from shared.program import Ended, Program, descriptors_of, end_of, file_of, is_emulated, status_of
 from shared.serving import begun, options_of
 from shared.sockets import connected, reset
 from shared.texts import must_be, shown
@@ -151,7 +151,11 @@ class Server:
 
     def held(self) -> Tuple[int, int]:
         """How many descriptors and threads the server has."""
-        return descriptors_of(self.child.pid), self.status("Threads")
+        return descriptors_of(self.child.pid), self.threads()
+
+    def threads(self) -> int:
+        """How many threads the program has. qemu, where it runs the program, has one more of its own."""
+        return self.status("Threads") - int(is_emulated(self.child.pid))
 
     def status(self, word: str) -> int:
         return status_of(f"/proc/{self.child.pid}", word)

@@ -1,9 +1,9 @@
 """Users of a server, with what they say first and are told."""
-from shared.program import USUAL, Quota
+from shared.program import SLOWNESS, USUAL, Quota
 from shared.serving import user_line
 
 # Within so many seconds is at once.
-AT_ONCE = 5
+AT_ONCE = 5 * SLOWNESS
 
 
 def token(name: str) -> str:

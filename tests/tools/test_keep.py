@@ -114,7 +114,7 @@ def test_what_is_told_is_written_where_it_is_on_the_disk_within_a_second(tmp_pat
 def test_always_is_taken_as_group(tmp_path: pathlib.Path) -> None:
     with Keeper(tmp_path, "--sync", "always") as keeper:
         assert keeper.told(LOAD, "ann") == HELLO + LOADED
-        told = "keep: --sync always is taken as group: a command is on the disk before it is told\n"
+        told = "keep: --sync always now means group: a command is on the disk before its reply is sent\n"
         assert keeper.errors.read_text() == told
 
 
@@ -132,9 +132,15 @@ def test_nothing_is_seen_of_the_tokens_and_its_owner_alone_may_look(tmp_path: pa
         assert {stat.S_IMODE(each.stat().st_mode) for each in keeper.folder.iterdir()} == {0o600}
 
 
+def begun_words(process: int) -> List[str]:
+    """The words of a server; none as long as its launcher stands in its place."""
+    words = pathlib.Path(f"/proc/{process}/cmdline").read_text().split("\0")
+    return words if "--listen" in words else []
+
+
 def test_a_server_lets_nobody_in_but_through_the_front(tmp_path: pathlib.Path) -> None:
     with Keeper(tmp_path) as keeper:
-        words = pathlib.Path(f"/proc/{keeper.server()}/cmdline").read_text().split("\0")
+        words = until(lambda: begun_words(keeper.server()))
         port = int(words[words.index("--listen") + 1].rpartition(":")[2])
         assert keeper.told(b"LIST\n", "ann") == HELLO + b"OK LIST 0\n"
         with socket.create_connection(("127.0.0.1", port), SECONDS) as stream:
@@ -202,7 +208,7 @@ def test_users_with_a_fault_change_nothing(tmp_path: pathlib.Path) -> None:
         keeper.users.write_text("ann short 8 16384 16\n")
         keeper.child.send_signal(signal.SIGHUP)
         (told,) = until(lambda: keeper.events("not begun anew"))
-        assert told["why"] == f"{keeper.users}: line 1: the token is too short: it has 5 characters, and not 32"
+        assert told["why"] == f"{keeper.users}: line 1: a token must have 32 characters, got 5"
         assert keeper.told(LOAD, "ann") == HELLO + LOADED
         assert keeper.server() == server
 
@@ -226,7 +232,9 @@ def test_a_program_that_computes_otherwise_is_not_begun(tmp_path: pathlib.Path) 
         wrapped(program, "PUSHES = [int_div(24", "PUSHES = [int_div(48")
         keeper.child.send_signal(signal.SIGHUP)
         (told,) = until(lambda: keeper.events("not begun anew"))
-        assert told["why"] == f"{program} computes otherwise than the program before: begin that one, or another folder"
+        assert (
+            told["why"] == f"cannot go on by {program}: it computes differently from the last program; use the last one, or another folder"
+        )
         stream.sendall(b"ADVANCE a 1\n" + SHOW)
         assert (first_line(stream), first_line(stream)) == (b"OK ADVANCE a 2\n", SHOWN)
         assert keeper.server() == server
@@ -314,23 +322,24 @@ def test_snapshots_while_a_client_goes_on(tmp_path: pathlib.Path) -> None:
 
 @pytest.mark.parametrize("ends", ["server", "both"])
 def test_an_advance_that_takes_long_is_done_in_pieces_with_snapshots_between(tmp_path: pathlib.Path, ends: Any) -> None:
-    """Its client is there when it is done, or another one waits until it is."""
+    """Its client is there when it is done, or another one waits until it is, and sends what follows."""
     slow = f"{OFTEN.format(4000, 0.02)}; import keeping.sessions; keeping.sessions.MAX_PIECE = 100"
     with Keeper(tmp_path, tool=patched(slow)) as keeper, keeper.raw("ann") as stream:
-        stream.sendall(LOAD + b"ADVANCE a 6000\nREVERSE a\nADVANCE a 5998\nREVERSE a\n")
+        back = b"REVERSE a\nADVANCE a 19998\nREVERSE a\n"
+        stream.sendall(LOAD + b"ADVANCE a 20000\n" + (back if ends == "server" else b""))
         assert [first_line(stream) for _ in range(2)] == [HELLO, LOADED]
         until(lambda: keeper.running("ann").startswith(b"ADVANCE a "))
         if ends == "server":
             keeper.killed_server()
-            assert [first_line(stream) for _ in range(2)] == [b"OK ADVANCE a 6000\n", b"OK REVERSE a 5999\n"]
+            assert [first_line(stream) for _ in range(2)] == [b"OK ADVANCE a 20000\n", b"OK REVERSE a 19999\n"]
             assert [first_line(stream) for _ in range(2)] == [b"OK ADVANCE a 1\n", b"OK REVERSE a 2\n"]
             stream.sendall(SHOW)
             assert first_line(stream) == SHOWN
         else:
             keeper.kill()
             keeper.begin()
-            told = HELLO + b"OK LIST 1\na 6000 2 0\nOK REVERSE a 5999\nOK ADVANCE a 1\nOK REVERSE a 2\n" + SHOWN
-            assert keeper.told(b"LIST\nREVERSE a\nADVANCE a 5998\nREVERSE a\n" + SHOW, "ann") == told
+            told = HELLO + b"OK LIST 1\na 20000 2 0\nOK REVERSE a 19999\nOK ADVANCE a 1\nOK REVERSE a 2\n" + SHOWN
+            assert keeper.told(b"LIST\n" + back + SHOW, "ann") == told
 
 
 def test_term_takes_a_snapshot_of_what_was_taken(tmp_path: pathlib.Path) -> None:
@@ -409,7 +418,7 @@ def test_behind_a_balancer(tmp_path: pathlib.Path) -> None:
             assert (first_line(stream), first_line(stream)) == (HELLO, b"OK LIST 0\n")
         assert until(lambda: keeper.events("ended"))[0]["from"] == "192.0.2.7:4242"
         assert keeper.told(b"", "ann") == b""
-        assert until(lambda: keeper.events("not in"))[0]["refusal"] == "no PROXY header: the first bytes are none"
+        assert until(lambda: keeper.events("not in"))[0]["refusal"] == "no PROXY header: the first bytes must be a header"
 
 
 def is_well(keeper: Any) -> Any:
@@ -499,7 +508,7 @@ def test_who_is_kicked_may_come_again(tmp_path: pathlib.Path) -> None:
         assert keeper.told(b"LIST\n", "ann") == HELLO + b"OK LIST 1\na 0 2 0\n"
         other.sendall(b"LIST\n")
         assert first_line(other) == b"OK LIST 0\n"
-        assert ended(tmp_path, ["kept", "--kick", "../ann"]) == (1, "keep: kept has no user ../ann\n")
+        assert ended(tmp_path, ["kept", "--kick", "../ann"]) == (1, "keep: cannot end the connections of ../ann: kept has no such user\n")
 
 
 def test_steps_of_a_day(tmp_path: pathlib.Path) -> None:
@@ -526,7 +535,7 @@ def test_nobody_is_kicked_where_no_front_is(tmp_path: pathlib.Path) -> None:
         assert keeper.told(b"LIST\n", "ann") == HELLO + b"OK LIST 0\n"
         keeper.end()
         done = subprocess.run([*tool, str(keeper.folder), "--kick", "ann"], capture_output=True, text=True, timeout=SECONDS)
-        assert (done.returncode, done.stderr) == (1, f"keep: no front uses {keeper.folder}\n")
+        assert (done.returncode, done.stderr) == (1, f"keep: cannot end the connections of ann: no front uses {keeper.folder}\n")
         assert not (keeper.folder / "ann.kick").exists()
     assert ended(tmp_path, ["none", "--kick", "ann"]) == (1, "keep: cannot use none: No such file or directory\n")
 

@@ -54,9 +54,9 @@ def test_a_mistyped_token_is_told_before_the_server_is_asked(begin: Any) -> None
         terminal = begin(server.port)
         shown = types(terminal, TOKEN[1:], "", TOKEN + "a", TOKEN[1:] + "-", TOKEN)
         terminal.until("ann> ")
-    told = re.findall("^(a token .*): type it again$", shown, re.M)
-    length = "a token has 32 letters and digits, and not "
-    assert told == [f"{length}31", f"{length}0", f"{length}33", "a token has letters and digits alone"]
+    told = re.findall("^(a token .*); type it again$", shown, re.M)
+    length = "a token must be 32 letters and digits, got "
+    assert told == [f"{length}31", f"{length}0", f"{length}33", "a token must be letters and digits only"]
     assert TOKEN[1:] not in terminal.written
 
 
@@ -79,7 +79,7 @@ def test_the_third_token_that_is_denied_ends_the_prompt(begin: Any) -> None:
 def test_nothing_is_typed(begin: Any) -> None:
     terminal = begin(1)
     types(terminal, "\x04")
-    assert terminal.ended() == (1, "\nljclient: no token was typed\n")
+    assert terminal.ended() == (1, "\nljclient: cannot connect: no token was typed\n")
 
 
 def test_a_stored_token_that_is_denied_is_not_asked_for() -> None:
@@ -111,7 +111,7 @@ def test_the_environment_has_a_token_in_groups(monkeypatch: pytest.MonkeyPatch) 
     assert tokens.token_of("ann", None, False) == TYPED
 
 
-@pytest.mark.parametrize("text, fault", [("b" * 31, "32 letters and digits, and not 31"), (f"ann {'!' * 32} 8 1 1", "digits alone")])
+@pytest.mark.parametrize("text, fault", [("b" * 31, "32 letters and digits, got 31"), (f"ann {'!' * 32} 8 1 1", "digits only")])
 def test_a_stored_token_of_the_wrong_shape_is_told_with_its_file(tmp_path: pathlib.Path, text: Any, fault: Any) -> None:
     path = tmp_path / "users"
     path.write_text(text)
@@ -139,4 +139,5 @@ def test_a_slip_says_how_to_come_by_the_client() -> None:
     folder = present(re.search("^    pip install (.*)$", slip, re.M))[1]
     assert f"`export PYTHONPATH={folder}`" in slip and "the folder of ljserve" in slip
     assert (TOP / folder / "pyproject.toml").is_file() and (TOP / folder / "ljclient").is_dir()
-    assert f" {folder} " in present(re.search(r"^contents=\((.*)\)$", (TOP / "bin" / "release").read_text(), re.M))[1]
+    contents = present(re.search(r"^contents=\((.*)\)$", (TOP / "bin" / "release").read_text(), re.M))[1].split()
+    assert any(folder == each or folder.startswith(f"{each}/") for each in contents)

@@ -82,17 +82,17 @@ def test_words_that_are_none(tmp_path: pathlib.Path, words: Any) -> None:
 def test_what_cannot_be_begun(tmp_path: pathlib.Path, kept: Any) -> None:
     server = ["--", PROGRAM, "serve", "--users", str(kept.users)]
     status, err = ended(tmp_path, ["127.0.0.1:0", str(kept.folder), *server])
-    assert (status, err) == (1, f"keep: {kept.folder} is in use\n")
+    assert (status, err) == (1, f"keep: cannot use {kept.folder}: it is in use\n")
     status, err = ended(tmp_path, [f"127.0.0.1:{kept.port}", "kept", *server])
     assert (status, err) == (1, f"keep: cannot listen on 127.0.0.1:{kept.port}: Address already in use\n")
     (tmp_path / "open").mkdir(mode=0o755)
     status, err = ended(tmp_path, ["127.0.0.1:0", "open", *server])
-    assert (status, err) == (1, "keep: the mode of open lets others in: `chmod 700` leaves it to its owner\n")
+    assert (status, err) == (1, "keep: cannot use open: its mode lets others in; use `chmod 700` to leave it to its owner\n")
     status, err = ended(tmp_path, ["127.0.0.1:0", "kept", *server[:-1], "none"])
     assert (status, err) == (2, "keep: cannot read none: No such file or directory\n")
     (tmp_path / "bad").write_text(f"ann {TOKEN} 8 16384\n")
     status, err = ended(tmp_path, ["127.0.0.1:0", "kept", *server[:-1], "bad"])
-    assert (status, err) == (2, "keep: bad: line 1: it has 4 words, and not 5: name, token, sessions, atoms, branches\n")
+    assert (status, err) == (2, "keep: bad: line 1: a line must have 5 words (name, token, sessions, atoms, branches), got 4\n")
     status, err = ended(tmp_path, ["--status", "none"])
     assert (status, err) == (1, "keep: cannot read none: No such file or directory\n")
 
@@ -101,4 +101,4 @@ def test_words_of_the_server_that_are_none(tmp_path: pathlib.Path, kept: Any) ->
     words = ["127.0.0.1:0", "kept", "--", PROGRAM, "serve", "--users", str(kept.users), "--workers", "99"]
     status, err = ended(tmp_path, words)
     assert status == 2 and "--workers" in err
-    assert "the server cannot be begun: it ended with status 2" in (tmp_path / "kept" / "status.json").read_text()
+    assert "cannot start the server: it ended with status 2" in (tmp_path / "kept" / "status.json").read_text()

@@ -179,9 +179,11 @@ def test_one_that_answers_has_lost_its_lock_alone(one: Any, other: Any) -> None:
 def test_one_that_says_nothing_has_the_time_of_its_lease(one: Any, other: Any, monkeypatch: pytest.MonkeyPatch) -> None:
     waited: Any = []
     monkeypatch.setattr(place, "SECONDS_TO_ANSWER", 0.2)
+    one._holding.close()
+    # The database may see the end of that connection later. What holds until then would be had again below.
+    until(lambda: other._owning.ask(postgres.OWNER, ("ann",))[0][4] is False)
     # Meanwhile its lease is not renewed.
     monkeypatch.setattr("time.sleep", lambda seconds: waited.append((seconds, one.hold())))
-    one._holding.close()
     with listening(one, None):
         assert until(lambda: other.claim("ann") is None)
     assert waited[-1] == (postgres.SECONDS_OF_LEASE, False)

@@ -153,7 +153,7 @@ def test_a_new_server_accepts_connections_anew(monkeypatch: pytest.MonkeyPatch) 
 
     def left(connections: Any) -> int:
         for _ in range(connections):
-            board.is_passed()
+            board.note_passed()
         return int(present(re.search(r"^ljserve_connections_left (\d+)$", told.text(), re.M))[1])
 
     assert [left(0), left(3), left(1)] == [10, 7, 6]
@@ -274,7 +274,7 @@ def test_an_address_that_is_none_or_taken() -> None:
     words = ["127.0.0.1:0", f"127.0.0.1:{port}"]
     with socket.create_server(("127.0.0.1", 0)) as taken:
         there = f"127.0.0.1:{taken.getsockname()[1]}"
-        for address, status, cause in [("x", 2, "x is no HOST:PORT"), (there, 1, f"cannot listen on {there}: ")]:
+        for address, status, cause in [("x", 2, "an address must be HOST:PORT, got x"), (there, 1, f"cannot listen on {there}: ")]:
             done = subprocess.run([*WATCH, "--metrics", address, *words], capture_output=True, text=True, timeout=SECONDS)
             assert (done.returncode, done.stdout) == (status, "")
             assert done.stderr.startswith(f"watch: {cause}") and done.stderr.count("\n") == 1

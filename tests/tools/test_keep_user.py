@@ -1,9 +1,12 @@
 """What one user of `tools/keep` does at each event, with ends and a writer that only note what is asked of them."""
 import asyncio
+import contextlib
 import io
 import json
 import pathlib
+import socket
 import sys
+from types import SimpleNamespace
 from typing import Any, List
 
 import pytest
@@ -12,6 +15,7 @@ from keepers import HELLO, LOAD, LOADED, TOKEN
 from support import TOP, present
 
 sys.path += [str(TOP / "tools"), str(TOP / "conformance")]
+from keeping import ends  # noqa: E402
 from keeping.accounts import Account, accounts_at, user_of  # noqa: E402
 from keeping.allowance import Allowance, Allowances, today  # noqa: E402
 from keeping.items import ItemReader, ReplyReader  # noqa: E402
@@ -21,6 +25,7 @@ from keeping.user import MAX_SENT, User  # noqa: E402
 from reference import User as Reference  # noqa: E402
 from reference import replies_to  # noqa: E402
 from user_files import Fault  # noqa: E402
+from watching import Connection  # noqa: E402
 
 
 class Client:
@@ -113,6 +118,49 @@ def let_in(user: Any, client: Any, link: Any = None) -> Any:
     user.begin(link, True)
     user.enter(client)
     return link
+
+
+class Transport(asyncio.Transport):
+    """A stream of TLS, which cannot be aborted when it was closed twice."""
+
+    def __init__(self) -> None:
+        super().__init__({"peername": ("127.0.0.1", 1), "socket": socket.socket()})
+        self.closes = 0
+
+    def write(self, data: Any) -> None:
+        pass
+
+    def can_write_eof(self) -> bool:
+        return False
+
+    def is_closing(self) -> bool:
+        return self.closes > 0
+
+    def close(self) -> None:
+        self.closes += 1
+
+    def abort(self) -> None:
+        assert self.closes < 2
+
+
+def test_a_connection_of_tls_is_closed_once(monkeypatch: pytest.MonkeyPatch) -> None:
+    """Also where the client ends it too, and never reads the end."""
+    monkeypatch.setattr(ends, "SECONDS_AFTER_END", 0.01)
+    monkeypatch.setattr(ends, "SECONDS_TO_READ", 0.02)
+    front: Any = SimpleNamespace(has_header=False, seconds_for_hello=1, is_well=lambda: True)
+    front.new_connection, front.name_of, front.begins, front.ends = Connection, lambda line: None, lambda client: None, lambda client: None
+
+    async def test(transport: Transport) -> None:
+        client = ends.Client(front)
+        client.connection_made(transport)
+        client.data_received(b"HELLO ann wrong\n")
+        client.eof_received()
+        await asyncio.sleep(0.05)
+
+    transport = Transport()
+    with contextlib.closing(transport.get_extra_info("socket")):
+        asyncio.run(test(transport))
+    assert transport.closes == 1
 
 
 def test_nothing_is_told_before_it_is_written(user: Any) -> None:
@@ -377,7 +425,7 @@ def test_who_is_a_user(tmp_path: pathlib.Path) -> None:
     for words in (f"ann {'b' * 32}", f"cleo {TOKEN}", f"ann {TOKEN} x", f"ann {TOKEN[:-1]}", "ann", "\xe9 x"):
         assert user_of(f"HELLO {words}".encode("latin-1"), accounts) is None
     path.write_text(f"ann {TOKEN} 1 2\n")
-    with pytest.raises(Fault, match="line 1: it has 4 words, and not 5"):
+    with pytest.raises(Fault, match="line 1: a line must have 5 words .*, got 4"):
         accounts_at(path)
 
 

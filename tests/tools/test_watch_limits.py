@@ -331,12 +331,16 @@ def test_a_screen_has_the_address_first_and_the_flood_below_it(server: Any) -> N
 def test_words_that_are_no_number(word: str) -> None:
     words = [*WATCH, f"--of-an-address={word}", "127.0.0.1:0", "127.0.0.1:4000"]
     done = subprocess.run(words, capture_output=True, text=True, timeout=SECONDS)
-    wanted = f"watch: --of-an-address is a whole number from 1 on, not {word}\n"
+    wanted = f"watch: --of-an-address must be a whole number from 1 on, got {word}\n"
     assert (done.returncode, done.stdout, done.stderr) == (2, "", wanted)
 
 
 @pytest.mark.parametrize(
-    "text, why", [(None, "cannot read {}: No such file or directory"), ("ann\n", "{}: line 1: it has 1 word, and not 5")]
+    "text, why",
+    [
+        (None, "cannot read {}: No such file or directory"),
+        ("ann\n", "{}: line 1: a line must have 5 words (name, token, sessions, atoms, branches), got 1"),
+    ],
 )
 def test_users_that_cannot_be_had(tmp_path: pathlib.Path, text: Any, why: str) -> None:
     path = tmp_path / "users"

@@ -201,4 +201,4 @@ def test_more_users_than_a_store_may_have(tmp_path: pathlib.Path) -> None:
     with many.open("a") as file:
         file.write(f"ann {TOKEN} 1 2 1\n")
     done = subprocess.run([*tool, "--from", str(many)], capture_output=True, text=True, timeout=SECONDS)
-    assert done.returncode == 1 and "line 100001: there are 100000 users already, the most that a store has" in done.stderr
+    assert done.returncode == 1 and "line 100001: a store must have at most 100000 users, got more" in done.stderr

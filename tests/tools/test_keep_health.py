@@ -116,7 +116,10 @@ def test_an_address_that_is_none_or_taken(tmp_path: pathlib.Path) -> None:
     (tmp_path / "users").write_text(f"ann {'k' * 32} 8 16384 16\n")
     with socket.create_server(("127.0.0.1", 0)) as taken:
         there = f"127.0.0.1:{taken.getsockname()[1]}"
-        for address, code, cause in [("x", 2, "x is no HOST:PORT"), (there, 1, f"cannot listen on {there}: Address already in use")]:
+        for address, code, cause in [
+            ("x", 2, "an address must be HOST:PORT, got x"),
+            (there, 1, f"cannot listen on {there}: Address already in use"),
+        ]:
             words[2:2] = ["--metrics", address]
             done = subprocess.run(words, cwd=tmp_path, capture_output=True, text=True, timeout=SECONDS)
             assert (done.returncode, done.stderr) == (code, f"keep: {cause}\n")

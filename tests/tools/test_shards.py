@@ -64,10 +64,10 @@ def test_users_of_several_servers_who_come_by_tls(tmp_path: pathlib.Path) -> Non
         done = subprocess.run([*by, *words], cwd=tmp_path, capture_output=True, text=True, timeout=SECONDS)
         return done.returncode, done.stderr.splitlines()[-1:]
 
-    assert made() == (2, ["users: a server has 1 to 64 users, not 130"])
-    assert made("--servers", "2") == (2, ["users: 2 servers have 1 to 128 users, not 130"])
-    assert made("--servers", "1001") == (2, ["users: there are 1 to 1000 servers, not 1001"])
-    assert made("--servers", "3", "--ca", "class.crt") == (2, ["users: --ca is for --tls"])
+    assert made() == (2, ["users: the number of users of a server must be from 1 to 64, got 130"])
+    assert made("--servers", "2") == (2, ["users: the number of users of 2 servers must be from 1 to 128, got 130"])
+    assert made("--servers", "1001") == (2, ["users: --servers must be from 1 to 1000, got 1001"])
+    assert made("--servers", "3", "--ca", "class.crt") == (2, ["users: --ca must come with --tls"])
     assert made("--servers", "3", "--tls", "--ca", "class.crt") == (0, [])
     slips = (tmp_path / "slips").read_text()
     assert slips.count("\n    python3 -m ljclient class.example:4443 student130 --tls --ca class.crt\n") == 1
@@ -188,11 +188,16 @@ def test_a_server_that_is_taken_out(users: Any, tmp_path: pathlib.Path) -> None:
 @pytest.mark.parametrize(
     "count, servers, words, cause",
     [
-        (129, 2, [], "there are 129 users, and 2 servers have room for 128"),
-        (129, 3, ["--without", "1"], "there are 129 users, and 2 servers have room for 128"),
-        (2, 3, [], "server 3 would have no user, and a server has at least one"),
-        (3, 2, ["--move", "eve=1"], "there is no user eve to move"),
-        (66, 2, ["--move", *(f"user{number}=1" for number in range(65))], "server 1 would have 65 users, and a server has at most 64"),
+        (129, 2, [], "cannot spread 129 users: 2 servers have room for 128; use more servers"),
+        (129, 3, ["--without", "1"], "cannot spread 129 users: 2 servers have room for 128; use more servers"),
+        (2, 3, [], "server 3 must have 1 to 64 users, got 0; use other moves, or another COUNT"),
+        (3, 2, ["--move", "eve=1"], "cannot move eve: there is no such user"),
+        (
+            66,
+            2,
+            ["--move", *(f"user{number}=1" for number in range(65))],
+            "server 1 must have 1 to 64 users, got 65; use other moves, or another COUNT",
+        ),
     ],
 )
 def test_no_room_changes_nothing(users: Any, tmp_path: pathlib.Path, count: Any, servers: Any, words: Any, cause: Any) -> None:
@@ -205,9 +210,9 @@ def test_no_room_changes_nothing(users: Any, tmp_path: pathlib.Path, count: Any,
 @pytest.mark.parametrize(
     "text, cause",
     [
-        ("ann short 8 16384 16\n", "line 1: the token is too short: it has 5 characters, and not 32"),
-        (f"ann {TOKEN} 8 16384 16\nann {TOKEN} 8 16384 16\n", "line 2: the name ann is there twice"),
-        ("# none\n", "there is no user"),
+        ("ann short 8 16384 16\n", "line 1: a token must have 32 characters, got 5"),
+        (f"ann {TOKEN} 8 16384 16\nann {TOKEN} 8 16384 16\n", "line 2: each name must come once, got ann twice"),
+        ("# none\n", "a file must have at least one user, got none"),
     ],
 )
 def test_a_file_that_is_none_of_users(tmp_path: pathlib.Path, text: Any, cause: Any) -> None:
@@ -257,5 +262,5 @@ def test_a_certificate_of_a_class(tmp_path: pathlib.Path) -> None:
     ssl.SSLContext(ssl.PROTOCOL_TLS_SERVER).load_cert_chain(pem)
     first = pem.read_text()
     status, _, error = told(tmp_path, "--certificate", "class.example")
-    assert status == 1 and "is there already" in error and pem.read_text() == first
+    assert status == 1 and "it exists already" in error and pem.read_text() == first
     assert told(tmp_path, "--certificate", "class.example", "--replace")[0] == 0 and pem.read_text() != first

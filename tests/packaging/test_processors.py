@@ -1,4 +1,5 @@
 """Which of two programs is begun: bin/ljserve of a release, of the wheel and of the repository, over programs that stand in."""
+import hashlib
 import os
 import pathlib
 import re
@@ -28,6 +29,11 @@ def put(path: Any, text: Any) -> None:
 def stand_in(name: Any, version: str = "echo ljserve 1.2.3") -> str:
     """A program that tells its version so, and else its name, its process and its words."""
     return f'#!/bin/sh\nif [ "$*" = --version ]; then {version}; exit; fi\nprintf "%s\\n" {name} $$ "$@"\n'
+
+
+def sum_of(path: Any) -> str:
+    """The line that tells the sum of a program."""
+    return f"sha256 {hashlib.sha256(path.read_bytes()).hexdigest()}\n"
 
 
 def begun(program: Any, *words: Any, path: Any = os.environ["PATH"], **environment: Any) -> Tuple[Any, Any, Any, Any]:
@@ -76,7 +82,7 @@ def test_a_processor_that_lacks_what_is_asked_for(release: Any) -> None:
     code, out, err, _ = begun(release / "bin" / "ljserve", "--version", LJSERVE_CPU="v3")
     assert (code, out, err) == (127, "", "this machine lacks a feature of x86-64-v3\n")
     code, out, err, _ = begun(release / "bin" / "ljserve", "--version")
-    assert (code, out, err) == (0, "ljserve 1.2.3\ncpu x86-64-v2\n", "")
+    assert (code, out, err) == (0, "ljserve 1.2.3\ncpu x86-64-v2\n" + sum_of(release / "libexec" / "ljserve-v2"), "")
 
 
 @pytest.mark.parametrize("word", ["--version", "-V"])
@@ -88,10 +94,50 @@ def test_a_processor_that_lacks_what_is_asked_for(release: Any) -> None:
         ("of something else\nthat stands there\n", ""),
     ],
 )
-def test_the_version(release: Any, word: Any, version: Any, rest: Any) -> None:
+@pytest.mark.parametrize("place", ["VERSION", "share/ljserve/VERSION"])
+def test_the_version(release: Any, place: Any, word: Any, version: Any, rest: Any) -> None:
+    """The kit and the commit are told of a release, and of a package, if they are of that version."""
     if version is not None:
-        (release / "VERSION").write_text(version)
-    assert begun(release / "bin" / "ljserve", word)[:3] == (0, f"ljserve 1.2.3\n{rest}cpu x86-64-v3\n", "")
+        (release / place).parent.mkdir(parents=True, exist_ok=True)
+        (release / place).write_text(version)
+    wanted = f"ljserve 1.2.3\n{rest}cpu x86-64-v3\n" + sum_of(release / "libexec" / "ljserve-v3")
+    assert begun(release / "bin" / "ljserve", word)[:3] == (0, wanted, "")
+
+
+@pytest.fixture
+def on_arm64(tmp_path: pathlib.Path) -> Any:
+    """A PATH on which this machine says that it is one of arm64, and a release for that."""
+    put(tmp_path / "bin" / "ljserve", (TOP / "packaging" / "ljserve" / "ljserve").read_text())
+    put(tmp_path / "libexec" / "ljserve-arm64", stand_in("arm64"))
+    put(tmp_path / "machine" / "uname", '#!/bin/sh\n[ "$*" = -m ] && echo aarch64\n')
+    return f"{tmp_path / 'machine'}:{os.environ['PATH']}"
+
+
+def test_the_program_for_arm64(on_arm64: Any, tmp_path: pathlib.Path) -> None:
+    for said in ("", "arm64"):
+        code, out, err, process = begun(tmp_path / "bin" / "ljserve", "run", "two words", path=on_arm64, LJSERVE_CPU=said)
+        assert (code, out, err) == (0, f"arm64\n{process}\nrun\ntwo words\n", "")
+    wanted = "ljserve 1.2.3\ncpu arm64\n" + sum_of(tmp_path / "libexec" / "ljserve-arm64")
+    assert begun(tmp_path / "bin" / "ljserve", "--version", path=on_arm64)[:3] == (0, wanted, "")
+
+
+def test_a_word_that_is_of_another_machine(on_arm64: Any, tmp_path: pathlib.Path) -> None:
+    for said in ("v2", "v3", "aarch64"):
+        code, out, err, _ = begun(tmp_path / "bin" / "ljserve", path=on_arm64, LJSERVE_CPU=said)
+        assert (code, out, err) == (2, "", f"ljserve: LJSERVE_CPU is '{said}', and may be arm64\n")
+
+
+def test_the_programs_are_for_another_machine(on_arm64: Any, release: Any) -> None:
+    """Of the package for arm64 on x86-64, and the other way round."""
+    (release / "libexec" / "ljserve-arm64").unlink()
+    code, out, err, _ = begun(release / "bin" / "ljserve", "run", path=on_arm64)
+    assert (code, out) == (69, "")
+    assert err == f"ljserve: there is no program for this machine, aarch64: {release}/libexec/ljserve-arm64 is missing\n"
+    for cpu in ("v2", "v3"):
+        (release / "libexec" / f"ljserve-{cpu}").unlink()
+    code, out, err, _ = begun(release / "bin" / "ljserve", "--version")
+    assert (code, out) == (69, "")
+    assert err == f"ljserve: there is no program for this machine, {os.uname().machine}: {release}/libexec/ljserve-v2 is missing\n"
 
 
 def test_a_link_to_it(release: Any, tmp_path: pathlib.Path) -> None:
@@ -216,7 +262,7 @@ def test_the_units_begin_it(unit: Any) -> None:
 
 def test_a_release_tries_both() -> None:
     script = (TOP / "bin" / "release").read_text()
-    assert 'cp packaging/ljserve/ljserve "$work/$name/bin/"\n' in script
-    assert 'for cpu in v2 v3; do LJSERVE_CPU=$cpu try_program "$folder" "$cpu"; done\n' in script
-    for cpu, place in (("v2", "out"), ("v3", "out/v3")):
-        assert f'link crates/ljserve/{place}/ljserve.o "$work/$name/libexec/ljserve-{cpu}"\n' in script
+    assert 'cp packaging/ljserve/ljserve "$folder/bin/"\n' in script
+    assert 'for cpu in v2 v3; do\n        LJSERVE_CPU=$cpu try_answers "$folder" "$cpu" "x86-64-$cpu"\n' in script
+    assert "objects=([v2]=out [v3]=out/v3 [arm64]=out/arm64)" in script
+    assert 'link_all "$machine" "$folder/libexec" "${static[@]}"\n' in script

@@ -211,9 +211,15 @@ def test_a_changed_record_is_repaired_while_fronts_run(both: Any, cluster: Any) 
     }
     keep = [sys.executable, str(TOP / "tools" / "keep"), both.store]
     done = subprocess.run([*keep, "--repair", "ann"], capture_output=True, text=True, timeout=SECONDS)
-    assert (done.returncode, done.stdout.splitlines()[0]) == (0, "ann: 1 sessions and branches stay, and 0 go: those of records []")
+    assert (done.returncode, done.stdout.splitlines()[0]) == (
+        0,
+        "ann: 1 sessions and branches stay, and 0 are removed: those of records []",
+    )
     done = subprocess.run([*keep, "--repair", "ben"], capture_output=True, text=True, timeout=SECONDS)
-    assert (done.returncode, done.stderr) == (1, f"keep: the front at 127.0.0.1:{other.port} has ben: end it first\n")
+    assert (done.returncode, done.stderr) == (
+        1,
+        f"keep: cannot change ben: the front at 127.0.0.1:{other.port} has this user; end it first\n",
+    )
     other.child.send_signal(signal.SIGHUP)
     with again(other) as stream:
         assert told(stream, SHOW, 1) == [SHOWN]
@@ -257,9 +263,9 @@ def test_who_is_kicked_at_the_front_that_has_it(both: Any) -> None:
         assert other.told(b"LIST\n", "ann") == HELLO + b"OK LIST 1\na 0 2 0\n"
         assert told(ben, b"LIST\n", 1) == [b"OK LIST 0\n"]
     one.kill()
-    for name, why in (("ann", "the front that has ann does not answer"), ("cleo", f"no front of {shown_place(both.store)} has cleo")):
+    for name, why in (("ann", "the front of this user does not answer"), ("cleo", f"no front of {shown_place(both.store)} has this user")):
         done = subprocess.run([*keep, name], capture_output=True, text=True, timeout=SECONDS)
-        assert (done.returncode, done.stderr) == (1, f"keep: {why}\n")
+        assert (done.returncode, done.stderr) == (1, f"keep: cannot end the connections of {name}: {why}\n")
     assert other.told(b"LIST\n", "ann") == HELLO + b"OK LIST 1\na 0 2 0\n" and other.events("kicked") == []
 
 
@@ -286,7 +292,7 @@ def test_a_front_has_the_program_of_the_others(tmp_path: pathlib.Path, both: Any
     one.begin()
     assert (
         until(lambda: one.known().get("last_end"))
-        == f"{PROGRAM} computes otherwise than the program before: begin that one, or another folder"
+        == f"cannot go on by {PROGRAM}: it computes differently from the last program; use the last one, or another folder"
     )
 
 
@@ -297,9 +303,15 @@ def test_where_other_fronts_reach_it(tmp_path: pathlib.Path, cluster: Any) -> No
         return done.returncode, done.stderr
 
     store = cluster.new()
-    assert ended("0.0.0.0:0", store) == (2, "keep: say --advertise HOST:PORT, by which other fronts reach this one\n")
-    assert ended("0.0.0.0:0", store, "--advertise", "here") == (2, "keep: here is no HOST:PORT\n")
-    assert ended("127.0.0.1:0", "mysql://x") == (2, "keep: say LISTEN as HOST:PORT, and STORE as a folder, or as postgresql://HOST/NAME\n")
+    assert ended("0.0.0.0:0", store) == (
+        2,
+        "keep: --advertise must be given if LISTEN is all addresses; use --advertise HOST:PORT, at which other fronts reach this one\n",
+    )
+    assert ended("0.0.0.0:0", store, "--advertise", "here") == (2, "keep: an address must be HOST:PORT, got here\n")
+    assert ended("127.0.0.1:0", "mysql://x") == (
+        2,
+        "keep: LISTEN and STORE must be given; use HOST:PORT, and a folder or postgresql://HOST/NAME\n",
+    )
 
 
 HAPROXY = shutil.which("haproxy", path=f"{os.environ['PATH']}:/usr/sbin")

@@ -8,7 +8,7 @@ import sys
 import sysconfig
 import zipfile
 from email.parser import HeaderParser
-from typing import Any, Dict
+from typing import Any, Dict, List
 
 import pytest
 
@@ -23,6 +23,7 @@ if sysconfig.get_platform() != "linux-x86_64":
 README = (TOP / "clients" / "python" / "README.md").read_text()
 INSTALLING = present(re.search(r"((?:^    .*\n)*^    .*--no-index.*\n(?:^    .*\n)*)", README, re.M))[1]
 OF_PROGRAM = f"ljserve-{ljclient.__version__}"
+IDENTITY = f"ljserve {ljclient.__version__}\nkit 4\ncommit 5\n"
 NAMES = ("ljserve-v2", "ljserve-v3")
 TWO_STEPS = f"""
 from ljclient import run
@@ -33,14 +34,15 @@ with run() as user:
 TELL = "import ljclient; print(ljclient.locate.find_program()); print(ljclient.__file__)"
 
 
-def made(folder: Any, programs: Any, **words: Any) -> Any:
+def made(folder: Any, programs: Any, *words: Any, **environment: Any) -> Any:
     """What packaging/wheels prints, and its status."""
-    environment: Dict[str, Any] = {**os.environ, "PYTHONDONTWRITEBYTECODE": "1", **words}
-    command = [sys.executable, TOP / "packaging" / "wheels", programs, folder]
+    environment = {**os.environ, "PYTHONDONTWRITEBYTECODE": "1", **environment}
+    command = [sys.executable, TOP / "packaging" / "wheels", *words, programs, folder]
     return subprocess.run(command, env=environment, capture_output=True, text=True, timeout=10 * SECONDS)
 
 
 def put(path: Any, text: Any) -> None:
+    path.parent.mkdir(parents=True, exist_ok=True)
     path.write_text(f"#!/bin/sh\n{text}\n")
     path.chmod(0o755)
 
@@ -51,6 +53,7 @@ def programs(tmp_path_factory: pytest.TempPathFactory) -> Any:
     folder = tmp_path_factory.mktemp("programs")
     for name in NAMES:
         shutil.copy(PROGRAM, folder / name)
+    (folder / "VERSION").write_text(IDENTITY)
     return folder
 
 
@@ -102,7 +105,8 @@ def test_the_files(top: Any) -> None:
         found = {name: wheel.read(name) for name in wheel.namelist() if ".dist-info/" not in name}
         with open(PROGRAM, "rb") as file:
             assert found.pop(f"{data}/libexec/ljserve-v2") == found.pop(f"{data}/libexec/ljserve-v3") == file.read()
-        assert found == {f"{data}/bin/ljserve": (TOP / "packaging" / "ljserve" / "ljserve").read_bytes()}
+        assert found.pop(f"{data}/bin/ljserve") == (TOP / "packaging" / "ljserve" / "ljserve").read_bytes()
+        assert found == {f"{data}/share/ljserve/VERSION": IDENTITY.encode()}
 
 
 def test_what_the_wheels_tell_of_themselves(top: Any) -> None:
@@ -129,7 +133,7 @@ def test_the_commands(top: Any) -> None:
     dimer = (EXAMPLES / "dimer.txt").read_text(), (EXAMPLES / "dimer.replies").read_text()
     assert printed(top, commands / "ljclient", given=dimer[0]) == dimer[1]
     assert printed(top, commands / "ljserve", given=dimer[0]) == dimer[1]
-    assert printed(top, commands / "ljserve", "--version") == f"ljserve {ljclient.__version__}\ncpu x86-64-v3\n"
+    assert printed(top, commands / "ljserve", "--version").startswith(f"{IDENTITY}cpu x86-64-v3\nsha256 ")
     assert printed(top, commands / "ljclient", "view", "--help").startswith("usage: ")
 
 
@@ -138,7 +142,7 @@ def test_a_processor_that_lacks_a_feature(top: Any, tmp_path: pathlib.Path) -> N
     shutil.copytree(environment_of(top).parent, tmp_path / "lj", symlinks=True)
     put(tmp_path / "lj" / "libexec" / "ljserve-v3", "exit 127")
     program = tmp_path / "lj" / "bin" / "ljserve"
-    assert printed(top, program, "--version") == f"ljserve {ljclient.__version__}\ncpu x86-64-v2\n"
+    assert printed(top, program, "--version").startswith(f"{IDENTITY}cpu x86-64-v2\nsha256 ")
     assert printed(top, environment_of(top) / "python", "-c", TWO_STEPS, LJSERVE=str(program)) == "2 (1774, 0, 0)\n"
 
 
@@ -160,10 +164,10 @@ def test_the_same_sources_give_the_same_bytes(tmp_path: pathlib.Path, programs: 
 @pytest.mark.parametrize(
     "texts, why",
     [
-        (["echo 'ljserve 0.0.1'"] * 2, f"ljclient-{ljclient.__version__}-py3-none-any.whl is not of the program's version, 0.0.1"),
-        (["echo 'ljserve 0.0.1'", "echo 'ljserve 0.0.2'"], "has programs of two versions, 0.0.1 and 0.0.2"),
-        (["echo 'ljserve 0.0.1'", "echo hello"], "ljserve-v3 is not a built ljserve: it tells no version"),
-        (["echo hello", "echo 'ljserve 0.0.1'"], "ljserve-v2 is not a built ljserve: it tells no version"),
+        (["echo 'ljserve 0.0.1'"] * 2, f"ljclient-{ljclient.__version__}-py3-none-any.whl must be of the program's version, 0.0.1"),
+        (["echo 'ljserve 0.0.1'", "echo 'ljserve 0.0.2'"], "must have programs of one version, got 0.0.1 and 0.0.2"),
+        (["echo 'ljserve 0.0.1'", "echo hello"], "ljserve-v3 must be a built ljserve, got a program that shows no version"),
+        (["echo hello", "echo 'ljserve 0.0.1'"], "ljserve-v2 must be a built ljserve, got a program that shows no version"),
     ],
 )
 def test_programs_that_do_not_fit(tmp_path: pathlib.Path, texts: Any, why: Any) -> None:
@@ -177,11 +181,52 @@ def test_programs_that_do_not_fit(tmp_path: pathlib.Path, texts: Any, why: Any) 
 def test_a_program_that_is_not_there(tmp_path: pathlib.Path) -> None:
     put(tmp_path / "ljserve-v2", "echo 'ljserve 0.0.1'")
     done = made(tmp_path / "wheels", tmp_path)
-    assert (done.returncode, "ljserve-v3 cannot be started" in done.stderr, "Traceback" in done.stderr) == (70, True, False)
+    assert (done.returncode, "cannot start " in done.stderr, "Traceback" in done.stderr) == (70, True, False)
+
+
+def test_a_version_that_is_of_other_programs(tmp_path: pathlib.Path) -> None:
+    for name in NAMES:
+        put(tmp_path / name, "echo 'ljserve 1.2.3'")
+    (tmp_path / "VERSION").write_text(IDENTITY)
+    done = made(tmp_path / "wheels", tmp_path)
+    assert (done.returncode, "VERSION must be of the version of the programs, 1.2.3" in done.stderr) == (70, True), done
+
+
+# It is begun in the place of qemu, and so tells what the program for arm64 tells.
+QEMU = '[ "$1 $2" = "-L /usr/aarch64-linux-gnu" ] && shift 2 && exec "$@"'
+
+
+@pytest.fixture
+def for_arm64(tmp_path: pathlib.Path) -> Any:
+    """The PATH with a stand-in of qemu, and a folder of programs for arm64."""
+    put(tmp_path / "tools" / "qemu-aarch64", QEMU)
+    put(tmp_path / "programs" / "ljserve-arm64", f"echo 'ljserve {ljclient.__version__}'")
+    return tmp_path
+
+
+def test_the_wheel_for_arm64(for_arm64: Any) -> None:
+    """It has one program, and pip installs it for such a machine alone."""
+    path = f"{for_arm64 / 'tools'}:{os.environ['PATH']}"
+    done = made(for_arm64 / "wheels", for_arm64 / "programs", "--machine", "arm64", PATH=path)
+    name = f"{OF_PROGRAM}-py3-none-linux_aarch64.whl"
+    assert (done.returncode, sorted(done.stdout.split())) == (0, [f"ljclient-{ljclient.__version__}-py3-none-any.whl", name]), done
+    with zipfile.ZipFile(for_arm64 / "wheels" / name) as wheel:
+        files = [path.partition(".data/data/")[2] for path in wheel.namelist() if ".dist-info/" not in path]
+        assert sorted(files) == ["bin/ljserve", "libexec/ljserve-arm64", "share/ljserve/VERSION"]
+    words = [sys.executable, "-m", "pip", "install", "--quiet", "--no-index", "--find-links", str(for_arm64 / "wheels")]
+    words += ["--only-binary=:all:", "--target", str(for_arm64 / "target"), "ljserve"]
+    several: List[List[str]] = [[], ["--platform=linux_aarch64"]]
+    statuses = [subprocess.run([*words, *more], capture_output=True).returncode for more in several]
+    assert statuses == [1, 0] and (for_arm64 / "target" / "libexec" / "ljserve-arm64").is_file()
+
+
+def test_a_program_for_arm64_that_cannot_be_asked_here(for_arm64: Any) -> None:
+    done = made(for_arm64 / "wheels", for_arm64 / "programs", "--machine", "arm64", PATH=str(for_arm64))
+    assert (done.returncode, "qemu-aarch64 is not installed" in done.stderr) == (69, True), done
 
 
 def test_a_release_has_them() -> None:
     """bin/release makes them of what it has unpacked, and installs them."""
     script = (TOP / "bin" / "release").read_text()
-    assert '/packaging/wheels" "$work/$name/libexec" "$work/$name/wheels"' in script
+    assert 'make_packages wheels "the wheels" --machine "$machine" "$folder/libexec" "$folder/wheels"' in script
     assert " packaging " in script

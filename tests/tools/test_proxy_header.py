@@ -136,7 +136,7 @@ def test_a_connection_without_a_header_is_closed() -> None:
             with contextlib.suppress(ConnectionResetError):
                 assert read_all(stream) == b""
         (line,) = watcher.lines(1)
-        assert line.startswith("TIME not in - 127.0.0.1:") and line.endswith("0 commands no PROXY header: the first bytes are none")
+        assert line.startswith("TIME not in - 127.0.0.1:") and line.endswith("0 commands no PROXY header: the first bytes must be a header")
         assert TOKEN not in line
         with watcher.connected() as stream:
             stream.sendall(b"PROXY UNKNOWN\r\nthe first that comes")

@@ -1,4 +1,5 @@
 """The Debian packages of a release, as packaging/deb makes them: what is in them, and their life in a root of its own."""
+import gzip
 import os
 import pathlib
 import re
@@ -29,6 +30,7 @@ if NEEDS.returncode != 0:
 
 VERSION = ljclient.__version__
 LATER = "999.0.0"
+IDENTITY = f"ljserve {VERSION}\nkit 4\ncommit 5\n"
 TOOLS = [path.name for path in (TOP / "tools").iterdir() if path.is_file() and os.access(path, os.X_OK)]
 SERVER, CLIENT = f"ljserve_{VERSION}_amd64.deb", f"python3-ljclient_{VERSION}_all.deb"
 # The other program is begun in this one's place, so that the packages are made in half the time.
@@ -67,10 +69,10 @@ RECORDS_OF_BEFORE = [
 INSTALLED = "/usr/lib/python3/dist-packages/ljclient/__init__.py\n"
 
 
-def making(folder: Any, programs: Any, **words: Any) -> Any:
+def making(folder: Any, programs: Any, *words: Any, **settings: Any) -> Any:
     """packaging/deb, begun."""
-    environment: Dict[str, Any] = {**os.environ, "PYTHONDONTWRITEBYTECODE": "1", **words}
-    command = [sys.executable, TOP / "packaging" / "deb", programs, folder]
+    environment: Dict[str, Any] = {**os.environ, "PYTHONDONTWRITEBYTECODE": "1", **settings}
+    command = [sys.executable, TOP / "packaging" / "deb", *words, programs, folder]
     return subprocess.Popen(command, env=environment, stdout=subprocess.PIPE, stderr=subprocess.PIPE, text=True)
 
 
@@ -84,6 +86,7 @@ def programs(tmp_path_factory: pytest.TempPathFactory) -> Any:
     folder = tmp_path_factory.mktemp("programs")
     shutil.copy(PROGRAM, folder / "ljserve-v2")
     put(folder / "ljserve-v3", STAND_IN)
+    (folder / "VERSION").write_text(IDENTITY)
     return folder
 
 
@@ -299,7 +302,7 @@ def check_taking_over(root: Any) -> None:
     (folder / "user.journal").write_bytes(kept)
     root.put("var/lib/ljserve/status.json", STATUS_OF_BEFORE)
     root.run("chown", "--recursive", "ljserve:", "/var/lib/ljserve")
-    assert "its status is of a keep of before" in root.run("ljserve-keep", "--status", "/var/lib/ljserve", status=1)
+    assert "its status is of an older keep" in root.run("ljserve-keep", "--status", "/var/lib/ljserve", status=1)
     service = Service(root, "ljserve-keep.service")
     assert root.run("python3", "-c", CONNECT + GO_ON) == INSTALLED + "2 (1774, 0, 0)\n"
     assert root.run("ljserve-keep", "--status", "/var/lib/ljserve").startswith("runs since ")
@@ -313,7 +316,7 @@ def check_installation(root: Any, packages: Any) -> Any:
     assert asked(root) == [("start", "ljserve-keep.service")]
     token = token_in(root)
     assert token not in (EXAMPLES / "users").read_text()
-    assert root.run("ljserve", "--version").splitlines()[0] == f"ljserve {VERSION}"
+    assert root.run("ljserve", "--version").startswith(f"{IDENTITY}cpu x86-64-v3\nsha256 ")
     dimer = (EXAMPLES / "dimer.txt").read_text(), (EXAMPLES / "dimer.replies").read_text()
     assert root.run("ljserve", given=dimer[0]) == root.run("ljclient", given=dimer[0]) == dimer[1]
     for tool in TOOLS:
@@ -357,17 +360,54 @@ def check_purge(root: Any) -> None:
         assert not (root.path / path).exists()
 
 
+# For arm64, it tells its version, and of itself and of each of its commands the words that a page of the manual is made of.
+FOR_ARM64 = f"""
+#include <stdio.h>
+#include <string.h>
+int main(int count, char **words) {{
+    if (!strcmp(words[count - 1], "--version")) return puts("ljserve {VERSION}") < 0;
+    printf("Answers on arm64 alone.\\n\\nUsage: ljserve %s\\n\\n", count > 2 ? words[1] : "");
+    return puts("Options:\\n  -h, --help  Prints help") < 0;
+}}
+"""
+
+
+@pytest.mark.skipif(
+    not all(map(shutil.which, ("aarch64-linux-gnu-gcc", "qemu-aarch64"))), reason="no C compiler for arm64, or no qemu-aarch64"
+)
+def test_the_package_for_arm64(tmp_path: pathlib.Path) -> None:
+    """The manual is made here, of what the program for arm64 says by qemu, and the needs are those of a machine of arm64."""
+    (tmp_path / "programs").mkdir()
+    words = ["aarch64-linux-gnu-gcc", "-s", "-pie", "-Wl,-z,relro,-z,now", "-x", "c", "-"]
+    words += ["-o", str(tmp_path / "programs" / "ljserve-arm64")]
+    subprocess.run(words, input=FOR_ARM64, text=True, check=True, timeout=SECONDS)
+    (tmp_path / "programs" / "VERSION").write_text(IDENTITY)
+    process = making(tmp_path / "packages", tmp_path / "programs", "--machine", "arm64")
+    out, err = process.communicate(timeout=20 * SECONDS)
+    name = SERVER.replace("amd64", "arm64")
+    assert (process.returncode, out) == (0, f"{name}\n"), err
+    package = tmp_path / "packages" / name
+    files = files_of(package)
+    assert [path for path in files if re.match("/usr/libexec/.", path)] == ["/usr/libexec/ljserve-arm64"]
+    fields = told("dpkg-deb", "--show", "--showformat=${Architecture} ${Depends}", str(package))
+    assert fields.startswith("arm64 ") and re.search(r", libc6 \(>= [\d.]+\)", fields) and ":arm64" not in fields
+    told("dpkg-deb", "--extract", str(package), str(tmp_path / "tree"))
+    assert (tmp_path / "tree/usr/share/ljserve/VERSION").read_text() == IDENTITY
+    assert b"Answers on arm64 alone." in gzip.decompress((tmp_path / "tree/usr/share/man/man1/ljserve.1.gz").read_bytes())
+    done = subprocess.run(["lintian", "--fail-on", "error,warning", package], capture_output=True, text=True, timeout=20 * SECONDS)
+    assert (done.returncode, done.stdout) == (0, ""), done
+
+
 def test_programs_that_do_not_fit(tmp_path: pathlib.Path) -> None:
     put(tmp_path / "ljserve-v2", "#!/bin/sh\necho hello\n")
     process = making(tmp_path / "packages", tmp_path)
     out, err = process.communicate(timeout=4 * SECONDS)
-    assert (process.returncode, out, "is not a built ljserve: it tells no version" in err) == (70, "", True)
+    assert (process.returncode, out, "must be a built ljserve, got a program that shows no version" in err) == (70, "", True)
     assert not (tmp_path / "packages").exists()
 
 
 def test_a_release_has_them() -> None:
     """bin/release makes them of what it has unpacked, with programs that are linked for Debian."""
     script = (TOP / "bin" / "release").read_text()
-    assert '/packaging/deb" "$work/programs" "$work/debs"' in script
-    assert 'link_for_debian crates/ljserve/out/ljserve.o "$work/programs/ljserve-v2"' in script
-    assert 'link_for_debian crates/ljserve/out/v3/ljserve.o "$work/programs/ljserve-v3"' in script
+    assert 'link_all "$1" "$work/programs/$1" "${of_debian[@]}"\n' in script
+    assert 'make_packages deb "the Debian packages" --machine "$1" "$work/programs/$1" "$work/debs/$1"\n' in script

@@ -77,19 +77,19 @@ class Users(unittest.TestCase):
             self.assertEqual(os.stat(slips).st_mode & 0o777, 0o600)
             status, out, err = told(*words)
             self.assertEqual((status, out), (1, ""))
-            self.assertIn(f"users: {slips} is there already", err)
+            self.assertIn(f"users: cannot write {slips}: it exists already", err)
 
     def test_words_that_say_no_users(self) -> None:
         cases: List[Any] = [
-            ([], "say how many"),
-            (["0"], "1 to 64"),
-            (["65"], "1 to 64"),
-            (["a b"], "no name"),
+            ([], "the users must be given once"),
+            (["0"], "from 1 to 64, got 0"),
+            (["65"], "from 1 to 64, got 65"),
+            (["a b"], "a name must be 1 to 16"),
             (["ann", "ann"], "twice"),
-            (["x" * 17], "no name"),
+            (["x" * 17], "a name must be 1 to 16"),
             (["3", "--quota", "65", "1", "1"], "0 to 64"),
             (["3", "--server", "x"], "HOST:PORT"),
-            (["3", "--check", "x"], "say how many"),
+            (["3", "--check", "x"], "the users must be given once"),
             (["--quota"], "expected 3"),
         ]
         for words, why in cases:
@@ -110,28 +110,28 @@ class Checks(unittest.TestCase):
     """Each fault is said with its line and its cause, and the first line is the one that the program refuses."""
 
     CASES = [
-        (GOOD.replace("\n", "\r\n"), 1, "lines of Windows"),
-        ("# class\r\n\n" + GOOD + "\r\n", 4, "lines of Windows"),
+        (GOOD.replace("\n", "\r\n"), 1, "must end with LF, got CR LF"),
+        ("# class\r\n\n" + GOOD + "\r\n", 4, "must end with LF, got CR LF"),
         (b"\xef\xbb\xbf# class\n" + GOOD.encode(), 1, "byte order mark"),
-        (GOOD + f"ben {TOKEN[1:]} 8 16384 16\n", 2, "too short: it has 31 characters"),
-        (GOOD + f"ben {TOKEN}a 8 16384 16\n", 2, "too long: it has 33 characters"),
-        (f"ann {TOKEN[1:]}! 8 16384 16\n", 1, "something else than letters and digits"),
-        (f"ann {TOKEN} 8 16384\n", 1, "it has 4 words, and not 5"),
-        (f"ann {TOKEN} 8 16384 16 # ann\n", 1, "it has 7 words"),
-        ("ann\n", 1, "it has 1 word, and not 5"),
-        (" # class\n", 1, "it has 2 words"),
-        (f"an.n {TOKEN} 8 16384 16\n", 1, "the name is not"),
-        (f"{'n' * 17} {TOKEN} 8 16384 16\n", 1, "the name is not"),
-        (GOOD + "\n" + GOOD, 3, "the name ann is that of line 1"),
-        (f"ann {TOKEN} 65 16384 16\n", 1, "65 sessions are more than 64"),
-        (f"ann {TOKEN} 8 65537 16\n", 1, "65537 atoms are more than 65536"),
-        (f"ann {TOKEN} 8 16384 257\n", 1, "257 branches are more than 256"),
-        (f"ann {TOKEN} -1 16384 16\n", 1, "the number of sessions is no whole number"),
-        (f"ann {TOKEN} 8 {'0' * 20} 16\n", 1, "the number of atoms is no whole number"),
-        (many(65), 65, "there are 64 users already"),
-        ("", 1, "there is no user"),
-        ("# class\n\n", 3, "there is no user"),
-        ("# class", 2, "there is no user"),
+        (GOOD + f"ben {TOKEN[1:]} 8 16384 16\n", 2, "a token must have 32 characters, got 31"),
+        (GOOD + f"ben {TOKEN}a 8 16384 16\n", 2, "a token must have 32 characters, got 33"),
+        (f"ann {TOKEN[1:]}! 8 16384 16\n", 1, "a token must be letters and digits, got other characters"),
+        (f"ann {TOKEN} 8 16384\n", 1, "a line must have 5 words (name, token, sessions, atoms, branches), got 4"),
+        (f"ann {TOKEN} 8 16384 16 # ann\n", 1, "must have 5 words (name, token, sessions, atoms, branches), got 7"),
+        ("ann\n", 1, "a line must have 5 words (name, token, sessions, atoms, branches), got 1"),
+        (" # class\n", 1, "must have 5 words (name, token, sessions, atoms, branches), got 2"),
+        (f"an.n {TOKEN} 8 16384 16\n", 1, "a name must be 1 to 16 of"),
+        (f"{'n' * 17} {TOKEN} 8 16384 16\n", 1, "a name must be 1 to 16 of"),
+        (GOOD + "\n" + GOOD, 3, "each name must come once, got ann, which line 1 has too"),
+        (f"ann {TOKEN} 65 16384 16\n", 1, "the sessions of a user must be at most 64, got 65"),
+        (f"ann {TOKEN} 8 65537 16\n", 1, "the atoms of a user must be at most 65536, got 65537"),
+        (f"ann {TOKEN} 8 16384 257\n", 1, "the branches of a user must be at most 256, got 257"),
+        (f"ann {TOKEN} -1 16384 16\n", 1, "the number of sessions must be a whole number"),
+        (f"ann {TOKEN} 8 {'0' * 20} 16\n", 1, "the number of atoms must be a whole number"),
+        (many(65), 65, "a server must have at most 64 users, got more"),
+        ("", 1, "a file must have at least one user, got none"),
+        ("# class\n\n", 3, "a file must have at least one user, got none"),
+        ("# class", 2, "a file must have at least one user, got none"),
     ]
 
     def test_each_fault(self) -> None:
@@ -152,7 +152,7 @@ class Checks(unittest.TestCase):
     def test_a_token_of_two_users(self) -> None:
         """Each of both would come in as the other. The program takes such a file."""
         with file_of(f"{GOOD}# a comment\nben {'b' * 32} 1 1 1\ncleo {TOKEN} 8 16384 16\ndan {TOKEN} 1 1 1\n") as path:
-            why = "the token is that of line 1, and each user has its own"
+            why = "each user must have a token of its own, got the one of line 1"
             self.assertEqual(told("--check", path), (1, f"{path}: line 4: {why}\n{path}: line 5: {why}\n", ""))
             self.assertEqual(self.begins(path), (1, "ljserve: cannot listen\n"))
 

@@ -174,12 +174,16 @@ WRONG = {
     "one of two is none": (["ann", "cleo", "--change", "--quota", "1", "1", "1"], 1, "has no user cleo"),
     "one of two is there": (["cleo", "ann"], 1, "has a user ann already"),
     "no new token": (["cleo", "--renew"], 1, "has no user cleo"),
-    "no quota": (["ann", "--change"], 2, "--change goes with --quota, and --renew, --remove, --list and --from without"),
-    "a quota too large": (["ann", "--change", "--quota", "65", "1", "1"], 2, "a user has 0 to 64 sessions, not 65"),
-    "two changes": (["ann", "--remove", "--renew"], 2, "--store goes with one of --renew, --change, --remove, --list and --from"),
-    "no name": (["--remove"], 2, "say how many users there are, or their names"),
-    "slips of no token": (["ann", "--remove", "--slips", "x"], 2, "--slips goes with new tokens"),
-    "a name that is none": (["a.b"], 2, "'a.b' is no name: 1 to 16 of A-Z a-z 0-9 _ -"),
+    "no quota": (["ann", "--change"], 2, "--change must come with --quota, and --renew, --remove, --list and --from without"),
+    "a quota too large": (["ann", "--change", "--quota", "65", "1", "1"], 2, "the sessions of a user must be from 0 to 64, got 65"),
+    "two changes": (
+        ["ann", "--remove", "--renew"],
+        2,
+        "--store must come without --out, --servers and --check, and with at most one of --renew",
+    ),
+    "no name": (["--remove"], 2, "the users must be given once; use COUNT, NAME.."),
+    "slips of no token": (["ann", "--remove", "--slips", "x"], 2, "--slips must come with new tokens"),
+    "a name that is none": (["a.b"], 2, "a name must be 1 to 16 of A-Z a-z 0-9 _ -, got 'a.b'"),
 }
 
 
@@ -202,7 +206,7 @@ def test_what_is_wrong_is_told_and_changes_nothing(store: Any, words: Any, statu
 
 def test_slips_that_cannot_be_written_add_nobody(store: Any, tmp_path: pathlib.Path) -> None:
     (tmp_path / "slips").write_text("precious")
-    for path, why in ((tmp_path / "slips", "is there already"), (tmp_path / "none" / "slips", "No such file or directory")):
+    for path, why in ((tmp_path / "slips", "it exists already"), (tmp_path / "none" / "slips", "No such file or directory")):
         status, out, err = users("cleo", "--store", store, "--slips", path)
         assert (status, out) == (1, "") and why in err
     assert (tmp_path / "slips").read_text() == "precious"
@@ -212,7 +216,7 @@ def test_slips_that_cannot_be_written_add_nobody(store: Any, tmp_path: pathlib.P
 def test_a_file_with_a_fault_adds_nobody(store: Any, tmp_path: pathlib.Path) -> None:
     (tmp_path / "users").write_text(f"cleo {TOKEN} 1 1 1\nben short 1 1 1\n")
     status, out, err = users("--store", store, "--from", tmp_path / "users")
-    assert (status, out) == (1, "") and "line 2: the token is too short" in err
+    assert (status, out) == (1, "") and "line 2: a token must have 32 characters, got " in err
     assert users("--store", store, "--list")[1] == "ann 8 16384 16\n"
 
 
@@ -221,7 +225,7 @@ def test_a_store_that_is_not_there(tmp_path: pathlib.Path) -> None:
     assert users("--store", none, "--list")[0] == 1 and not none.exists()
     status, _, err = users("--store", "postgresql://127.0.0.1:1/none", "--list")
     assert status == 1 and err.startswith("users: ")
-    assert users("--list") == (2, "", "users: --renew, --change, --remove, --list and --from go with --store STORE\n")
+    assert users("--list") == (2, "", "users: --renew, --change, --remove, --list and --from must come with --store STORE\n")
 
 
 def test_putting_aside_moves_nothing_of_who_is_a_user_anew(store: Any, tmp_path: pathlib.Path, monkeypatch: pytest.MonkeyPatch) -> None:
@@ -261,4 +265,4 @@ def test_changes_are_read_by_their_numbers(store: Any, tmp_path: pathlib.Path) -
 def test_a_front_needs_users_of_a_store_or_of_a_file(tmp_path: pathlib.Path) -> None:
     tool = [sys.executable, str(TOP / "tools" / "keep"), "127.0.0.1:0", str(tmp_path / "kept"), "--", PROGRAM, "serve"]
     done = subprocess.run(tool, capture_output=True, text=True, timeout=SECONDS)
-    assert done.returncode == 2 and "has no users: add some by `tools/users --store" in done.stderr and not list(tmp_path.iterdir())
+    assert done.returncode == 2 and "has no users; use `tools/users --store" in done.stderr and not list(tmp_path.iterdir())

@@ -38,7 +38,7 @@ def test_both_have_the_same_liquid(tmp_path: pathlib.Path) -> None:
     """The energies differ by what the program's table is off, and by no more; a liquid of another energy is noticed."""
     words: List[Any] = [sys.executable, "-B", "-c", TRIED, STEP, PROGRAM]
     done = subprocess.run(words, cwd=tmp_path, capture_output=True, text=True, timeout=20 * SECONDS)
-    assert (done.returncode, done.stderr) == (1, "the energies differ\n")
+    assert done.returncode == 1 and done.stderr.startswith("step: the energies must agree within 0.005, got ")
     energies, *lines, _ = done.stdout.splitlines()
     by_lammps, ours, temperature = map(float, re.findall(r"-?\d+\.\d+", energies))
     assert abs(by_lammps - ours) < 0.0025 and abs(temperature - 0.69) < 0.02
@@ -47,13 +47,17 @@ def test_both_have_the_same_liquid(tmp_path: pathlib.Path) -> None:
         "True True",
         "True LAMMPS, lj/cut",
         "True LAMMPS, lj/cut/opt",
-        "True run, in the order of space",
-        "True run, shuffled",
-        'True client, order="space"',
+        "True ljserve run, atoms sorted in space",
+        "True ljserve run, atoms shuffled",
+        'True Python client with order="space"',
     ]
 
 
 def test_without_lammps(tmp_path: pathlib.Path) -> None:
     words: List[Any] = [sys.executable, "-B", STEP, PROGRAM]
     done = subprocess.run(words, env={"PATH": str(tmp_path)}, capture_output=True, text=True, timeout=SECONDS)
-    assert (done.returncode, done.stdout, done.stderr) == (69, "", "step: there is no lmp, which Debian's lammps has\n")
+    assert (done.returncode, done.stdout, done.stderr) == (
+        69,
+        "",
+        "step: cannot measure: lmp is not installed; use apt-get install lammps\n",
+    )

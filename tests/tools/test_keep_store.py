@@ -241,7 +241,7 @@ def test_a_file_that_is_no_store(tmp_path: pathlib.Path) -> None:
 def test_a_store_of_another_format(where: Any) -> None:
     where.base().close()
     where.change("pragma user_version=9" if isinstance(where, InSqlite) else "update format set number = 9")
-    with pytest.raises(StoreFault, match="has format 9, and this program has 3"):
+    with pytest.raises(StoreFault, match="must have format 3, got 9"):
         where.base()
 
 
@@ -292,7 +292,7 @@ def test_journals_are_taken_over_once_and_moved(tmp_path: pathlib.Path) -> None:
 def test_a_status_of_before(tmp_path: pathlib.Path) -> None:
     (tmp_path / "status.json").write_text(STATUS_OF_BEFORE)
     done = keep("--status", tmp_path)
-    cause = "its status is of a keep of before, which may still run there: begin this one in its place"
+    cause = "its status is of an older keep, which may still run there; start this keep instead"
     assert (done.returncode, done.stdout, done.stderr) == (1, "", f"keep: cannot read {tmp_path}: {cause}\n")
 
 
@@ -328,7 +328,7 @@ def test_a_copy_of_the_store(full: Any, tmp_path: pathlib.Path) -> None:
     assert os.listdir(other.place) == [FILE]
     assert whole(other) == whole(full) and whole(other, "ben") == whole(full, "ben")
     done = keep(full.place, "--backup", copy)
-    assert (done.returncode, done.stderr) == (1, f"keep: {copy} is there already: name another file\n")
+    assert (done.returncode, done.stderr) == (1, f"keep: cannot write {copy}: it exists already; use another name\n")
 
 
 def test_a_repair_says_what_goes_and_cuts_there(full: Any) -> None:
@@ -353,7 +353,7 @@ def test_a_repair_of_a_snapshot(full: Any) -> None:
     done = keep(full.place, "--repair", "ann")
     assert (done.returncode, done.stdout) == (
         0,
-        "ann: 1 sessions and branches stay, and 2 go: those of records [1, 3]\n"
+        "ann: 1 sessions and branches stay, and 2 are removed: those of records [1, 3]\n"
         "ann: nothing else is damaged. What stays: 0 records\n"
         "  goes: REVERSE a: OK REVERSE a -1\n  goes: TUG a 0 1 0 0: OK TUG a 0 -1\n",
     )
@@ -381,7 +381,9 @@ def test_a_user_moves_to_another_store(full: Any, tmp_path: pathlib.Path, reques
     assert keep(other.place, "--import-user", file).stdout == f"{shown(other)} has ann now\n"
     assert whole(other) == whole(full)
     assert keep(other.place, "--export", "ann").stdout == done.stdout
-    assert keep(other.place, "--import-user", file).stderr == f"keep: {shown(other)} has something of ann already\n"
+    assert (
+        keep(other.place, "--import-user", file).stderr == f"keep: cannot import ann: {shown(other)} has something of this user already\n"
+    )
 
 
 FILES = {
@@ -396,17 +398,17 @@ def test_a_file_that_is_not_what_was_printed(full: Any, tmp_path: pathlib.Path, 
     file = tmp_path / "ann.json"
     file.write_text(changed(keep(full.place, "--export", "ann").stdout))
     done = keep(tmp_path / "other", "--import-user", file)
-    assert (done.returncode, done.stderr) == (1, f"keep: {file} was changed, or is of another format than 'ljserve user 2'\n")
+    assert (done.returncode, done.stderr) == (1, f"keep: cannot import {file}: it was changed, or its format is not 'ljserve user 2'\n")
     file.write_text("{}")
-    assert "is not what --export prints" in keep(tmp_path / "other", "--import-user", file).stderr
+    assert "it is not a file of --export" in keep(tmp_path / "other", "--import-user", file).stderr
     assert not (tmp_path / "other").exists()
 
 
 def test_what_cannot_be_done(full: Any, tmp_path: pathlib.Path) -> None:
-    assert keep(tmp_path, "--export", "ann").stderr.startswith(f"keep: {tmp_path} has no store")
-    assert keep(full.place, "--export", "cleo").stderr == f"keep: {shown(full)} has nothing of cleo\n"
+    assert keep(tmp_path, "--export", "ann").stderr.startswith(f"keep: cannot use {tmp_path}: it has no store")
+    assert keep(full.place, "--export", "cleo").stderr == f"keep: cannot export cleo: {shown(full)} has nothing of this user\n"
     full.change("delete from record where name = 'ann' and seq = 1")
-    why = "keep: what is kept of ann is damaged: record 1 was changed or is missing\n"
+    why = "keep: cannot export ann: the store is damaged (record 1 was changed or is missing); use --repair ann\n"
     assert keep(full.place, "--export", "ann").stderr == why
     none = tmp_path / "none"
     assert keep(full.place, "--import-user", none).stderr == f"keep: cannot read {none}: No such file or directory\n"
