@@ -11,9 +11,9 @@
         argon.reverse()
         assert (argon.places() == start).all()
 
-`user.advance(sessions, n)` has several sessions go on at the same time, and `session.start(n)` does not wait.
+`user.advance(sessions, n)` advances several sessions at the same time, and `session.start(n)` does not wait.
 
-`connect(host, port, name, token)` in place of `run()` speaks to a server. Each refusal is a class of `ljclient.refusals`.
+`connect(host, port, name, token)` connects to a server instead. Each refusal is a class of `ljclient.refusals`.
 """
 import sys
 from types import ModuleType
@@ -27,21 +27,36 @@ if TYPE_CHECKING:
     from .arrays import distance, least_images
     from .energy_watch import EnergyWarning
     from .ensemble import Job, ensemble
-    from .errors import BadReply, CannotStart, ClientError, Closed, ConnectionLost, Damaged, Missing, NotRecorded, Refused, TimedOut
+    from .errors import (
+        BadReply,
+        CannotStart,
+        ClientError,
+        Closed,
+        ConnectionLost,
+        Damaged,
+        Missing,
+        NotRecorded,
+        Refused,
+        TimedOut,
+        Undecided,
+    )
     from .leftovers import LeftWarning
     from .measurement import Measurement
     from .mixture import Mixture
     from .motion import Motion
     from .order import Order
     from .sampling import Samples
-    from .session import Row, Saved, Session
+    from .replies import Row, Saved
+    from .session import Session
     from .snapshots import Snapshot
+    from .study import Study, study
     from .thermo import Thermo, ThermoInElectronvolt, ThermoInKelvin
     from .transport import PlainTextWarning
     from .units import Scale
-    from .user import User, connect, run
+    from .connecting import connect, run
+    from .user import User
 
-__version__ = "1.1.0"
+__version__ = "2.0.0"
 
 __all__ = [
     "BadReply",
@@ -67,10 +82,12 @@ __all__ = [
     "Scale",
     "Session",
     "Snapshot",
+    "Study",
     "Thermo",
     "ThermoInElectronvolt",
     "ThermoInKelvin",
     "TimedOut",
+    "Undecided",
     "User",
     "connect",
     "distance",
@@ -80,12 +97,14 @@ __all__ = [
     "reversal",
     "run",
     "state_points",
+    "study",
     "units",
 ]
 
 # The modules that have the names of `__all__`, each of which is imported when one of its names is first asked for.
 _NAMES = {
     "arrays": ("distance", "least_images"),
+    "connecting": ("connect", "run"),
     "energy_watch": ("EnergyWarning",),
     "ensemble": ("Job", "ensemble"),
     "errors": (
@@ -99,6 +118,7 @@ _NAMES = {
         "NotRecorded",
         "Refused",
         "TimedOut",
+        "Undecided",
     ),
     "leftovers": ("LeftWarning",),
     "measurement": ("Measurement",),
@@ -106,12 +126,14 @@ _NAMES = {
     "motion": ("Motion",),
     "order": ("Order",),
     "sampling": ("Samples",),
-    "session": ("Row", "Saved", "Session"),
+    "replies": ("Row", "Saved"),
+    "session": ("Session",),
     "snapshots": ("Snapshot",),
+    "study": ("Study", "study"),
     "thermo": ("Thermo", "ThermoInElectronvolt", "ThermoInKelvin"),
     "transport": ("PlainTextWarning",),
     "units": ("Scale",),
-    "user": ("User", "connect", "run"),
+    "user": ("User",),
 }
 _MODULE_OF = {name: module for module, names in _NAMES.items() for name in names}
 

@@ -1,4 +1,5 @@
-"""`python3 -m ljclient` is a prompt, `python3 -m ljclient view` a live view, and `python3 -m ljclient verify` plays a record.
+"""`python3 -m ljclient` is a prompt, `python3 -m ljclient view` a live view, `python3 -m ljclient verify` plays a record,
+`python3 -m ljclient diff` compares two; `python3 -m ljclient check` marks one of a lesson.
 
 Installed, it is the command `ljclient` too.
 """
@@ -22,6 +23,14 @@ def main(words: Optional[List[str]] = None) -> int:
             from . import verify
 
             return verify.main(words[1:])
+        if words[:1] == ["diff"]:
+            from . import record_diff
+
+            return record_diff.main(words[1:])
+        if words[:1] == ["check"]:
+            from . import marking
+
+            return marking.main(words[1:])
         from . import prompt
 
         return prompt.main(words)

@@ -28,7 +28,7 @@ LONG_TEXT = 10_000
 
 
 def __getattr__(name: str) -> Any:
-    """`numpy`, or None where it is not installed. It is imported when it is first asked for, which takes as long as all else."""
+    """`numpy`, or None if it is not installed. It is imported when it is first asked for, which takes as long as all else."""
     if name != "numpy":
         raise AttributeError(f"module {__name__!r} has no attribute {name!r}")
     # By its name, so that types are the same where it is installed and where not.
@@ -151,7 +151,18 @@ def farthest(images: Any) -> Any:
 
 
 def least_images(places: Rows, others: Rows) -> IntArray:
-    """The differences `places - others` round the box the nearer way, in ring units: -2^31 to 2^31 - 1 along each axis."""
+    """The differences `places - others` round the box the nearer way.
+
+    Parameters
+    ----------
+    places, others : numpy.ndarray of int, shape (atoms, 3)
+        Places in ring units, or lists of tuples.
+
+    Returns
+    -------
+    numpy.ndarray of int, shape (atoms, 3)
+        In ring units: -2^31 to 2^31 - 1 along each axis. A list of tuples if numpy is not installed.
+    """
     numpy = _numpy()
     if numpy is None:
         images = [tuple((a - b + HALF) % RING - HALF for a, b in zip(*pair)) for pair in zip(places, others)]
@@ -161,6 +172,17 @@ def least_images(places: Rows, others: Rows) -> IntArray:
 
 
 def distance(places: Rows, others: Rows) -> float:
-    """The root mean square distance of atoms between two lists of places, in ring units, each round the box the nearer way."""
+    """The root mean square distance of atoms between two lists of places, each round the box the nearer way.
+
+    Parameters
+    ----------
+    places, others : numpy.ndarray of int, shape (atoms, 3)
+        Places in ring units, or lists of tuples.
+
+    Returns
+    -------
+    float
+        In ring units.
+    """
     squares = [sum(float(part) ** 2 for part in image) for image in least_images(places, others)]
     return math.sqrt(sum(squares) / len(squares)) if squares else 0.0

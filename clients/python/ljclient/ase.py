@@ -29,7 +29,8 @@ from .names import count_of
 from .session import Session
 from .units import RING
 from .unwrapping import Path
-from .user import User, run
+from .connecting import run
+from .user import User
 
 WHY = "ljclient.ase needs"
 _Driver: Any = optional.ase("ase.md.md", WHY).MolecularDynamics
@@ -44,29 +45,53 @@ MOST_STEPS = 100
 class ReversibleVerlet(_Driver):  # type: ignore[misc]
     """Molecular dynamics of Lennard-Jones atoms by `ljserve`, as a driver of ASE.
 
-    atoms           the atoms, in a periodic cubic cell, without constraints, all of one mass. They are moved
-    timestep        the time step in ASE's unit of time, such as `2 * ase.units.fs`
-    trajectory      a `Trajectory` of ASE, or the name of its file, which is written each `loginterval` steps: anew, or behind
-                    what it has with `append_trajectory=True`
-    logfile         a file, its name or "-", which ASE's `MDLogger` writes each `loginterval` steps
-    sigma, epsilon  of atoms that are all alike: the distance in angstrom and the depth of the potential in electronvolt. They
-                    have one symbol, whichever it is
-    species         of a mixture the two symbols; then `first`, `second` and `mixed` are (sigma, epsilon), as in `User.load_mix`
-    mass            the mass in dalton that each atom is given; if it is not said, they keep theirs
-    user            whose session it is, as `connect(..)` gives one; else a program of its own is started
-    name            the name of the session, in place of one of that name
+    `attach`, `run`, `irun`, `step`, `nsteps` and `get_time` are as in ASE. Attached functions are called at their intervals; the steps
+    between are made by commands of at most 100 steps. When a function is called, the atoms have the positions and momenta of the step,
+    and energy and forces by a `SinglePointCalculator`. Positions continue outside the cell if atoms leave it.
 
-    `attach`, `run`, `irun`, `step`, `nsteps` and `get_time` are as in ASE. What is attached is called at each interval, and the
-    steps between go in one command, of 100 at most. The atoms have the positions and momenta of the step then, and energy and
-    forces by a `SinglePointCalculator`. Positions go on where an atom leaves the cell.
+    If your script changes the atoms between two steps, for example by `MaxwellBoltzmannDistribution`, they are loaded again before the
+    next step. A reversed run returns to this change at most. A constraint that is added on the way raises a ValueError at the next step.
 
-    Who changes the atoms on the way, as by `MaxwellBoltzmannDistribution`, has them loaded anew before the next step. The way
-    back leads there, and no further. A constraint on the way is a ValueError of the next step.
+    Parameters
+    ----------
+    atoms : ase.Atoms
+        The atoms, in a periodic cubic cell, without constraints, and with equal masses. The driver moves them.
+    timestep : float
+        The time step in ASE's unit of time, such as `2 * ase.units.fs`.
+    trajectory : ase.io.Trajectory or str, optional
+        A file for frames, one every `loginterval` steps. It is replaced, or with `append_trajectory=True` extended.
+    logfile : file or str, optional
+        A file, its name or "-", to which ASE's `MDLogger` writes every `loginterval` steps.
+    loginterval : int, optional
+        As in ASE.
+    append_trajectory : bool, optional
+        As in ASE.
+    sigma, epsilon : float, optional
+        For atoms with the same symbol: the distance in angstrom and the depth of the potential in electronvolt.
+    species : sequence of str, optional
+        The two symbols of a mixture.
+    first, second, mixed : tuple of float, optional
+        For a mixture: pairs of sigma and epsilon, as in `User.load_mix`.
+    mass : float, optional
+        The new mass of each atom in dalton. By default atoms keep their masses.
+    user : User, optional
+        The user for the session, from `connect(..)` or `run()`. By default a new program is started.
+    name : str, optional
+        The name of the session. It replaces a session of this name.
 
-    session         the session, at the step of the atoms; it counts steps back after `reverse`, where `nsteps` counts on
-    dt              the time step that the simulation has, since it is rounded, in ASE's unit
+    Attributes
+    ----------
+    session : Session
+        The session, at the step of the atoms. After `reverse` its step numbers fall, while `nsteps` rises.
+    dt : float
+        The rounded time step of the simulation, in ASE's unit.
 
-    Raises ValueError for atoms that are none of this kind, and `ClientError` as `run` and `User.load` do.
+    Raises
+    ------
+    ValueError
+        If the atoms are not as described under `atoms`.
+    ClientError
+        As `run` and `User.load` do.
     """
 
     def __init__(
@@ -100,26 +125,59 @@ class ReversibleVerlet(_Driver):  # type: ignore[misc]
         self.dt: float = self.session.scale.time(1) / TIME_UNIT
 
     def run(self, steps: int = 50) -> bool:
-        """Makes so many steps, and calls what is attached at its intervals. Returns True, as other drivers of `ase.md` do."""
+        """Makes steps, and calls the attached functions at their intervals.
+
+        Parameters
+        ----------
+        steps : int, optional
+            The number of steps.
+
+        Returns
+        -------
+        bool
+            True, as other drivers of `ase.md` return.
+        """
         for _ in self._going(steps, MOST_STEPS):
             pass
         return True
 
     def irun(self, steps: int = 50) -> Iterator[bool]:
-        """As `run`, and stops after each step before what is attached is called, so that the atoms can be looked at or changed."""
+        """Makes steps as `run`, and yields after each step, before attached functions are called, so that you can read or change the atoms.
+
+        Parameters
+        ----------
+        steps : int, optional
+            The number of steps.
+
+        Returns
+        -------
+        iterator of bool
+            One for each step.
+        """
         return self._going(steps, 1)
 
     def step(self, forces: Any = None) -> Any:
-        """Makes one step, calls nothing that is attached, and returns the forces."""
+        """Makes one step, and calls no attached function.
+
+        Parameters
+        ----------
+        forces : object, optional
+            As in ASE; it is ignored.
+
+        Returns
+        -------
+        numpy.ndarray, shape (atoms, 3)
+            The forces.
+        """
         self._take_up()
         self.session.advance(1)
         self._show()
         return self.atoms.get_forces()
 
     def reverse(self) -> None:
-        """Turns the motion back: each atom stays where it is, and has the opposite momentum.
+        """Reverses the motion: each atom stays where it is, and gets the opposite momentum.
 
-        `run(n)`, `reverse()`, `run(n)` and `reverse()` give back positions and momenta to the bit.
+        `run(n)`, `reverse()`, `run(n)` and `reverse()` restore positions and momenta, bit for bit.
         """
         self._take_up()
         self.session._step_and_turn()
@@ -127,7 +185,7 @@ class ReversibleVerlet(_Driver):  # type: ignore[misc]
 
     def _going(self, steps: int, most: int) -> Iterator[bool]:
         """Makes steps, and stops where something attached is called, and after so many steps at the latest."""
-        self.max_steps = self.nsteps + count_of(steps, "a number of steps")
+        self.max_steps = self.nsteps + count_of(steps, "the number of steps")
         self._take_up()
         yield False
         if self.nsteps == 0:
@@ -142,12 +200,12 @@ class ReversibleVerlet(_Driver):  # type: ignore[misc]
 
     def _advance(self, count: int) -> None:
         """Makes so many steps. If they are broken off, those that were made count, and the atoms are as the session is."""
-        start = self.session.step
+        start = self.session.get_step()
         try:
             self.session.advance(count)
         finally:
-            if self.session.is_free:
-                self.nsteps += abs(self.session.step - start)
+            if self.session._is_free:
+                self.nsteps += abs(self.session.get_step() - start)
                 self._show()
 
     def _steps_to_call(self) -> int:
@@ -172,7 +230,9 @@ class ReversibleVerlet(_Driver):  # type: ignore[misc]
         at_rest.set_momenta(None)
         is_mixture = "species" in self._words
         if not is_mixture and len(set(symbols)) > 1:
-            raise ValueError(f"the atoms have the symbols {', '.join(sorted(set(symbols)))}, and one sigma and epsilon: say {TWO_SPECIES}")
+            raise ValueError(
+                f"the atoms must have one symbol for one sigma and epsilon, got {', '.join(sorted(set(symbols)))}; use {TWO_SPECIES}"
+            )
         load: Any = self._user.load_mix if is_mixture else self._user.load
         self.session: Session = load(name, at_rest, symbols=symbols, order="space", replace=True, **self._words)
         three, ring = three_frames(self._user, name), RING / self.session.edge
@@ -195,7 +255,7 @@ class ReversibleVerlet(_Driver):  # type: ignore[misc]
         self._shown = atoms.copy()
 
     def _take_up(self) -> None:
-        """Loads the atoms anew if they are no longer as they were shown. Whole cells, as of `atoms.wrap()`, are no change.
+        """Loads the atoms again if they are no longer as they were shown. Whole cells, as of `atoms.wrap()`, are no change.
 
         ValueError if they have constraints by now, or a cell that is not periodic.
         """
@@ -211,19 +271,19 @@ class ReversibleVerlet(_Driver):  # type: ignore[misc]
 
 
 def _mass_of(atoms: Any, mass: Optional[float]) -> float:
-    """The mass of each atom. Raises ValueError if they differ and none is said."""
+    """The mass of each atom. Raises ValueError if they differ and no mass is given."""
     if mass is not None:
         return mass
     masses = set(map(float, atoms.get_masses()))
     if len(masses) != 1:
-        raise ValueError(f"the atoms have {len(masses)} masses, and here all have one: say mass=")
+        raise ValueError(f"the atoms must all have one mass, got {len(masses)} masses; use mass=")
     return masses.pop()
 
 
 def _checked(atoms: Any) -> Any:
     """Atoms without constraints in a periodic cell. Raises ValueError for others."""
     if atoms.constraints:
-        raise ValueError("the atoms have constraints, which are not kept here: take them away, atoms.set_constraint()")
+        raise ValueError("the atoms must have no constraints, since they are not kept here; use atoms.set_constraint() to remove them")
     if not all(atoms.pbc):
-        raise ValueError("the cell is not periodic along each axis: say atoms.pbc = True")
+        raise ValueError(f"the cell must be periodic along each axis, got pbc={atoms.pbc.tolist()}; use atoms.pbc = True")
     return atoms

@@ -6,6 +6,7 @@ from typing import Any, Dict, List, Optional, Sequence
 
 from . import arrays
 from .elements import Replacements, replaced, wanted
+from .names import shortened
 from .reading import Places
 from .units import RING, Scale, time_unit
 
@@ -19,7 +20,9 @@ def potential_of(said: Dict[str, Any]) -> Dict[str, Any]:
     words = {name: value for name, value in said.items() if value is not None}
     two = {"species", "first", "second"}
     if words.keys() != {"sigma", "epsilon"} and not two <= words.keys() <= {*two, "mixed"}:
-        raise ValueError(f"say sigma= and epsilon=, or {TWO_SPECIES}")
+        raise ValueError(
+            f"sigma and epsilon must be given together, got {', '.join(words) or 'none of them'}; use sigma= and epsilon=, or {TWO_SPECIES}"
+        )
     return words
 
 
@@ -33,7 +36,7 @@ def edge_of(atoms: Any) -> float:
     cell = [[float(part) for part in row] for row in atoms.get_cell()]
     edge = cell[0][0]
     if not all(abs(cell[i][j] - edge * (i == j)) <= 1e-9 * abs(edge) for i in range(3) for j in range(3)) or edge <= 0:
-        raise ValueError("the cell of the atoms is not cubic; say edge=")
+        raise ValueError(f"the cell of the atoms must be cubic, got {shortened(cell)}; use edge=")
     return edge
 
 
@@ -56,9 +59,11 @@ def elements_of(symbols: Sequence[str], species: Sequence[str], replacements: Op
     unknown = sorted({*names, *(species if replacements is None else ())} - set(elements))
     if unknown and replacements is None:
         named = {*symbols, *species}
-        raise ValueError(f"ASE knows no element {unknown[0]!r}: say an element for each symbol of the session, {wanted(named)}")
+        raise ValueError(
+            f"a symbol must be an element of ASE, got {unknown[0]!r}; use {wanted(named)}, with an element for each symbol of the session"
+        )
     if unknown:
-        raise ValueError(f"ASE knows no element {unknown[0]!r}, which symbols= says: say the symbol of an element, such as 'Ar'")
+        raise ValueError(f"symbols= must give elements of ASE, such as 'Ar', got {unknown[0]!r}")
     return names
 
 

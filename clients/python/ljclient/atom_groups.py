@@ -4,6 +4,7 @@ from __future__ import annotations
 from typing import Any, List, Optional, Sequence
 
 from .ase_bridge import TIME_UNIT
+from .names import shortened
 
 PICOSECOND = 1000.0
 
@@ -29,7 +30,7 @@ class GroupAtoms:
         """The cell. ValueError if the frame has no box, or one that is not rectangular."""
         sides: Optional[Sequence[float]] = self._group.dimensions
         if sides is None or any(abs(float(angle) - 90) > 1e-3 for angle in sides[3:]):
-            raise ValueError(f"the box of the atoms is none along the axes, {sides!r}: say edge=")
+            raise ValueError(f"the box of the atoms must be along the axes, got {shortened(sides)}; use edge=")
         return [[float(sides[axis]) * (axis == other) for axis in range(3)] for other in range(3)]
 
     def get_velocities(self) -> Optional[List[List[float]]]:

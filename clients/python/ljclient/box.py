@@ -12,7 +12,8 @@ from . import arrays, frames
 from .errors import BadReply
 from .frames import MILLION, RING_EDGE
 from .order import Order, Place
-from .units import RING, Number, Scale, checked_positive, nano
+from .scalars import checked_positive, nano
+from .units import RING, Number, Scale
 from .warning import warn_caller
 
 if TYPE_CHECKING:
@@ -43,7 +44,7 @@ def take_up(user: "Loader", name: str, scale: Optional[Scale], order: Union[Orde
     The box is looked for if an edge is said that is not known yet, or an order of the box that shows each ring unit.
     Raises ValueError, and changes nothing, if the server has the session in another box than these.
     """
-    known = user.known(name)
+    known = user._known_of(name)
     said = certain(user, name, known.order if order is None else Order.of(order))
     on_ring, is_open = known.order.on_ring, known.is_box_open
     edge = None if scale is None else checked_positive("edge", scale.edge)
@@ -71,12 +72,12 @@ def certain(user: "Loader", name: str, order: Order) -> Order:
         return replace(order, doubt=None)
     if place == doubt.other:
         return replace(order, numbers=doubt.numbers, doubt=None)
-    raise ValueError(f"a connection was lost while {name} was sorted anew, and it has gone on since: its order is not known")
+    raise ValueError(f"cannot tell the order of {name}: a connection was lost while it was sorted, and it has gone on since; load it again")
 
 
 def settle(user: "Loader", name: str) -> None:
     """Looks once more for the box of a session, where its atoms have not told it yet."""
-    known = user.known(name)
+    known = user._known_of(name)
     if known.is_box_open:
         take_up(user, name, known.scale, None)
 
@@ -85,8 +86,8 @@ def checked_ring(name: str, seen: Seen) -> bool:
     """Raises ValueError if an atom is not in the box that shows each ring unit, in which its order has it."""
     if not seen.fits(RING_EDGE):
         raise ValueError(
-            f"this order is of a box whose edge is {RING_EDGE} at the server, and that of {name} is about {seen.edge()}: "
-            f"it is no longer the order of {name}"
+            f"the order must be one of a box whose edge is about {seen.edge()} at the server, as that of {name} is, got {RING_EDGE}; "
+            f"use the `order` that the session has now"
         )
     return True
 
@@ -99,8 +100,8 @@ def box_of(name: str, seen: Seen, edge: float) -> Tuple[bool, bool]:
     fits = seen.fits(edge)
     on_ring = seen.fits(RING_EDGE) and nano(edge) != nano(RING_EDGE)
     if not fits and not on_ring:
-        text = f"{name} is in a box whose edge is about {seen.edge()} at the server, not {edge!r}"
-        raise ValueError(f"{text}: say the edge that it was loaded with")
+        text = f"edge must be that of the box of {name}, about {seen.edge()} at the server, got {edge!r}"
+        raise ValueError(f"{text}; use the edge that it was loaded with")
     return on_ring and not fits, on_ring and fits
 
 
@@ -122,6 +123,7 @@ def seen_atom(user: "Loader", name: str) -> Seen:
     """
     _, positions = frames.dumped_positions(user, name)
     dumped = arrays.listed(arrays.millionths(positions))
+    user._known_of(name).n_atoms = len(dumped)
     greatest = [max(coordinates) for coordinates in dumped]
     atom = greatest.index(max(greatest))
     seen = Seen(frames.place(user, name, atom), tuple(dumped[atom]))

@@ -1,4 +1,4 @@
-"""A calculator of ASE, and a driver of i-PI by it: energies, forces and stresses of Lennard-Jones atoms by the program's own table.
+"""An ASE calculator, and a driver for i-PI: energies, forces and stresses of Lennard-Jones atoms by the program's own table.
 
     from ase.build import bulk
     from ase.optimize import BFGS
@@ -24,7 +24,8 @@ from .ase_bridge import potential_of
 from .mixture import Pair
 from .pressure import composition_of
 from .session import Session
-from .user import User, run
+from .connecting import run
+from .user import User
 from .virial_tensor import virial_tensor
 
 __all__ = ["Ljserve", "drive"]
@@ -43,28 +44,29 @@ MASS = 1.0
 class Ljserve(_Base):  # type: ignore[misc]
     """Energy, forces and stress of Lennard-Jones atoms, as a `Calculator` of ASE.
 
-    Atoms are in a periodic cubic cell whose edge is above five sigma. All calculations are of one session, which is loaded anew if the
-    atoms have changed. Constraints are for ASE to keep, which takes forces and moves of fixed atoms away.
+    Atoms must be in a periodic cubic cell with an edge above five sigma. All calculations use one session, which is loaded again if the
+    atoms have changed. ASE handles constraints.
 
-    The potential is cut off at 2.5 sigma and not shifted, and each pair has the energy and the force of the centre of a bin of its
-    squared distance, 128 bins to sigma^2. So the energy has steps, of 0.09 epsilon for a pair that is sigma apart, and forces are 2.6 %
-    off, root mean square. Optimizers that go by forces alone find their way, such as `BFGS` and `FIRE`, but a `fmax` below 0.002
-    eV/angstrom is not reached in general. For phonons take displacements of 0.05 angstrom or more, several bins wide. An
-    `EquationOfState`, `NEB` with `allow_shared_calculator=True` and `SocketClient` take it too. Filters that shear the cell or stretch
-    one axis are refused.
+    The potential is cut off at 2.5 sigma and not shifted. Each pair has the energy and the force at the centre of its bin of the squared
+    distance, with 128 bins per sigma^2. So the energy has steps (0.09 epsilon for a pair at distance sigma), and forces have a root mean
+    square error of 2.6 %. Optimizers that use only forces work, such as `BFGS` and `FIRE`, but generally do not reach a `fmax` below
+    0.002 eV/angstrom. For phonons use displacements of 0.05 angstrom or more, which are several bins wide. `EquationOfState`, `NEB` with
+    `allow_shared_calculator=True` and `SocketClient` work too. Filters that shear the cell or stretch one axis are refused.
 
     Parameters
     ----------
     sigma, epsilon : float, optional
-        Of atoms that are all alike: the distance in angstrom and the depth of the potential in electronvolt.
+        For atoms that are all alike: the distance in angstrom and the depth of the potential in electronvolt.
     species : sequence of str, optional
-        The two symbols of a mixture; then `first` and `second` are said, and `mixed` may be.
+        The two symbols of a mixture. It needs `first` and `second`; `mixed` is optional.
     first, second, mixed : tuple of float, optional
         Sigma and epsilon of two atoms of the first species, of two of the second and of one of each, as in `User.load_mix`.
     user : User, optional
-        Whose session it is, as `connect(..)` gives one; else a program of its own is started by the first calculation.
+        The user for the session, from `connect(..)` or `run()`. By default the first calculation starts a new program.
     name : str, optional
-        The name of the session, in place of one of that name.
+        The name of the session. It replaces a session of this name.
+    **words : object
+        As in `Calculator` of ASE.
 
     Attributes
     ----------
@@ -74,8 +76,8 @@ class Ljserve(_Base):  # type: ignore[misc]
     Raises
     ------
     ValueError
-        If the words say neither one species nor two; of a calculation, if the cell is not cubic and periodic, or the symbols are others
-        than the two species.
+        If the arguments describe neither one species nor two. A calculation raises it if the cell is not cubic and periodic, or if a
+        symbol is not one of the two species.
     """
 
     implemented_properties = ["energy", "free_energy", "forces", "stress"]
@@ -102,7 +104,17 @@ class Ljserve(_Base):  # type: ignore[misc]
     def calculate(
         self, atoms: Any = None, properties: Sequence[str] = ("energy",), system_changes: Sequence[str] = tuple(_ALL_CHANGES)
     ) -> None:
-        """As ASE calls it: takes the atoms in, and has `results` tell all properties of them."""
+        """Computes all properties of the atoms into `results`. ASE calls this.
+
+        Parameters
+        ----------
+        atoms : ase.Atoms, optional
+            The atoms. The default is the atoms of the last call.
+        properties : sequence of str, optional
+            The wanted properties. The stress is computed only if it is wanted.
+        system_changes : sequence of str, optional
+            What has changed since the last call.
+        """
         super().calculate(atoms, properties, system_changes)
         if self.session is None or system_changes:
             self.session = self._loaded()
@@ -130,7 +142,7 @@ class Ljserve(_Base):  # type: ignore[misc]
         return session
 
     def close(self) -> None:
-        """Gives up the session, and ends the program if it was started here. A calculation after that begins anew."""
+        """Drops the session, and ends the program if it was started here. A later calculation loads a new session."""
         session, self.session = self.session, None
         self.reset()
         if session is not None and not session.user.closed:
@@ -149,25 +161,25 @@ class Ljserve(_Base):  # type: ignore[misc]
 def drive(
     atoms: Any, calculator: Ljserve, *, host: str = "localhost", port: Optional[int] = None, unixsocket: Optional[str] = None
 ) -> None:
-    """Computes for i-PI, or another server of its protocol, until that ends: energies, forces and virials of the positions it sends.
+    """Computes energies, forces and virials for i-PI, or another server with its protocol, until this server ends.
 
     Parameters
     ----------
     atoms : ase.Atoms
-        The atoms in the order of the server, whose positions and cell are those that it sends.
+        The atoms in the order of the server, which sends their positions and their cell.
     calculator : Ljserve
-        What computes.
+        The calculator.
     host : str, optional
-        Where the server listens.
+        The name or address of the server.
     port : int, optional
-        Its port; 31415, which is that of i-PI, if nothing is said.
+        Its port. The default is 31415, the port of i-PI.
     unixsocket : str, optional
-        In place of a port, the name of its socket: NAME of `/tmp/ipi_NAME`.
+        Instead of a port, the name of its socket: NAME for `/tmp/ipi_NAME`.
 
     Raises
     ------
     OSError
-        If nobody listens there.
+        If no server listens there.
     """
     client: Any = optional.ase("ase.calculators.socketio", WHY).SocketClient
     atoms.calc = calculator
@@ -185,6 +197,6 @@ def _words_of(potential: Dict[str, Any]) -> Dict[str, Any]:
 def _checked(atoms: Any) -> Any:
     """Atoms in a periodic cubic cell. Raises ValueError for others."""
     if not all(atoms.pbc):
-        raise ValueError(f"the cell must be periodic along each axis, got pbc={atoms.pbc.tolist()}: say atoms.pbc = True")
+        raise ValueError(f"the cell must be periodic along each axis, got pbc={atoms.pbc.tolist()}; use atoms.pbc = True")
     ase_bridge.edge_of(atoms)
     return atoms

@@ -55,11 +55,11 @@ def three_frames(user: "User", name: str) -> ThreeFrames:
     wait = f"ADVANCE {name} 0"
     if abs(number_after(wait, user.ask(wait).words, 2)) >= MAX_STEP:
         user.ask(f"ADVANCE {name} 1")
-    known = user.known(name)
+    known = user._known_of(name)
     known.is_started = False
-    told = frames.three_dumped(user, name) if known.order.on_ring else frames.three_shown(user, name, user.row(name).atoms)
-    order = user.known(name).order
-    before, now, after = (order.for_user(each.places) for each in told)
-    user.known(name).direction = told[2].step - told[1].step
+    told = frames.three_dumped(user, name) if known.order.on_ring else frames.three_shown(user, name, user._row(name).atoms)
+    order = user._known_of(name).order
+    before, now, after = (order._for_user(each.places) for each in told)
+    user._known_of(name).direction = told[2].step - told[1].step
     step, following = (order.step_of(each.step) for each in told[1:])
     return ThreeFrames(step, before, now, after, following - step)

@@ -1,4 +1,4 @@
-"""Files of saved sessions: a text that a person can read, in which each line tells damage.
+"""Files of saved sessions: readable text, in which a check on each line shows damage.
 
 The first line is the head, and the last is `end`. Each line below the head begins with the CRC-32 of all text up to its
 own end, without the digits of the checks. So the first line that was changed is known.
@@ -52,7 +52,9 @@ def check_may_be_replaced(path: Path) -> None:
     except FileNotFoundError:
         return
     if head and head != FAMILY:
-        raise ValueError(f"{os.fspath(path)} is no saved session, and stays as it is: say another name, or delete that file first")
+        raise ValueError(
+            f"cannot write {os.fspath(path)}: it exists and is not a saved session; use another name, or delete that file first"
+        )
 
 
 def text_of(state: State) -> str:
@@ -112,7 +114,7 @@ class _Reader:
         """Takes the lines below the head, each without its check."""
         head, *rows = data.split(b"\n")
         if head != HEAD.encode():
-            raise self._damaged(f"a saved session begins with `{HEAD}`")
+            raise self._damaged(f"a saved session must begin with `{HEAD}`")
         check = _check_of(HEAD, 0)
         for self._at, row in enumerate(rows, 1):
             told, _, line = row.decode("ascii", "replace").partition(" ")
@@ -137,12 +139,12 @@ class _Reader:
         count = self._whole(self._pairs(("atoms",))["atoms"], 1, MAX_ATOMS)
         symbols, places, before = zip(*[self._atom(species) for _ in range(count)])
         if self._next() != END:
-            raise self._damaged(f"{count} atoms are followed by something else than `{END}`")
+            raise self._damaged(f"{count} atoms must be followed by `{END}`")
         mixture = Mixture((species[0], species[1]), classes) if species else None
         return State(name, classes[0], mixture, step, direction, symbols, places, before, is_sorted)
 
     def _next(self) -> str:
-        """The next line. The last one is `end`, which is none of those that come before."""
+        """The next line. The last one is `end`, which is not of the kinds before."""
         self._at += 1
         return self._lines[min(self._at, len(self._lines)) - 1]
 
@@ -154,7 +156,7 @@ class _Reader:
         words = self._next().split(" ")
         told = dict(zip(words[::2], words[1::2]))
         if tuple(told)[: len(names)] != tuple(names) or not set(told) <= {*names, *more} or 2 * len(told) != len(words):
-            raise self._damaged(f"the line is not {', '.join(names)}")
+            raise self._damaged(f"the line must have {', '.join(names)}")
         return told
 
     def _class(self, edge: float) -> Scale:
@@ -168,7 +170,7 @@ class _Reader:
     def _atom(self, species: Sequence[str]) -> Tuple[str, Place, Place]:
         symbol, *words = self._next().split(" ")
         if self._shaped(symbol, SYMBOL) not in (species or (symbol,)) or len(words) != 6:
-            raise self._damaged("the line is not a symbol and two places")
+            raise self._damaged("the line must be a symbol and two places")
         x, y, z, u, v, w = (self._whole(word, 0, RING - 1) for word in words)
         return symbol, (x, y, z), (u, v, w)
 
@@ -179,7 +181,7 @@ class _Reader:
 
     def _whole(self, word: str, least: int, most: int) -> int:
         if not least <= int(self._shaped(word, WHOLE)) <= most:
-            raise self._damaged(f"{word!r} is no whole number from {least} to {most}")
+            raise self._damaged(f"a number must be whole, from {least} to {most}, got {word!r}")
         return int(word)
 
     def _real(self, word: str) -> float:
@@ -188,7 +190,7 @@ class _Reader:
         except ValueError:
             number = math.nan
         if not 0 < number < math.inf:
-            raise self._damaged(f"{word!r} is no number above 0")
+            raise self._damaged(f"a number must be above 0, got {word!r}")
         return number
 
     def _damaged(self, why: str) -> Damaged:

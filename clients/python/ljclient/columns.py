@@ -6,7 +6,7 @@ import re
 from typing import Dict, List, NamedTuple, Optional, Sequence, Tuple
 
 from .ase_bridge import TIME_UNIT
-from .units import checked_positive
+from .scalars import checked_positive
 
 PROPERTIES = re.compile(rb'\bProperties\s*=\s*(?:"([^"]*)"|(\S+))')
 # What the server reads of a line: a symbol and three coordinates.
@@ -61,7 +61,7 @@ def columns_of(comment: bytes) -> Dict[str, Column]:
         return {}
     text = (told[1] or told[2] or b"").decode("latin-1")
     if text != READ and not text.startswith(READ + ":"):
-        raise ValueError(f"the first columns of the text are not {READ}, which is what is read, but Properties={text[:60]}")
+        raise ValueError(f"the first columns of the text must be {READ}, got Properties={text[:60]}")
     words = text.split(":")
     columns, start = {}, 0
     for name, kind, count in zip(words[::3], words[1::3], words[2::3]):
@@ -89,7 +89,7 @@ def _frame_of(body: bytes) -> Tuple[bytes, List[bytes]]:
 def _numbers(rows: Sequence[bytes], name: str, column: Column, count: int) -> List[List[float]]:
     """The numbers that each atom has in a column of so many. Raises ValueError if it has others, or another count."""
     if column.kind not in ("R", "I") or column.width != count:
-        raise ValueError(f"a column {name} is {name}:R:{count}, not {name}:{column.kind}:{column.width}")
+        raise ValueError(f"a column {name} must be {name}:R:{count}, got {name}:{column.kind}:{column.width}")
     numbers = []
     for atom, row in enumerate(rows):
         words = row.split()[column.start : column.start + count]
@@ -98,5 +98,5 @@ def _numbers(rows: Sequence[bytes], name: str, column: Column, count: int) -> Li
         except ValueError:
             words = []
         if len(words) != count:
-            raise ValueError(f"atom {atom} of the text has no {name} of {count} number{'s' * (count > 1)}")
+            raise ValueError(f"the {name} of atom {atom} of the text must be {count} number{'s' * (count > 1)}")
     return numbers

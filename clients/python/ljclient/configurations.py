@@ -1,4 +1,4 @@
-"""Atoms to begin with, at rest in a cubic box: lattices, slabs, droplets and mixtures, and what pushes atoms apart that overlap."""
+"""Atoms to begin with, at rest in a cubic box: lattices, slabs, droplets and mixtures, and a relaxation of overlapping atoms."""
 from __future__ import annotations
 
 import dataclasses
@@ -7,7 +7,7 @@ import math
 import random
 from typing import Any, Dict, Iterator, List, Optional, Sequence, Tuple
 
-from . import ase_bridge, units
+from . import ase_bridge, scalars, units
 from .names import checked_symbol, whole_of
 from .optional import needed_numpy
 
@@ -59,15 +59,33 @@ class Configuration:
         return self.n_atoms * (self.sigma / self.edge) ** 3
 
     def get_chemical_symbols(self) -> List[str]:
-        """The symbol of each atom, as of `Atoms` of ASE."""
+        """The symbol of each atom, as of `Atoms` of ASE.
+
+        Returns
+        -------
+        list of str
+            The symbols.
+        """
         return list(self.symbols)
 
     def get_positions(self) -> List[Position]:
-        """The positions, as of `Atoms` of ASE."""
+        """The positions, as of `Atoms` of ASE.
+
+        Returns
+        -------
+        list of tuple of float
+            In the unit of the edge.
+        """
         return list(self.positions)
 
     def get_cell(self) -> List[List[float]]:
-        """The cell, as of `Atoms` of ASE."""
+        """The cell, as of `Atoms` of ASE.
+
+        Returns
+        -------
+        list of list of float
+            Three vectors, in the unit of the edge.
+        """
         return [[self.edge * (axis == other) for axis in range(3)] for other in range(3)]
 
 
@@ -110,10 +128,10 @@ def lattice(
     >>> round(crystal.edge, 6)
     6.718385
     """
-    count = whole_of(atoms, "a number of atoms")
+    count = whole_of(atoms, "the number of atoms")
     edge = units.edge_of_density(count, density, mass=mass) if mass else units.edge_of_density(count, density, sigma=sigma)
     if kind == "random":
-        drawn = random.Random(whole_of(seed, "a seed"))
+        drawn = random.Random(whole_of(seed, "seed"))
         sites = [(edge * drawn.random(), edge * drawn.random(), edge * drawn.random()) for _ in range(count)]
         return relax(_alike(sites, edge, sigma, symbol))
     basis = _sites_of(kind)
@@ -134,7 +152,9 @@ def slab(kind: str, *, density: float, edge: float, thickness: float, sigma: flo
         The edge of the box, in the unit of sigma. The box has the nearest whole number of cells of the lattice along x and y.
     thickness : float
         How thick the slab is along z, in the unit of sigma: the nearest whole number of cells, and less than the edge.
-    sigma, symbol
+    sigma : float, optional
+        As in `lattice`.
+    symbol : str, optional
         As in `lattice`.
 
     Returns
@@ -148,8 +168,8 @@ def slab(kind: str, *, density: float, edge: float, thickness: float, sigma: flo
         If there is no such lattice, or the slab has no cell or fills the box.
     """
     basis = _sites_of(kind)
-    cell = sigma * (len(basis) / units.checked_positive("density", density)) ** (1 / 3)
-    cells, layers = round(units.checked_positive("edge", edge) / cell), round(units.checked_positive("thickness", thickness) / cell)
+    cell = sigma * (len(basis) / scalars.checked_positive("density", density)) ** (1 / 3)
+    cells, layers = round(scalars.checked_positive("edge", edge) / cell), round(scalars.checked_positive("thickness", thickness) / cell)
     if not 0 < layers < cells:
         raise ValueError(f"thickness must be from {cell / 2:.4g} to less than edge={edge!r}, in cells of {cell:.4g}, got {thickness!r}")
     raised = (cells - layers) * cell / 2
@@ -168,7 +188,9 @@ def droplet(kind: str, *, density: float, radius: float, edge: float, sigma: flo
         How many atoms there are for each sigma^3 of the droplet.
     radius, edge : float
         The radius of the sphere and the edge of the box, in the unit of sigma. The diameter is less than the edge.
-    sigma, symbol
+    sigma : float, optional
+        As in `lattice`.
+    symbol : str, optional
         As in `lattice`.
 
     Returns
@@ -182,8 +204,8 @@ def droplet(kind: str, *, density: float, radius: float, edge: float, sigma: flo
         If there is no such lattice, or the box is too small for the sphere.
     """
     basis = _sites_of(kind)
-    cell = sigma * (len(basis) / units.checked_positive("density", density)) ** (1 / 3)
-    if not 2 * units.checked_positive("radius", radius) < units.checked_positive("edge", edge):
+    cell = sigma * (len(basis) / scalars.checked_positive("density", density)) ** (1 / 3)
+    if not 2 * scalars.checked_positive("radius", radius) < scalars.checked_positive("edge", edge):
         raise ValueError(f"edge must be above {2 * radius:g}, the diameter of the droplet, got {edge!r}")
     cells = 2 * math.ceil(radius / cell)
     middle = cells * cell / 2
@@ -203,11 +225,11 @@ def binary(
     species : sequence of str
         The two symbols.
     fraction : float, optional
-        How large a part of the atoms is of the second species, from 0 to 1, rounded to whole atoms.
+        The fraction of the atoms that get the second species, from 0 to 1, rounded to whole atoms.
     apart : bool, optional
-        Whether the second species has the atoms of greatest x, and the first one the others. Else they are drawn at random.
+        True: the atoms with the greatest x get the second species. False: they are drawn at random.
     seed : int, optional
-        Of the atoms that are drawn; the same seed draws the same ones.
+        The same seed draws the same atoms.
 
     Returns
     -------
@@ -217,17 +239,17 @@ def binary(
     Raises
     ------
     ValueError
-        If there are not two symbols, or the fraction is no part.
+        If there are not two symbols, or the fraction is not from 0 to 1.
     """
     if isinstance(species, str) or len(species) != 2:
         raise ValueError(f"species must be two symbols, such as ('A', 'B'), got {species!r}")
-    if not 0 <= units.real_of("fraction", fraction) <= 1:
+    if not 0 <= scalars.real_of("fraction", fraction) <= 1:
         raise ValueError(f"fraction must be from 0 to 1, got {fraction!r}")
     numbers = list(range(configuration.n_atoms))
     if apart:
         numbers.sort(key=lambda atom: configuration.positions[atom][0], reverse=True)
     else:
-        random.Random(whole_of(seed, "a seed")).shuffle(numbers)
+        random.Random(whole_of(seed, "seed")).shuffle(numbers)
     second = set(numbers[: round(fraction * configuration.n_atoms)])
     symbols = tuple(checked_symbol(species[atom in second]) for atom in range(configuration.n_atoms))
     return dataclasses.replace(configuration, symbols=symbols)
@@ -236,8 +258,8 @@ def binary(
 def relax(source: Any, closest: float = CLOSEST, sigma: Optional[float] = None) -> Configuration:
     """Pushes atoms apart that overlap, until no two are nearer than a distance. It needs numpy.
 
-    Each pair that is nearer is pushed apart along the line between both, the others stay. A liquid of density 0.85 takes some ten
-    rounds. What is left of potential energy becomes heat in the first steps: bring the session to its temperature then.
+    Each pair that is closer is pushed apart along the line between both atoms; other atoms stay. A liquid of density 0.85 takes about
+    ten rounds. The remaining potential energy becomes heat in the first steps, so set the temperature of the session after that.
 
     Parameters
     ----------
@@ -246,7 +268,7 @@ def relax(source: Any, closest: float = CLOSEST, sigma: Optional[float] = None) 
     closest : float, optional
         The distance in sigma.
     sigma : float, optional
-        The length of the potential, in the unit of the positions, which `Atoms` of ASE do not say.
+        The length of the potential, in the unit of the positions. It is required for `Atoms` of ASE.
 
     Returns
     -------
@@ -260,7 +282,7 @@ def relax(source: Any, closest: float = CLOSEST, sigma: Optional[float] = None) 
     """
     numpy, configuration = needed_numpy("a relaxation"), _taken(source, sigma)
     positions, edge = numpy.array(configuration.positions, dtype=float) % configuration.edge, configuration.edge
-    distance = units.checked_positive("closest", closest) * configuration.sigma
+    distance = scalars.checked_positive("closest", closest) * configuration.sigma
     if configuration.n_atoms * distance**3 / math.sqrt(2) >= edge**3:
         raise ValueError(f"closest must be below that of a close packing of {configuration.n_atoms} atoms, got {closest!r}")
     drawn, moved = numpy.random.default_rng(0), numpy.inf
@@ -272,20 +294,20 @@ def relax(source: Any, closest: float = CLOSEST, sigma: Optional[float] = None) 
             return dataclasses.replace(configuration, positions=tuple(map(tuple, positions.tolist())))
         positions = (positions + moves) % edge
         moved += float(numpy.sqrt((moves**2).sum(axis=1)).max())
-    raise ValueError(f"closest must leave room for {configuration.n_atoms} atoms, and none was found for {closest!r}: say less")
+    raise ValueError(f"closest must leave room for {configuration.n_atoms} atoms, got {closest!r}, for which none was found; use less")
 
 
 def _taken(source: Any, sigma: Optional[float]) -> Configuration:
     """A source as a configuration, of this sigma if it is said."""
     if isinstance(source, Configuration):
-        return source if sigma is None else dataclasses.replace(source, sigma=units.checked_positive("sigma", sigma))
+        return source if sigma is None else dataclasses.replace(source, sigma=scalars.checked_positive("sigma", sigma))
     if not ase_bridge.is_atoms(source):
         raise TypeError(f"source must be a Configuration or Atoms of ASE, got {type(source).__name__}")
     if sigma is None:
-        raise ValueError("sigma must be said where the source is no Configuration, got None: say sigma=")
+        raise ValueError("sigma must be given unless the source is a Configuration, got None; use sigma=")
     positions = tuple((float(x), float(y), float(z)) for x, y, z in source.get_positions())
     symbols = tuple(source.get_chemical_symbols())
-    return Configuration(symbols, positions, ase_bridge.edge_of(source), units.checked_positive("sigma", sigma))
+    return Configuration(symbols, positions, ase_bridge.edge_of(source), scalars.checked_positive("sigma", sigma))
 
 
 def _pairs(positions: Any, edge: float, reach: float) -> Any:
@@ -306,8 +328,8 @@ def _image(apart: Any, edge: float) -> Any:
 
 
 def _pushes(positions: Any, edge: float, distance: float, pairs: Any, drawn: Any) -> Any:
-    """By how much each atom is pushed by those that are nearer than a distance, each half of what is missing and a bit. None if there
-    are none. Atoms at one place are pushed in a direction that is drawn."""
+    """By how much each atom is pushed by those that are nearer than a distance, each half of what is missing and a bit. None if no
+    atoms are. Atoms at one place are pushed in a direction that is drawn."""
     numpy = needed_numpy("a relaxation")
     apart = _image(positions[pairs[0]] - positions[pairs[1]], edge)
     lengths = numpy.sqrt((apart**2).sum(axis=1))
@@ -327,9 +349,9 @@ def _pushes(positions: Any, edge: float, distance: float, pairs: Any, drawn: Any
 
 def _alike(sites: Sequence[Position], edge: float, sigma: float, symbol: str) -> Configuration:
     """Atoms of one symbol. ValueError if there is none."""
-    units.checked_positive("sigma", sigma)
+    scalars.checked_positive("sigma", sigma)
     if not sites:
-        raise ValueError("the configuration must have an atom at least, got none: say a greater density or radius")
+        raise ValueError("the configuration must have at least one atom, got none; use a greater density or radius")
     return Configuration((checked_symbol(symbol),) * len(sites), tuple(sites), edge, sigma)
 
 

@@ -24,13 +24,13 @@ LONGEST = 17
 def lines(text: bytes, rows: Rows, columns: Any, order: Order) -> Optional[bytes]:
     """The lines of a text, with the millionths of these columns in place of its own, and in the user's order.
 
-    None if one of them has more than six digits before its point, or if a symbol is none of the server.
+    None if one of them has more than six digits before its point, or if a symbol is not one that the server takes.
     """
     lengths = rows.blanks - rows.begins
     lengths += 1
     if lengths.max() > LONGEST or columns.max() >= TOO_MANY:
         return None
-    symbols, lengths, columns = order.for_user(rows.begins), order.for_user(lengths), order.columns_for_user(columns)
+    symbols, lengths, columns = order._for_user(rows.begins), order._for_user(lengths), order._columns_for_user(columns)
     whole = columns // MILLION
     wholes, widths = _whole_pieces(whole)
     whole *= MILLION

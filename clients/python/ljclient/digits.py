@@ -1,7 +1,7 @@
 """Whole numbers out of the bytes of many lines, which numpy reads all at once.
 
 A place is found by where it ends: the eight bytes before are taken as one number, and those that stand before its digits count for
-nothing. A position is found by where it ends, too: its point stands six digits before. Little memory is taken anew, since that costs
+nothing. A position is found by where it ends, too: its point stands six digits before. Little memory is allocated, since that costs
 as much as to compute.
 """
 from __future__ import annotations
@@ -88,7 +88,7 @@ def _eights(data: Any, starts: Any) -> Any:
 
 
 def _whole_between(data: Any, blanks: Any, points: Any) -> Optional[Any]:
-    """The whole numbers that stand between blanks and points. None if any is none, or is too long.
+    """The whole numbers that stand between blanks and points. None if one is not a number, or too long.
 
     Eight bytes before a point are taken as one number, and those before its digits are made zeros.
     """
@@ -122,7 +122,7 @@ def _numbers(eights: Any, free: Any, carry: int, wrong: int, shift: int = 0) -> 
     """The numbers of which these are the eight digits, the first in the lowest byte, after a shift by so many bits. An array of the
     same shape is free for use.
 
-    None if a digit is none: one of the wrong bits is set, or is by a carry.
+    None if a digit is wrong: one of the wrong bits is set, or is by a carry.
     """
     numpy.add(eights, numpy.uint64(carry), out=free)
     free |= eights
@@ -162,7 +162,7 @@ def _begin_with(data: Any, starts: Any, head: bytes) -> bool:
 
 
 def _last_eight(data: Any, ends: Any, lengths: Any) -> Optional[Any]:
-    """The whole numbers of the last eight digits, or of all if there are fewer, of words that end here. None if any is none."""
+    """The whole numbers of the last eight digits, or of all if there are fewer, of words that end here. None if one is not a number."""
     kept = numpy.array([0xFFFFFFFFFFFFFFFF << 64 - 8 * min(length, 8) & 0xFFFFFFFFFFFFFFFF for length in range(PLACE_DIGITS + 1)], "<u8")
     masks, eights = kept.take(lengths), _eights(data, ends - 8)
     eights &= masks
@@ -172,7 +172,7 @@ def _last_eight(data: Any, ends: Any, lengths: Any) -> Optional[Any]:
 
 
 def _first_two(data: Any, ends: Any, lengths: Any) -> Optional[Any]:
-    """What the digits are worth that stand before the last eight. None if any is none."""
+    """What the digits are worth that stand before the last eight. None if one is not a number."""
     kept = numpy.array([0] * 9 + [0xFF00, 0xFFFF], "<u8")
     masks, twos = kept.take(lengths), _eights(data, ends - PLACE_DIGITS)
     twos &= masks

@@ -134,7 +134,7 @@ def saved_files_of(server: str, user: str) -> List[Tuple[str, pathlib.Path]]:
 
 
 def notes_of(server: str, user: str) -> Tuple[List[Note], List[pathlib.Path]]:
-    """The notes of a user's sessions at a server, and files in their places that are none."""
+    """The notes of a user's sessions at a server, and other files in their places."""
     read = [(_read(Owned(server, user, name), path), path) for name, path in _files_of(server, user, ".json")]
     return [note for note, _ in read if note is not None], [path for note, path in read if note is None]
 

@@ -3,7 +3,7 @@ from __future__ import annotations
 
 from typing import Iterable, List, Mapping, Optional, Sequence
 
-from .names import checked_symbol
+from .names import checked_symbol, shortened
 from .reading import Frame
 
 # The symbol that is to stand in place of each one of a session.
@@ -25,10 +25,10 @@ def wanted(symbols: Iterable[str]) -> str:
 def replaced(symbols: Sequence[str], replacements: Replacements) -> List[str]:
     """What stands in place of each of these symbols. Raises ValueError if one is left out, or if something is no symbol."""
     if not isinstance(replacements, Mapping):
-        raise ValueError(f"say a symbol in place of each one of the session, {wanted(symbols)}, not {replacements!r}")
+        raise ValueError(f"symbols must give a symbol for each one of the session, got {shortened(replacements)}; use {wanted(symbols)}")
     for symbol in symbols:
         if symbol not in replacements:
-            raise ValueError(f"symbols= has nothing in place of {symbol!r}: say one for each of {wanted(symbols)}")
+            raise ValueError(f"symbols must have one for {symbol!r}, got {shortened(dict(replacements))}; use {wanted(symbols)}")
         checked_symbol(replacements[symbol])
     return [replacements[symbol] for symbol in symbols]
 

@@ -39,7 +39,7 @@ WAITING = {"ADVANCE", "REVERSE", "BRANCH", "RESTORE", "TUG", "MEASURE", "SHOW", 
 
 
 class EnergyWarning(UserWarning):
-    """The energy of a session has risen by a twentieth of its kinetic energy, or h is so large that it soon will."""
+    """The energy of a session has risen by 5 % of its kinetic energy, or has fallen; or h is so large that it soon rises."""
 
 
 @dataclass
@@ -119,12 +119,12 @@ class WatchedHooks:
     def ready(self) -> int:
         """Makes the session ready to go on, and returns by how many steps it may until this is asked again."""
         room = self._resorting.ready()
-        known = self._loader.known(self._name)
+        known = self._loader._known_of(self._name)
         if not (known.watch.is_on and can_be_measured(known.scale)):
             return room
         if steps := known.watch.room(self._left):
             return room if self._pieces_are_given else min(room, steps)
-        self._loader.started.discard(self._name)
+        self._loader._started.discard(self._name)
         self._here = self._measured()
         if not self._pieces_are_given:
             return 1
@@ -134,7 +134,7 @@ class WatchedHooks:
     def made(self, steps: int, step: int) -> int:
         """Counts steps that were made or begun, and returns the user's number of the server's step."""
         number = self._resorting.made(steps, step)
-        self._loader.known(self._name).watch.gone += steps
+        self._loader._known_of(self._name).watch.gone += steps
         self._left -= steps
         if self._here is not None:
             self._look(self._measured())
@@ -145,7 +145,7 @@ class WatchedHooks:
 
         After steps that were started before nothing is measured, since they would be waited for.
         """
-        known = self._loader.known(self._name)
+        known = self._loader._known_of(self._name)
         watch = known.watch
         if known.is_started or watch.start is not None or watch.room(self._left) or not (watch.is_on and can_be_measured(known.scale)):
             return 0
@@ -155,16 +155,16 @@ class WatchedHooks:
 
     def begun(self, steps: int, step: int) -> int:
         """As `made`, of steps that are not waited for. The energy is measured later, by the first command that waits for them."""
-        number, known = self.made(steps, step), self._loader.known(self._name)
+        number, known = self.made(steps, step), self._loader._known_of(self._name)
         known.is_started = True
         if known.watch.is_on and can_be_measured(known.scale) and not known.watch.room(0):
-            self._loader.started.add(self._name)
+            self._loader._started.add(self._name)
         return number
 
     def _look(self, after: Measurement) -> None:
         """Takes in the energy of the step that was measured, by what was measured after it."""
         here, self._here = self._here, None
-        known = self._loader.known(self._name)
+        known = self._loader._known_of(self._name)
         if here is not None and known.scale is not None:
             known.watch.look(self._name, known.scale, Thermo.of(here, after), here.atoms)
 
@@ -174,7 +174,7 @@ class WatchedHooks:
 
 def measured(loader: "Loader", name: str) -> Measurement:
     """What is measured of a session."""
-    line, known = f"MEASURE {name}", loader.known(name)
+    line, known = f"MEASURE {name}", loader._known_of(name)
     told = Measurement.of(of_session(line, loader.ask(line).words)[2:], known.scale)
     return replace(told, step=known.order.step_of(told.step))
 
@@ -182,13 +182,13 @@ def measured(loader: "Loader", name: str) -> Measurement:
 def look_at_started(loader: "Loader", lines: Iterable[str]) -> None:
     """Measures the energy of each session whose steps were started, and are waited for by one of these commands, before it is asked.
 
-    It takes one measurement, so the kinetic energy is that of half a step ago. A session that is gone is passed over.
+    It takes one measurement, so the kinetic energy is that of half a step ago. A session that is gone is skipped.
     """
     commands = [line.split()[:2] for line in lines]
     names = {words[1] for words in commands if len(words) == 2 and words[0] in WAITING}
-    for name in sorted(names & loader.started):
-        loader.started.discard(name)
-        known = loader.known(name)
+    for name in sorted(names & loader._started):
+        loader._started.discard(name)
+        known = loader._known_of(name)
         with contextlib.suppress(Refused):
             here = measured(loader, name)
             if known.scale is not None:

@@ -20,7 +20,8 @@ from .errors import ConnectionLost, Damaged
 from .files import Path, write_whole
 from .notes import Noted
 from .session import Session
-from .user import Program, User, run
+from .connecting import Program, run
+from .user import User
 
 # What only an ensemble needs is imported where it runs, since it takes a tenth of the time of all else: executors and pickle.
 if TYPE_CHECKING:
@@ -28,7 +29,7 @@ if TYPE_CHECKING:
 
 # Names of errors of Dask, which need not be installed, that tell of a worker that is gone.
 LOST_NAMES = ("KilledWorker", "CommClosedError")
-OLD_NOTES = "delete it, and its job is computed again, or say another folder="
+OLD_NOTES = "delete it, so that its job is computed again, or use another folder="
 # An executor, or what makes one, or none.
 Pool = Union["Executor", Callable[[], "Executor"], None]
 # What was noted of each job that is done, by its number.
@@ -37,13 +38,23 @@ Results = Dict[int, List[Any]]
 
 @dataclass(frozen=True)
 class Job:
-    """A run: what it begins with, what is noted of it, and how far it goes.
+    """One run of `ensemble`: how it begins, what is measured, and how many steps it has.
 
-    `begin` is given a user of a program that is the job's own, and returns the session that it has loaded, or a list of
-    sessions, which go on side by side. `look` is given these sessions, and what it returns is noted: at the beginning and
-    after each `every` steps. Both are functions of a module (or a `functools.partial` of one), since they are sent to
-    other processes; so is what is noted, which for a folder that is kept is None, numbers, strings, and lists, tuples, dicts
-    and numpy arrays of them. What is saved by `branch` is not in a checkpoint, so `look` needs none.
+    `begin` and `look` must be functions of a module, or a `functools.partial` of one, since they are sent to other processes. With a
+    `folder`, `look` may return None, numbers, strings, and lists, tuples, dicts and numpy arrays of them. Checkpoints do not contain
+    branches, so `look` must not need one.
+
+    Attributes
+    ----------
+    begin : callable
+        A function that gets a user of a program of its own, loads atoms, and returns the session, or a list of sessions, which then
+        advance at the same time.
+    look : callable
+        A function that gets these sessions as arguments, at the beginning and after each `every` steps. Its results are collected.
+    steps : int
+        The number of steps.
+    every : int
+        The number of steps from one call of `look` to the next.
     """
 
     begin: Callable[[User], Union[Session, Sequence[Session]]]
@@ -53,7 +64,7 @@ class Job:
 
     def __post_init__(self) -> None:
         if self.steps < 0 or self.every < 1:
-            raise ValueError(f"a job goes on by 0 steps or more, in pieces of 1 or more, and not by {self.steps} in {self.every}")
+            raise ValueError(f"steps must be 0 or more, and every at least 1, got {self.steps} and {self.every}")
 
 
 class Task(NamedTuple):
@@ -76,24 +87,25 @@ def ensemble(
     program: Optional[Program] = None,
     progress: Union[bool, bars.Report, None] = None,
 ) -> List[List[Any]]:
-    """Runs jobs, and returns what was noted of each, in the order of the jobs.
+    """Runs jobs, and returns for each job the list of the results of its `look`, in the order of the jobs.
 
-    `executor` is one of `concurrent.futures`, or what makes one, such as `ProcessPoolExecutor`: one that is made can be
-    made again when a lost worker has broken it. Without one the jobs run here, one after the other. A job whose worker is
-    lost begins again from its last checkpoint, `tries` times at most. An error of a job itself is raised at once.
+    `executor` is an executor of `concurrent.futures`, or a function that returns one, such as `ProcessPoolExecutor`: then `ensemble`
+    can make a new executor after a lost worker has broken the old one. Without an executor the jobs run here, one after the other. A
+    job whose worker is lost starts again from its last checkpoint, and is tried `tries` times at most. If a job raises an error,
+    `ensemble` raises it immediately.
 
-    Checkpoints are written into `folder`, at most one in so many `seconds` for each job, and a later call with the same
-    jobs goes on from there. Workers on other machines find them if the folder is shared. Without one a folder is made, and
-    removed at the end. `program` is as for `run`. With `progress=True` a bar of tqdm is shown at a terminal or in a notebook;
-    a function in its place is called with how many jobs are done, and of how many.
+    Checkpoints are written into `folder`, for each job at most one every `seconds` seconds, and a later call with the same jobs
+    continues from them. Workers on other machines need access to the folder. Without `folder` a temporary folder is used. `program` is
+    as in `run`. `progress=True` shows a progress bar of tqdm at a terminal or in a notebook; a function is called with the number of
+    jobs that are done and the number of all jobs.
 
-    What is noted is kept in `folder` as JSON: TypeError, at the first look, if it is of a kind that has no words there. ValueError
-    if the folder has notes of an earlier version, which are pickles, and are not read.
+    With `folder`, the results of `look` are stored there as JSON. Other types raise a TypeError at the first call of `look`. If the
+    folder has pickles of an old version, a ValueError is raised, and they are not read.
     """
     named = None if program is None else os.fspath(program)
     results: Results = {}
     if tries < 1:
-        raise ValueError(f"{tries} tries: a job is tried at least once")
+        raise ValueError(f"tries must be at least 1, got {tries}")
     with _made(folder) as place, bars.reporter(progress or False, "jobs", unit="job") as report:
         names = [f"job_{number}" + (f"_{_key_of(job)}" if folder is not None else "") for number, job in enumerate(jobs)]
         is_kept = folder is not None
@@ -138,7 +150,7 @@ def _made(folder: Optional[Path]) -> Iterator[pathlib.Path]:
         try:
             os.makedirs(folder, exist_ok=True)
         except FileExistsError:
-            raise ValueError(f"{os.fspath(folder)} is a file: say a folder for the checkpoints") from None
+            raise ValueError(f"folder must be one for the checkpoints, got the file {os.fspath(folder)}; use another name") from None
         yield pathlib.Path(folder).resolve()
 
 
@@ -176,7 +188,7 @@ def _begun(user: User, task: Task) -> Tuple[int, List[Any], List[Session]]:
 
 
 def _resumed(user: User, task: Task, kept: Optional[Noted]) -> Optional[Tuple[int, List[Any], List[Session]]]:
-    """Goes on from a checkpoint. One whose files are damaged or gone is none: the same notes are computed once more."""
+    """Goes on from a checkpoint. One whose files are damaged or gone does not count: the same notes are computed once more."""
     if kept is None:
         return None
     sessions = []
@@ -225,7 +237,7 @@ def _kept_at(task: Task) -> Optional[Noted]:
     except OSError:
         return None
     if data.startswith(notes.PICKLE):
-        raise ValueError(f"{path} is a pickle of an earlier ljclient. It is not read, since it could run anything: {OLD_NOTES}")
+        raise ValueError(f"cannot read {path}: it is a pickle of an earlier ljclient, which could run anything; {OLD_NOTES}")
     try:
         kept = notes.read(data)
     except ValueError:

@@ -18,10 +18,10 @@ STRETCHES = 20
 
 def equilibrate(session: "Session", temperature: float, steps: int, every: Optional[int], progress: Progress, seed: int) -> float:
     """As `Session.equilibrate`."""
-    total = count_of(steps, "a number of steps")
+    total = count_of(steps, "the number of steps")
     length = max(1, total // STRETCHES) if every is None else whole_of(every, "every")
     if length < 1:
-        raise ValueError(f"every is 1 at least, not {every}")
+        raise ValueError(f"every must be at least 1, got {every}")
     told = [session.rescale(temperature) if session.measure().kinetic else session.heat(temperature, seed)]
     with bars.reporter(progress, session.name) as report:
         for made in range(0, total, length):

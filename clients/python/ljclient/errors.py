@@ -1,14 +1,20 @@
-"""What can go wrong: each is a `ClientError`, and each refusal of the server is a `Refused` (see `ljclient.refusals`)."""
+"""The errors of the client: each is a `ClientError`, and each refusal of the server is a `Refused` (see `ljclient.refusals`)."""
 from __future__ import annotations
 
-from typing import Any, Dict, Optional, Tuple, Type
+from typing import Any, Dict, Optional, Sequence, Tuple, Type
+
+from .renamed import Renamed
 
 
 class ClientError(Exception):
-    """Any fault of the connection, of the program, or of what was asked for.
+    """Any error of the connection, of the program, or of a command.
 
-    unanswered  where it came while a reply was awaited: the command line, which may be a piece of what was asked
-    more        where it came while a session was changed, replaced or looked at: what that was before, or where it is
+    Attributes
+    ----------
+    unanswered : str or None
+        The command line whose reply did not come, if there is one. It may be a part of the call.
+    more : str
+        If a session was being changed, replaced or read: its state before, or where it is now.
     """
 
     unanswered: Optional[str] = None
@@ -17,40 +23,87 @@ class ClientError(Exception):
     def __str__(self) -> str:
         return f"{super().__str__()}; {self.more}" if self.more else super().__str__()
 
+    # A load with `replace=True` once dropped a session before the new one was there.
+    _rescued: Optional[str] = None
+    rescued = Renamed[Optional[str]]("_rescued")
+
 
 class CannotStart(ClientError):
     """The program could not be started, or what was started is not `ljserve`."""
 
 
 class ConnectionLost(ClientError, ConnectionError):
-    """No connection could be made, or it has ended before everything was answered."""
+    """No server could be reached, or the connection ended before all replies arrived."""
+
+
+class Undecided(ConnectionLost):
+    """A connection was lost and made again, and the client cannot find out whether a command was done.
+
+    Only connections with `retry=` raise this error. The state at the server is not one that the commands lead to. The client has sent
+    nothing more, and has closed the connection.
+
+    Attributes
+    ----------
+    command : str
+        The first command that had no reply.
+    states : tuple of str
+        For each session with an unexpected state: this state, and the states before and after the commands.
+    is_gone : bool
+        Whether sessions are gone: the server was restarted, or another connection has dropped them.
+    """
+
+    def __init__(self, command: str, states: Sequence[str], is_gone: bool = False):
+        super().__init__(command, states, is_gone)
+        self.unanswered = command
+        self.command = command
+        self.states = tuple(states)
+        self.is_gone = is_gone
+
+    def __str__(self) -> str:
+        cause = (
+            "the server was started again, or another connection has dropped it" if self.is_gone else "another connection has changed it"
+        )
+        advice = (
+            "connect again, load it again, and go on from a saved file"
+            if self.is_gone
+            else "connect again, look at it, and go on from there"
+        )
+        told = "; ".join(self.states)
+        text = f"the connection was lost, and whether `{self.command}` was done cannot be told: {told}. Perhaps {cause}: {advice}"
+        return f"{text}; {self.more}" if self.more else text
 
 
 class TimedOut(ClientError, TimeoutError):
-    """Nothing was heard for as long as the timeout says. The connection is closed, since a late reply would be misread."""
+    """Nothing arrived within the timeout. The connection is closed, since a late reply would be misread."""
 
 
 class BadReply(ClientError):
-    """What came is no reply of the protocol. The connection is closed."""
+    """The server sent something that is not a reply of the protocol. The connection is closed."""
 
 
 class Missing(ClientError, ImportError):
-    """A package that this needs is not installed. The message says how to get it."""
+    """A required package is not installed. The message explains how to install it."""
 
 
 class Closed(ClientError):
-    """The connection was closed before this was asked for."""
+    """The connection was closed before the call."""
 
 
 class NotRecorded(ClientError):
-    """A command was replied to, and its record could not be written. The session goes on without a record."""
+    """The server has replied to a command, but the record could not be written. The session continues without a record."""
 
 
 class Damaged(ClientError, ValueError):
-    """A file of a saved session, or a record, is not as it was written.
+    """A file of a saved session differs from what was written.
 
-    path  the file
-    line  the first line that is at fault, counted from 1
+    Attributes
+    ----------
+    path : str
+        The file.
+    line : int
+        The first line that is wrong, counted from 1.
+    why : str
+        What is wrong with it.
     """
 
     def __init__(self, path: str, line: int, why: str):
@@ -63,12 +116,20 @@ class Damaged(ClientError, ValueError):
 
 
 class Refused(ClientError):
-    """A refusal: nothing has changed at the server.
+    """The server refused a command. Nothing has changed there.
 
-    number   the number of the refusal, such as 10
-    name     its name, such as "NO_SESSION"
-    line     the line of the XYZ text that is at fault, counted from 1; None for refusals that name no line
-    command  the command line that was refused; of a HELLO the first word alone
+    Attributes
+    ----------
+    number : int
+        The number of the refusal, such as 10.
+    name : str
+        Its name, such as "NO_SESSION".
+    meaning : str
+        What it means.
+    line : int or None
+        The line of the XYZ text that is wrong, counted from 1, if the refusal names one.
+    command : str
+        The command line that was refused; for a HELLO only the first word.
     """
 
     number: int = 0
@@ -96,20 +157,26 @@ class Refused(ClientError):
 
     def __init_subclass__(cls, **words: object) -> None:
         super().__init_subclass__(**words)
+        cls.__doc__ = cls.__doc__ or f"``ERR {cls.number:02} {cls.name}``: {cls.meaning}."
         Refused.by_number[cls.number] = cls
 
     def __reduce__(self) -> Tuple[Any, ...]:
         return type(self), (self.command, self.line, self.number, self.name, self.meaning)
 
     def _text(self) -> str:
-        where = "" if self.line is None else f" line {self.line}"
         meaning = f": {self.meaning}" if self.meaning else ""
         asked = f" (asked: {shown(self.command)})" if self.command else ""
-        return f"ERR {self.number:02} {self.name}{where}{meaning}{asked}"
+        return f"{reply_of(self)}{meaning}{asked}"
+
+
+def reply_of(refusal: Refused) -> str:
+    """A refusal as it came."""
+    where = "" if refusal.line is None else f" line {refusal.line}"
+    return f"ERR {refusal.number:02} {refusal.name}{where}"
 
 
 def printable(text: str) -> str:
-    """A text for a terminal: what would not be printed, but heeded as the start of a colour or a title is, is written as in Python.
+    """A text for a terminal: what would not be printed, but obeyed, as the start of a colour or a title, is written as in Python.
 
     Line ends and tabs stay as they are.
     """

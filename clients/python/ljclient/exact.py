@@ -1,6 +1,6 @@
 """XYZ text as whole numbers: the places that the server would load from it, to the bit, and text that gives back places.
 
-The grammar is that of the server. A text that it refuses is none here, and the server says what is wrong with it.
+The grammar is that of the server. A text that it refuses is not read here, and the server says what is wrong with it.
 """
 from __future__ import annotations
 
@@ -81,7 +81,7 @@ def _frame(lines: Iterator[bytes], edge: int) -> Tuple[Tuple[str, ...], Tuple[Pl
 
 def _count(word: bytes) -> int:
     if not (COUNT.match(word) and 1 <= int(word) <= MAX_ATOMS):
-        raise ValueError("no number of atoms")
+        raise ValueError(f"the number of atoms must be from 1 to {MAX_ATOMS}")
     return int(word)
 
 
@@ -90,7 +90,7 @@ def _atom(words: Sequence[bytes], edge: int) -> Tuple[str, Place]:
     symbol, x, y, z = words[:4]
     text = symbol.decode("ascii")
     if not SYMBOL.match(text):
-        raise ValueError("no symbol")
+        raise ValueError("a symbol must be 1 to 16 printing characters")
     return text, (_place(x, edge), _place(y, edge), _place(z, edge))
 
 
@@ -99,16 +99,16 @@ def _place(word: bytes, edge: int) -> int:
 
 
 def nano_of(word: bytes) -> int:
-    """The number of 10^-9 that a decimal word of the protocol says, halves away from zero. ValueError if it is none, or out of range."""
+    """A decimal word of the protocol in units of 10^-9, halves away from zero. ValueError if it has another form, or is out of range."""
     found = NUMBER.match(word)
     if found is None or len(word) > MAX_WORD:
-        raise ValueError("this is no decimal number of the protocol")
+        raise ValueError("a number must be decimal, as in the protocol")
     sign, whole, fraction, power = found.groups()
     shift = 9 - len(fraction) + int(power or 0)
     digits = int(whole + fraction)
     number = digits * _power(shift) if shift >= 0 else (2 * digits + _power(-shift)) // (2 * _power(-shift))
     if number > MAX_NANO:
-        raise ValueError("this is beyond a million")
+        raise ValueError("a number must not be beyond a million")
     return -number if sign == b"-" else number
 
 

@@ -92,5 +92,5 @@ def checked_target(path: Path) -> str:
         return target
     if not stat.S_ISREG(mode):
         kind = KINDS.get(stat.S_IFMT(mode), "no regular file")
-        raise ValueError(f"{os.fspath(path)} is {kind}, and stays as it is: say the name of a file to write")
+        raise ValueError(f"cannot write {os.fspath(path)}: it is {kind} (nothing was changed); use the name of a file")
     return target

@@ -12,7 +12,8 @@ from .errors import BadReply
 from .guards import look
 from .order import Place
 from .reading import Frame, Places
-from .units import RING, nano
+from .scalars import nano
+from .units import RING
 from .wire import Reply
 
 if TYPE_CHECKING:
@@ -29,24 +30,24 @@ def dumped(user: "Loader", name: str) -> Frame:
 
 def dumped_positions(user: "Loader", name: str) -> Tuple[int, Any]:
     """The step and the positions as the server dumps them."""
-    return reading.positions_of(name, *user.ask_text(f"DUMP {name}"))
+    return reading.positions_of(name, *user._ask_text(f"DUMP {name}"))
 
 
 def place(user: "Loader", name: str, number: int) -> Place:
     """The place of the atom that has this number at the server."""
-    return reading.place_of(name, number, user.ask_rows([f"SHOW {name} {number}"]))
+    return reading.place_of(name, number, user._ask_rows([f"SHOW {name} {number}"]))
 
 
 def shown(user: "Loader", name: str, count: int) -> Tuple[Places, ...]:
     """The places of so many atoms, of a session with any box."""
-    return (reading.places_of(name, count, user.ask_rows(reading.shows(name, count))),)
+    return (reading.places_of(name, count, user._ask_rows(reading.shows(name, count))),)
 
 
 def both_shown(user: "Loader", name: str, count: int) -> Tuple[Places, ...]:
     """The places now and one step before, for which the motion is turned back."""
     shows, turn = reading.shows(name, count), f"REVERSE {name}"
     with look(user, name, 2 * count) as way:
-        return reading.both_of(name, count, user.ask_rows([*shows, turn, *shows, *way.turned, *way.end]))
+        return reading.both_of(name, count, user._ask_rows([*shows, turn, *shows, *way.turned, *way.end]))
 
 
 def three_shown(user: "Loader", name: str, count: int) -> Tuple[Places, ...]:
@@ -54,7 +55,7 @@ def three_shown(user: "Loader", name: str, count: int) -> Tuple[Places, ...]:
     shows, step, turn = reading.shows(name, count), f"ADVANCE {name} 1", f"REVERSE {name}"
     with look(user, name, 3 * count) as way:
         lines = [*shows, turn, *shows, *way.turned, step, *shows, *way.stepped, *way.end]
-        return reading.three_of(name, count, len(way.turned), user.ask_rows(lines))
+        return reading.three_of(name, count, len(way.turned), user._ask_rows(lines))
 
 
 def three_dumped(user: "Loader", name: str) -> Tuple[Places, ...]:
@@ -73,7 +74,7 @@ def text_of(reply: Reply) -> bytes:
 
 def dumped_places(user: "Loader", name: str) -> Tuple[Places, ...]:
     """The places of all atoms, of a session whose box shows each ring unit."""
-    return (Places(*_on_ring(name, *user.ask_text(f"DUMP {name}"))),)
+    return (Places(*_on_ring(name, *user._ask_text(f"DUMP {name}"))),)
 
 
 def both_dumped(user: "Loader", name: str) -> Tuple[Places, ...]:
@@ -86,16 +87,16 @@ def both_dumped(user: "Loader", name: str) -> Tuple[Places, ...]:
 
 def dumped_in_box(user: "Loader", name: str, edge: float) -> Frame:
     """The user's frame of a session whose box shows each ring unit, as the server would dump it in a box of this edge."""
-    words, text = user.ask_text(f"DUMP {name}")
+    words, text = user._ask_text(f"DUMP {name}")
     nanos = nano(edge)
-    return reading.frame_with(name, words, text, lambda places: arrays.in_box(_checked(places), nanos), user.known(name).order)
+    return reading.frame_with(name, words, text, lambda places: arrays.in_box(_checked(places), nanos), user._known_of(name).order)
 
 
 def positions_in_box(user: "Loader", name: str, edge: float) -> Tuple[int, Any]:
     """The step and the positions of the same frame."""
-    step, places = _on_ring(name, *user.ask_text(f"DUMP {name}"))
-    order = user.known(name).order
-    return order.step_of(step), order.for_user(arrays.of_millionths(arrays.in_box(places, nano(edge))))
+    step, places = _on_ring(name, *user._ask_text(f"DUMP {name}"))
+    order = user._known_of(name).order
+    return order.step_of(step), order._for_user(arrays.of_millionths(arrays.in_box(places, nano(edge))))
 
 
 def on_ring(frame: Frame) -> Places:
@@ -112,7 +113,7 @@ def _on_ring(name: str, words: List[str], text: bytes) -> Tuple[int, Any]:
 def _checked(places: Any) -> Any:
     """These places, which were told in a box that shows each ring unit. Raises BadReply if one is beyond it."""
     if arrays.greatest(places) >= RING:
-        raise BadReply("a frame has a place that is not below the edge of the box")
+        raise BadReply("a place of a frame must be below the edge of the box")
     return places
 
 

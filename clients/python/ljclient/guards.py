@@ -65,7 +65,7 @@ def look(user: "Loader", name: str, count: int) -> Iterator[Way]:
     The commands of the way that is given have to be asked within, the last of them those of its end.
     """
     with _begun(user, name, count):
-        if not user.outlasts_connections:
+        if not user._outlasts_connections:
             yield Way.by_turns(name)
         elif (step := _saved(user, name, LOOK)) is not None:
             with _put_back(user, name, LOOK, step):
@@ -82,7 +82,7 @@ def change(user: "Loader", name: str, places: Sequence[Place], before: Sequence[
     The commands that are given end it, and have to be the last ones that are asked within. An interrupt waits until then.
     """
     with _begun(user, name, len(before)):
-        if not user.outlasts_connections:
+        if not user._outlasts_connections:
             yield ()
         elif (step := _saved(user, name, CHANGE)) is not None:
             with _put_back(user, name, CHANGE, step):
@@ -99,7 +99,7 @@ def turning(user: "Loader", name: str, count: int) -> Iterator[Tuple[str, ...]]:
     Raises a refusal of NO_PLACE, and nothing is changed, where the quota has no place for it.
     """
     with _begun(user, name, count):
-        if not user.outlasts_connections:
+        if not user._outlasts_connections:
             yield ()
             return
         line = f"BRANCH {name} {LOOK}"
@@ -113,13 +113,13 @@ def turning(user: "Loader", name: str, count: int) -> Iterator[Tuple[str, ...]]:
 def _begun(user: "Loader", name: str, count: int) -> Iterator[None]:
     """So many commands of a session go over one connection, behind steps that were started, and have no effect on what is known of
     its direction. An interrupt waits until the end."""
-    known = user.known(name)
+    known = user._known_of(name)
     if known.is_started:
         user.ask(f"ADVANCE {name} 0")
         known.is_started = False
     with held(), user.lock:
-        user.make_room(count + MOST_OF_A_GUARD)
-        known = user.known(name)
+        user._make_room(count + MOST_OF_A_GUARD)
+        known = user._known_of(name)
         direction = known.direction
         try:
             yield
@@ -139,8 +139,8 @@ def _saved(user: "Loader", name: str, branch: str) -> Optional[int]:
 
 @contextlib.contextmanager
 def _put_back(user: "Loader", name: str, branch: str, step: int) -> Iterator[None]:
-    """What is saved within under a reserved name is forgotten at the end, and else said by the error."""
-    with _said_if_lost(user, name, step, user.known(name).direction), _forgotten(user, name, branch):
+    """What is saved within under a reserved name is forgotten at the end, or else named by the error."""
+    with _said_if_lost(user, name, step, user._known_of(name).direction), _forgotten(user, name, branch):
         yield
 
 
@@ -154,8 +154,8 @@ def _forgotten(user: "Loader", name: str, branch: str) -> Iterator[None]:
         raise
     except BaseException:
         with contextlib.suppress(ClientError):
-            if not user.closed and branch not in user.known(name).left and branch in branches_of(user, name):
-                user.ask_rows([f"RESTORE {name} {branch}", f"FORGET {name} {branch}"])
+            if not user.closed and branch not in user._known_of(name).left and branch in branches_of(user, name):
+                user._ask_rows([f"RESTORE {name} {branch}", f"FORGET {name} {branch}"])
         raise
 
 
@@ -165,9 +165,9 @@ def _noted(user: "Loader", name: str, places: Optional[Sequence[Place]] = None, 
     line = f"MEASURE {name}"
     measured = [whole_number(word) for word in user.ask(line).words[2:]]
     note = Note(Owned(user.address, user.name or "", name), measured, places=places, before=before)
-    with _said_if_lost(user, name, note.step, user.known(name).direction, "the next connection from this machine"), noted(note) as keep:
+    with _said_if_lost(user, name, note.step, user._known_of(name).direction, "the next connection from this machine"), noted(note) as keep:
         if before is None:
-            back = user.ask_rows([f"REVERSE {name}", f"REVERSE {name}"]).split(b"\n")[0]
+            back = user._ask_rows([f"REVERSE {name}", f"REVERSE {name}"]).split(b"\n")[0]
             keep(dataclasses.replace(note, direction=note.step - int(back.split(b" ")[-1])))
         yield
 
@@ -179,7 +179,7 @@ def _said_if_lost(user: "Loader", name: str, step: int, direction: Optional[int]
         yield
     except ClientError as error:
         if user.closed and not isinstance(error, Refused):
-            order = user.known(name).order
+            order = user._known_of(name).order
             turned = "" if direction is None else f", direction {order.direction * direction:+}"
             what = f"{name} was at step {order.step_of(step)}{turned} before that"
             error.more = f"{what}, and {whose} puts it back there unless all was done"
@@ -187,18 +187,18 @@ def _said_if_lost(user: "Loader", name: str, step: int, direction: Optional[int]
 
 
 def checked_branch(name: str) -> str:
-    """A name to save a simulation under. Raises ValueError for what is none, and for one that is reserved."""
+    """A name to save a simulation under. Raises ValueError for other values, and for reserved names."""
     return _checked(name, RESERVED)
 
 
 def checked_session(name: str) -> str:
-    """A name for a session. Raises ValueError for what is none, and for one that is reserved."""
+    """A name for a session. Raises ValueError for other values, and for reserved names."""
     return _checked(name, (REPLACING, *RESERVED))
 
 
 def _checked(name: str, reserved: Collection[str]) -> str:
     if checked_name(name) in reserved:
-        raise ValueError(f"{name} is a name that this client keeps for itself: say another one")
+        raise ValueError(f"a name must not be one that this client keeps for itself, got {name!r}; use another name")
     return name
 
 

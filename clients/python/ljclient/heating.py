@@ -7,7 +7,8 @@ from typing import List, Sequence, Tuple
 
 from .arrays import HALF
 from .names import whole_of
-from .units import Scale, real_of
+from .scalars import real_of
+from .units import Scale
 
 Displacement = Tuple[int, ...]
 
@@ -20,8 +21,8 @@ def displacements(atoms: int, temperature: float, scale: Scale, seed: int) -> Li
     """
     wanted = _kinetic_number(atoms, temperature, scale)
     if atoms == 1 and temperature > 0:
-        raise ValueError("an atom alone has no motion without a net momentum")
-    drawn = random.Random(whole_of(seed, "a seed"))
+        raise ValueError("cannot heat a single atom: the net momentum of the velocities is 0, so it stays at rest; use a temperature of 0")
+    drawn = random.Random(whole_of(seed, "seed"))
     parts = [[drawn.gauss(0, 1) for _ in range(3)] for _ in range(atoms)]
     means = [sum(axis) / atoms for axis in zip(*parts)]
     parts = [[part - mean for part, mean in zip(each, means)] for each in parts]
@@ -37,22 +38,23 @@ def rescaled(moved: Sequence[Sequence[int]], temperature: float, scale: Scale) -
     wanted = _kinetic_number(len(moved), temperature, scale)
     kinetic = sum(part * part for each in moved for part in each)
     if wanted and not kinetic:
-        raise ValueError("the atoms are at rest, and no stretching moves them: heat(temperature) gives them velocities")
+        raise ValueError("cannot rescale the velocities: all atoms are at rest; use heat(temperature)")
     stretch = math.sqrt(wanted / kinetic) if wanted else 0.0
     return _stretched(moved, stretch, temperature, [round(stretch * sum(axis)) for axis in zip(*moved)])
 
 
 def _kinetic_number(atoms: int, temperature: float, scale: Scale) -> float:
-    """The kinetic number of so many atoms at a temperature. Raises ValueError for what is no temperature."""
-    if not 0 <= real_of("a temperature", temperature) < math.inf:
-        raise ValueError(f"a temperature is a number from 0 on, not {temperature!r}")
+    """The kinetic number of so many atoms at a temperature. Raises ValueError unless this is a number from 0 on."""
+    if not 0 <= real_of("temperature", temperature) < math.inf:
+        raise ValueError(f"temperature must be a finite number from 0 on, got {temperature!r}")
     return scale.kinetic_number(3 * atoms * temperature / (2 * scale.temperature_unit))
 
 
 def _stretched(parts: Sequence[Sequence[float]], stretch: float, temperature: float, sums: Sequence[int]) -> List[Displacement]:
     """Displacements that are stretched and rounded, and that have these sums along the axes."""
     if stretch * max(abs(part) for each in parts for part in each) >= HALF - 1:
-        raise ValueError(f"at a temperature of {temperature:g} an atom moves by half the box in a step")
+        why = "an atom would move by half the box or more in a step; use a lower temperature or a shorter time step"
+        raise ValueError(f"cannot set a temperature of {temperature:g}: {why}")
     return _with_sums([[round(stretch * part) for part in each] for each in parts], sums)
 
 

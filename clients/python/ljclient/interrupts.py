@@ -1,4 +1,4 @@
-"""Interrupts from the keyboard, which wait while something is half done."""
+"""Interrupts from the keyboard, which are held back while something is half done."""
 from __future__ import annotations
 
 import contextlib

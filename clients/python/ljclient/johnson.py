@@ -8,7 +8,7 @@ from __future__ import annotations
 import math
 from typing import List
 
-from . import units
+from . import scalars
 
 # The 32 linear parameters of their table, and the one in the exponential.
 X = [
@@ -38,7 +38,7 @@ def johnson(density: float, temperature: float) -> float:
     Returns
     -------
     float
-        In epsilon / sigma^3, of the whole potential, without a cutoff. Between gas and liquid it is that of neither.
+        In epsilon / sigma^3, for the potential without a cutoff. Where gas and liquid coexist, it is not valid.
 
     Raises
     ------
@@ -51,7 +51,7 @@ def johnson(density: float, temperature: float) -> float:
     >>> round(johnson(0.31, 1.313), 4)
     0.1299
     """
-    density, temperature = units.checked_positive("density", density), units.checked_positive("temperature", temperature)
+    density, temperature = scalars.checked_positive("density", density), scalars.checked_positive("temperature", temperature)
     coefficients = _coefficients(temperature)
     a, b = coefficients[: len(POWERS_A)], coefficients[len(POWERS_A) :]
     plain = sum(each * density ** (number + 2) for number, each in enumerate(a))

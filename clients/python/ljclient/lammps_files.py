@@ -56,7 +56,7 @@ def read_lammps_data(path: Path, symbols: Union[str, Sequence[str]], *, units: s
     symbols : str or sequence of str
         The element of the one type, or of each type from 1 on.
     units : str, optional
-        The units of the file, as LAMMPS names them. In "lj" lengths are in sigma, and velocities are taken where the session is loaded
+        The units of the file, by their LAMMPS name. With "lj", lengths are in sigma, and velocities are used if the session is loaded
         with `sigma=1, epsilon=1, mass=1`.
     atom_style : str, optional
         The atom style of the file, such as "atomic", "charge" or "full".
@@ -69,7 +69,7 @@ def read_lammps_data(path: Path, symbols: Union[str, Sequence[str]], *, units: s
     Raises
     ------
     ValueError
-        If there is no element of this name, or none for a type, or no such units.
+        If a symbol is not an element, a type has no symbol, or the units are unknown.
     """
     is_reduced = _checked_units(units) == "lj"
     names = [symbols] if isinstance(symbols, str) else list(symbols)
@@ -99,17 +99,17 @@ def write_lammps_data(session: "Session", path: Path, *, units: Optional[str] = 
     session : Session
         A session whose scale is known.
     path : str or os.PathLike
-        The file, which is written anew.
+        The file, which is replaced if it exists.
     units : str, optional
-        As LAMMPS names them: "metal" if nothing is said and epsilon and mass are known, else "lj", in which lengths are in sigma and
+        The units, by their LAMMPS name. The default is "metal" if epsilon and mass are known, else "lj", with lengths in sigma and
         velocities in `sqrt(epsilon / m)`.
     symbols : dict, optional
-        The element in place of each symbol of the session, as in `Session.to_ase`. Types are in the order of the mixture's species.
+        The element that replaces each symbol of the session, as in `Session.to_ase`. Types have the order of the mixture's species.
 
     Raises
     ------
     ValueError
-        If there are no such units, or epsilon and mass are not known and the units are not "lj", or a symbol is no element.
+        If the units are unknown, if they are not "lj" although epsilon and mass are not known, or if a symbol is not an element.
     """
     scale, own = session.scale, session.symbols()
     units = _checked_units(("lj" if scale.dt is None else "metal") if units is None else units)
@@ -158,4 +158,4 @@ class _Types(Dict[int, int]):
     """The atomic number of each type. ValueError for a type that has none."""
 
     def __missing__(self, number: int) -> int:
-        raise ValueError(f"symbols must have one for each type of the file, got {len(self)} and type {number}: say them from type 1 on")
+        raise ValueError(f"symbols must have one for each type of the file, got {len(self)} and type {number}; use a list from type 1 on")

@@ -1,4 +1,4 @@
-"""What a connection has left that was lost while a session was looked at, changed or replaced: it is put right, or told.
+"""Repairs what a lost connection has left while a session was read, changed or replaced, or warns of it.
 
 A branch of a reserved name, or a note on this machine's disk, says what the session was (`guards`). Somebody may have gone on
 since then, so it is put back only where it is as near as a look may have left it: within a step, and after a change at the same
@@ -6,12 +6,14 @@ one. Else both are left, and a warning says so.
 """
 from __future__ import annotations
 
+import contextlib
 from typing import TYPE_CHECKING, Any, Dict, Iterable, List, Optional, Tuple
 
 from . import arrays, reading
 from .disk_notes import Note, notes_of, saved_files_of
 from .guards import CHANGE, LOOK, REPLACING
 from .order import Order, Place
+from .refusals import NoSession
 from .replacing import gone_of
 from .replies import fields, number_after, whole_number
 from .tugs import tugs_of
@@ -22,19 +24,19 @@ if TYPE_CHECKING:
 
 
 class LeftWarning(UserWarning):
-    """An earlier connection was lost while it changed a session or looked at it: what it has left, and what can be done.
+    """A connection was lost while it changed or read a session. The message states what is left, and what you can do.
 
-    Where the quota has no place for a branch more, a note on this machine's disk has step and direction, and of a change the frame:
-    in `~/.local/state/ljclient`, or `ljclient` in `$XDG_STATE_HOME`. The next `connect` from this account to the same address puts
-    the session right by it, if it is still the one that the note is of. Another machine, another account, or a client that is no
-    ljclient, knows nothing of the note: it finds the session perhaps a step on or back, or turned back, or with some of its atoms
-    tugged. What is in the order of space is not sorted anew then.
+    If the quota has no room for another branch, the client writes a note to this machine's disk: step, direction and, for a change,
+    the frame. Notes are in `~/.local/state/ljclient`, or in `ljclient` in `$XDG_STATE_HOME`. The next `connect` from this account to
+    the same address restores the session from the note, if nobody else has changed the session. Other machines, accounts and clients
+    cannot read the note: they may find the session a step forward or back, reversed, or with some of its atoms tugged. Atoms that are
+    kept in the order of space are not sorted again then.
 
-    `load(.., replace=True)`, `load_saved` and `copy` load the new session as `ljclient-new` first, so a bad file loses nothing. If
-    the connection is lost between the DROP of the older one and the LOAD of the new one, `connect` says that the older one is gone,
-    and that the new one is there as `ljclient-new`: load your file once more. Where the quota has no place for both, the older one
-    is saved to a file of that folder first, without what `branch` saved in it, and the error names the file; its scale has to be
-    known.
+    `load(.., replace=True)`, `load_saved` and `copy` first load the new session as `ljclient-new`, so a bad file loses nothing. If the
+    connection is lost between the DROP of the old session and the LOAD of the new one, `connect` warns that the old session is gone,
+    and that the new one is there as `ljclient-new`: load your file once more. If the quota has no room for both, the client first
+    saves the old session, without its branches, to a file in that folder, and the error names the file. The client must know the scale
+    of the session for that.
     """
 
 
@@ -45,13 +47,25 @@ def put_right(user: "Loader") -> None:
     if REPLACING in names:
         told.append(_replacement(user, names))
     steps = {name: whole_number(step) for name, step, _, branches in rows if name != REPLACING and whole_number(branches)}
-    for (name, step), reply in zip(steps.items(), user.ask_all([f"LIST {name}" for name in steps])):
-        told += _branches(user, name, step, reply.lines)
+    for name, saved in _saved_in(user, list(steps)):
+        told += _branches(user, name, steps[name], saved)
     notes, damaged = notes_of(user.address, user.name or "")
     told += [_noted(user, note, note.owned.session in names) for note in notes]
     told += [f"{path} is no note of this client: delete it" for path in damaged]
     told += _saved_files(user, names)
     _tell(told)
+
+
+def _saved_in(user: "Loader", names: List[str]) -> List[Tuple[str, List[str]]]:
+    """The lines of what is saved in each of these sessions, but for those that the user's page in a class has dropped since."""
+    lists = [f"LIST {name}" for name in names]
+    with contextlib.suppress(NoSession):
+        return [(name, reply.lines) for name, reply in zip(names, user.ask_all(lists))]
+    found = []
+    for name, line in zip(names, lists):
+        with contextlib.suppress(NoSession):
+            found.append((name, user.ask(line).lines))
+    return found
 
 
 def session(user: "Loader", name: str, step: int, saved: Iterable[str]) -> None:
@@ -69,20 +83,20 @@ def _tell(texts: Iterable[Optional[str]]) -> None:
 def _branches(user: "Loader", name: str, step: int, saved: Iterable[str]) -> List[str]:
     """Puts a session right by the branches that are saved in it, and returns what is to be told."""
     steps: Dict[str, int] = {branch: whole_number(at) for branch, at in (fields(line, 2) for line in saved)}
-    known, told = user.known(name), []
+    known, told = user._known_of(name), []
     known.left = frozenset()
     for branch, reach, what in ((LOOK, 1, "looked at it"), (CHANGE, 0, "changed the motion of its atoms")):
         if branch not in steps:
             continue
         lost = f"an earlier connection was lost while it {what}: {name} was at the server's step {steps[branch]}"
         if abs(step - steps[branch]) <= reach:
-            user.ask_rows([f"RESTORE {name} {branch}", f"FORGET {name} {branch}"])
+            user._ask_rows([f"RESTORE {name} {branch}", f"FORGET {name} {branch}"])
             told.append(f"{lost}, and is as it was there")
         else:
             known.left |= {branch}
             told.append(
                 f"{lost}, and is at {step} now, so it was left: `RESTORE {name} {branch}` goes back to {steps[branch]}, and `FORGET "
-                f"{name} {branch}` stays at {step}; say it at the prompt, or by user.ask"
+                f"{name} {branch}` stays at {step}; use it at the prompt, or by user.ask"
             )
     return told
 
@@ -141,11 +155,11 @@ def _turned_back(user: "Loader", note: Note, step: int) -> bool:
     ways: Dict[Tuple[int, int], List[str]] = {(n, d): [turn], (n + d, d): [on, turn], (n, -d): [turn, on, turn], (n - d, -d): []}
     way = ways.get((step, now))
     if way is not None:
-        user.ask_rows(way)
+        user._ask_rows(way)
         if [whole_number(word) for word in user.ask(f"MEASURE {name}").words[2:]] == list(note.measured):
             return True
-        user.ask_rows([line for each in reversed(way) for line in ([turn, on, turn] if each == on else [turn])])
-    user.ask_rows([turn])
+        user._ask_rows([line for each in reversed(way) for line in ([turn, on, turn] if each == on else [turn])])
+    user._ask_rows([turn])
     return False
 
 
@@ -154,19 +168,19 @@ def _changed_back(user: "Loader", note: Note, step: int) -> bool:
     before."""
     name, before = note.owned.session, note.before or ()
     turn = f"REVERSE {name}"
-    if user.row(name).atoms != len(before):
+    if user._row(name).atoms != len(before):
         return False
     is_turned = step != note.step
     if is_turned and number_after(turn, user.ask(turn).words, 2) != note.step:
-        user.ask_rows([turn])
+        user._ask_rows([turn])
         return False
     shows = reading.shows(name, len(before))
-    rows = user.ask_rows([*shows, turn, *shows, turn])
+    rows = user._ask_rows([*shows, turn, *shows, turn])
     places, there = (_listed(each.places) for each in reading.both_of(name, len(before), rows))
     if places != [tuple(place) for place in note.places or ()]:
-        user.ask_rows([turn] if is_turned else [])
+        user._ask_rows([turn] if is_turned else [])
         return False
-    user.ask_rows(tugs_of(name, Order(), there, before))
+    user._ask_rows(tugs_of(name, Order(), there, before))
     return True
 
 

@@ -4,26 +4,25 @@ from __future__ import annotations
 import contextlib
 import dataclasses
 import threading
-from typing import TYPE_CHECKING, Any, Dict, Iterable, Iterator, List, Optional, Sequence, Set, Tuple, cast
+from typing import TYPE_CHECKING, Any, Callable, Dict, Iterable, Iterator, List, Optional, Sequence, Set, Tuple, cast
 
-from . import files, units, xyz
-from .atom_groups import adapted
+from . import files, scalars, units, xyz
 from .energy_watch import EnergyWatch, warn_of_large_steps
 from .errors import ClientError, NotRecorded
 from .guards import branches_of, checked_session
 from .interrupts import held
 from .later import Later
+from .load_options import LoadOptions, SourceAtoms
 from .mixture import Mixture, Pair, RawClass
-from .motion import motion_of
 from .new_session import NewSession
 from .order import Order, by_halves, is_in_space
 from .overlap import warn_of_close_atoms
 from .record_file import sum_of_continued
 from .recording import Listener, Listeners, Record, Versions
 from .replacing import CommandOf, replacing
-from .replies import number_after
+from .replies import Row, number_after
 from .resorting import resort
-from .session import Row, Session
+from .session import Session
 from .species import Symbols, check_alike
 from .state import Command, Known, State, state_of
 from .threads import whole
@@ -41,7 +40,7 @@ class Loader:
 
     def __init__(self, versions: Optional[Versions] = None) -> None:
         # Of the thread that uses the user. It is held as long as something has to be whole, and may be taken again.
-        self.lock = threading.RLock()
+        self.lock = self._lock = threading.RLock()
         self.name: Optional[str] = None
         # Of the sessions that this user has seen at the server, and not dropped.
         self.session_names: Set[str] = set()
@@ -49,9 +48,11 @@ class Loader:
         self.address = ""
         self._known: Dict[str, Known] = {}
         # Sessions whose energy is measured as soon as the steps are made that were started.
-        self.started: Set[str] = set()
+        self._started: Set[str] = set()
         self._listeners = Listeners()
         self._versions: Versions = versions or (lambda: [])
+        # Where the record of a new session of this name is written, if its load does not say.
+        self._record_for: Optional[Callable[[str], files.Path]] = None
 
     def load(
         self,
@@ -74,60 +75,79 @@ class Loader:
     ) -> Session:
         """Loads atoms into a new session, at step 0.
 
-        name     the name of the session: 1 to 16 letters, digits, `_` or `-`
-        source   the atoms: the path of an XYZ file, an open one, XYZ text, `Atoms` of ASE, an `AtomGroup` or a `Universe` of
-                 MDAnalysis, a list of `(symbol, x, y, z)`, or positions with `symbols`. ValueError if they have more than one symbol,
-                 or that of another element than the substance of `units` whose sigma, epsilon and mass are said
-        symbols  the symbol of all atoms, or a list of one for each, in place of those of the source, whatever these are
-        edge     the edge of the cubic box, in the unit of the file. Where it is not said, it is that of `Atoms` in a cubic cell,
-                 or of the cubic `Lattice` of extended XYZ. Where it is said, no cell and no Lattice is looked at
-        sigma    the distance sigma, in the same unit, below a fifth of the edge
-        h        the step factor: `dt^2 epsilon / (m sigma^2)` in units of 2^-32, a whole number from 1 to 16777216
+        Pass h, or pass epsilon, mass and dt, from which h is computed and rounded; edge, sigma and positions are then in angstrom. If
+        you pass epsilon and mass with h, `Session.dt` and temperatures in kelvin are known too.
 
-        In place of h there may be physical units, and edge, sigma and positions are then in angstrom:
+        The atoms are at rest, unless you pass `before` or `pair`, or the source has velocities. Velocities are read from ASE `Atoms`
+        and from extended XYZ text: from its column `momenta`, in ASE's units and divided by its column `masses` or by mass, else from
+        `velo`, `vel`, `velocities` or `velocity`, in angstrom / femtosecond as QUIP, GPUMD and `write_trajectory` write them.
+        Velocities need epsilon and mass. They are rounded, as `print(session.motion)` shows, and are the velocities half a step ago,
+        like kinetic energies.
 
-        epsilon  the depth of the potential in electronvolt, such as `119.8 * units.kelvin`
-        mass     the mass of an atom in dalton
-        dt       the time step in femtoseconds. h is the nearest whole number, and `Session.dt` the time step that this h
-                 stands for, which is what the simulation has
+        Parameters
+        ----------
+        name : str
+            The name of the session: 1 to 16 letters, digits, `_` or `-`.
+        source : object
+            The atoms: the path of an XYZ file, an open file, XYZ text, `Atoms` of ASE, an `AtomGroup` or a `Universe` of MDAnalysis,
+            a list of `(symbol, x, y, z)`, or positions with `symbols`.
+        edge : float, optional
+            The edge of the cubic box, in the unit of the file. The default is the cubic cell of the `Atoms`, or the cubic `Lattice` of
+            extended XYZ. If you pass `edge`, cell and Lattice are ignored.
+        sigma : float
+            The distance sigma, in the same unit, below a fifth of the edge.
+        h : int, optional
+            The step factor: `dt^2 epsilon / (m sigma^2)` in units of 2^-32, from 1 to 16777216.
+        epsilon : float, optional
+            The depth of the potential in electronvolt, such as `119.8 * units.kelvin`.
+        mass : float, optional
+            The mass of an atom in dalton.
+        dt : float, optional
+            The time step in femtoseconds. `Session.dt` is the time step of the simulation, which belongs to the rounded h.
+        before : object, optional
+            The atoms one step before, also a source. Both frames together set the atoms in motion.
+        pair : bool, optional
+            Whether the source itself has two frames, such as a file of two frames. The first frame is one step before the second.
+        symbols : str or sequence of str, optional
+            The symbol of all atoms, or a symbol for each atom. They replace the symbols of the source.
+        replace : bool, optional
+            Whether it replaces a session of that name. The old session stays until the server has accepted the new one.
+        order : {"space"}, optional
+            "space" sorts the atoms in space at the server, so that steps of many atoms take less time, and `advance` sorts them again
+            every 250 steps. Everything here keeps the numbers of the source; `Session.order` has the server's.
+        watch : bool, optional
+            Whether the energy is measured during runs, with a warning if it changes (`Session.advance`).
+        record : path, optional
+            A file such as "run.lj". Each command of this session is written to it with its reply, before the call returns;
+            `python3 -m ljclient verify run.lj` plays it again. An existing file is replaced when the session is loaded.
 
-        epsilon and mass may be said beside h too: `Session.dt` and temperatures in kelvin are known then.
+        Returns
+        -------
+        Session
+            The session.
 
-        The atoms are at rest, or, where `before` has the atoms one step before (a source too), move as these two say. With
-        `pair=True` the source has two frames itself, that of one step before first, such as a file of two frames.
-        Without these, `Atoms` of ASE move with their velocities, and extended XYZ text with those of its column `momenta`, in
-        the units of ASE and divided by its column `masses`, or by mass if there is none; else `velo`, `vel`, `velocities` or
-        `velocity`, in angstrom / femtosecond as QUIP, GPUMD and `write_trajectory` write them. Velocities need epsilon and mass.
-        They are rounded, and `print(session.motion)` tells to what; they are those of half a step ago, as kinetic energies are.
+        Raises
+        ------
+        ValueError
+            If the atoms have different symbols, or if sigma, epsilon and mass are those of another element in `units`.
+        NotRecorded
+            If the record cannot be written. The session continues without it.
 
-        With `replace=True` it takes the place of a session of that name, which is there until the server has taken the new one.
-        If two atoms are closer than 0.8 sigma there is a warning.
-
-        With `order="space"` the server has the atoms in the order of space, where a step of many is faster, and `advance`
-        sorts them anew each 250 steps. Everything here keeps the numbers of the source; `Session.order` tells the server's.
-
-        If h is above 200,000 there is an `EnergyWarning`, since the energy grows fast then. There is one on the way too, if
-        the energy changes (`Session.advance`). With `watch=False` there is none, and nothing is measured for it.
-
-        With `record="run.lj"` each command of this session is written to that file, with a sum of its reply, before the reply
-        is told here; `python3 -m ljclient verify run.lj` plays it again. A file that is there stays until the session is loaded.
-        If the file can no longer be written, `NotRecorded` is raised, and the session goes on without a record.
+        Warns
+        -----
+        UserWarning
+            If two atoms are closer than 0.8 sigma.
+        EnergyWarning
+            If h is above 200,000, because the energy then grows fast.
         """
         checked_session(name)
-        source, before = adapted(source), adapted(before)
-        frames = xyz.frames_of(source, before, symbols, pair)
-        edge = _edge_of(edge, source, frames)
-        scale = units.Scale.of(edge, sigma, h, epsilon=epsilon, mass=mass, dt=dt)
+        options = LoadOptions(edge, before, pair, symbols, replace, order, watch, record)
+        atoms = options.atoms_of(source)
+        scale = units.Scale.of(atoms.edge, sigma, h, epsilon=epsilon, mass=mass, dt=dt)
         if symbols is None:
-            check_alike((row[0] for row in xyz.present_atoms(frames)), scale)
-        motion = motion_of(source, frames[1], scale) if before is None and not pair else None
-        words = f"{units.word(edge)} {units.word(sigma)} {units.word(scale.h)}"
-        known = Known(scale, is_sorted=is_in_space(order), watch=EnergyWatch(watch))
-        warn_of_close_atoms(frames, scale)
-        if watch:
-            warn_of_large_steps(scale)
-        self._send(NewSession.of("LOAD", words, frames, edge, motion, known), name, known, replace, record)
-        return Session(cast("User", self), name, scale, motion=motion)
+            check_alike((row[0] for row in xyz.present_atoms(atoms.frames)), scale)
+        words = f"{scalars.word(atoms.edge)} {scalars.word(sigma)} {scalars.word(scale.h)}"
+        return self._load(name, words, atoms, scale, None, options)
 
     def load_mix(
         self,
@@ -153,61 +173,90 @@ class Loader:
     ) -> Session:
         """Loads atoms of two species, all of one mass, into a new session at step 0.
 
-        name, source, edge, before, pair, symbols, replace, order, watch, record are as in `load`.
+        The step factor h and the weight of each of the three classes are rounded to whole numbers; `print(session.mixture)` shows them.
+        A weight is an epsilon in 256ths of the first epsilon, which is the unit of energies.
 
-        species  the two symbols, such as `("Ar", "Kr")`; each atom has one of them
-        first    sigma (angstrom) and epsilon (electronvolt) of two atoms of the first species
-        second   those of two atoms of the second species
-        mixed    those of one atom of each; where they are not said, the mean of the sigmas and the geometric mean of the
-                 epsilons (Lorentz and Berthelot)
-        mass     the mass of each atom in dalton
-        dt       the time step in femtoseconds
+        Parameters
+        ----------
+        name : str
+            As in `load`.
+        source : object
+            As in `load`.
+        species : sequence of str
+            The two symbols, such as `("Ar", "Kr")`; each atom has one of them.
+        edge : float, optional
+            As in `load`.
+        first : tuple of float, optional
+            Sigma (angstrom) and epsilon (electronvolt) of two atoms of the first species.
+        second : tuple of float, optional
+            The same for two atoms of the second species.
+        mixed : tuple of float, optional
+            The same for one atom of each species. The default is the mean of the sigmas and the geometric mean of the epsilons
+            (Lorentz and Berthelot).
+        mass : float, optional
+            The mass of each atom in dalton.
+        dt : float, optional
+            The time step in femtoseconds.
+        classes : sequence of tuple, optional
+            Instead of first, second, mixed and dt: three tuples `(sigma, h, weight)`, for two atoms of the first species, for one atom
+            of each, and for two atoms of the second.
+        epsilon : float, optional
+            With classes: the epsilon of the first class in electronvolt. With it and mass, `Session.dt` and temperatures in kelvin are
+            known.
+        before, pair, symbols, replace, order, watch, record : object, optional
+            As in `load`.
 
-        The step factor h and the weight of each of the three are the nearest whole numbers; `print(session.mixture)` tells
-        them. A weight is an epsilon in 256ths of the first one, which is the unit of energies.
-
-        In place of first, second, mixed and dt there may be the numbers of the protocol:
-
-        classes  three of `(sigma, h, weight)`: of two atoms of the first species, of one of each, of two of the second
-        epsilon  that of the first in electronvolt, and mass, where `Session.dt` and temperatures in kelvin are to be known
+        Returns
+        -------
+        Session
+            The session.
         """
         checked_session(name)
-        source, before = adapted(source), adapted(before)
-        frames = xyz.frames_of(source, before, symbols, pair)
-        edge = _edge_of(edge, source, frames)
-        mixture = Mixture.of(edge, species, first=first, second=second, mixed=mixed, mass=mass, dt=dt, classes=classes, epsilon=epsilon)
-        motion = motion_of(source, frames[1], mixture.scale) if before is None and not pair else None
-        words = f"{units.word(edge)} {mixture.words}"
-        known = Known(mixture.scale, mixture, is_sorted=is_in_space(order), watch=EnergyWatch(watch))
-        warn_of_close_atoms(frames, mixture.scale, mixture)
-        if watch:
-            warn_of_large_steps(mixture.scale, mixture)
-        self._send(NewSession.of("LOADMIX", words, frames, edge, motion, known), name, known, replace, record)
-        return Session(cast("User", self), name, mixture.scale, mixture=mixture, motion=motion)
+        options = LoadOptions(edge, before, pair, symbols, replace, order, watch, record)
+        atoms = options.atoms_of(source)
+        mixture = Mixture.of(
+            atoms.edge, species, first=first, second=second, mixed=mixed, mass=mass, dt=dt, classes=classes, epsilon=epsilon
+        )
+        words = f"{scalars.word(atoms.edge)} {mixture.words}"
+        return self._load(name, words, atoms, mixture.scale, mixture, options)
+
+    def _load(
+        self, name: str, words: str, atoms: SourceAtoms, scale: units.Scale, mixture: Optional[Mixture], options: LoadOptions
+    ) -> Session:
+        """Loads atoms into a new session by the words of the command between its name and the mode."""
+        motion = atoms.motion(scale)
+        known = Known(scale, mixture, is_sorted=is_in_space(options.order), watch=EnergyWatch(options.watch))
+        warn_of_close_atoms(atoms.frames, scale, mixture)
+        if options.watch:
+            warn_of_large_steps(scale, mixture)
+        verb = "LOAD" if mixture is None else "LOADMIX"
+        self._send(NewSession.of(verb, words, atoms.frames, atoms.edge, motion, known), name, known, options)
+        return Session(cast("User", self), name, scale, mixture=mixture, motion=motion)
 
     @whole
-    def _send(self, new: NewSession, name: str, known: Known, replace: bool, record: Optional[files.Path]) -> None:
+    def _send(self, new: NewSession, name: str, known: Known, options: LoadOptions) -> None:
         """Asks for a new session, in place of one of that name where it is to be replaced."""
         line, body = new.command(name)
         with held():
-            with self._recorded(name, record, replace, new.command):
+            with self._recorded(name, options, new.command):
                 self.ask(line, body)
-            self._known[name] = new.known(known)
+            self._learn(name, new.known(known))
 
     @contextlib.contextmanager
-    def _recorded(self, name: str, path: Optional[files.Path], replace: bool, command_of: CommandOf, continues: str = "") -> Iterator[None]:
+    def _recorded(self, name: str, options: LoadOptions, command_of: CommandOf) -> Iterator[None]:
         """Drops a session that is to be replaced, once the server has taken the new one, and has the record of that begin with what
         loads it.
 
         The file is opened first, so that nothing is dropped if it cannot be. If nothing is loaded it stays as it was.
         """
-        is_same = replace and self._listeners.writes(name, path)
-        record = None if path is None or is_same else Record(path, self._versions(), continues)
+        path = self._record_for(name) if options.record is None and self._record_for is not None else options.record
+        is_same = options.replace and self._listeners.writes(name, path)
+        record = None if path is None or is_same else Record(path, self._versions(), options.continues)
         try:
-            with replacing(self, name, command_of, replace) as drops:
-                self.ask_commands(drops)
+            with replacing(self, name, command_of, options.replace) as drops:
+                self._ask_commands(drops)
                 if is_same and path is not None:
-                    record = Record(path, self._versions(), continues)
+                    record = Record(path, self._versions(), options.continues)
                 with self._heard_by(name, record):
                     yield
         except NotRecorded:
@@ -220,17 +269,26 @@ class Loader:
                 record.give_up()
 
     @whole
-    def listen(self, name: str, listener: Optional[Listener]) -> None:
+    def _listen(self, name: str, listener: Optional[Listener]) -> None:
         """Has this one, or nobody, hear of each command of a session and its reply."""
         self._listeners.put(name, listener)
         self._attach()
 
+    def _record_of(self, name: str) -> Optional[Record]:
+        """The record that is written of a session, if there is one."""
+        return self._listeners.record_of(name)
+
     @contextlib.contextmanager
     def unrecorded(self, name: str) -> Iterator[None]:
-        """Leaves the commands of a session within this block out of its record. They leave the session as it was.
+        """Leaves the commands of a session within this block out of its record. They must leave the session as it was.
 
-        Where an error, an interrupt or the end of the connection breaks the block off, or a new connection or program is begun
-        within it, all of them are recorded. Within another such block the outer one decides.
+        If an error, an interrupt or the end of the connection ends the block, or a new connection or program is started within it, its
+        commands are recorded after all. In nested blocks the outer block decides.
+
+        Parameters
+        ----------
+        name : str
+            The name of the session.
         """
         with self.lock:
             try:
@@ -244,12 +302,12 @@ class Loader:
         """Has someone hear of the commands of a session. Who heard of it before does so again if this one heard of no session."""
         before = self._listeners.by_name.get(name)
         if listener is not None:
-            self.listen(name, listener)
+            self._listen(name, listener)
         try:
             yield
         finally:
             if listener is not None and not listener.is_begun:
-                self.listen(name, before)
+                self._listen(name, before)
 
     @whole
     def load_saved(
@@ -265,16 +323,38 @@ class Loader:
     ) -> Session:
         """Loads a session that `Session.save` has written, exactly as it was.
 
-        name, replace, watch  as in `load`; without a name it has the one that it was saved under
-        record                as in `load`
-        continues             the record that the new one continues, such as that of a run which was killed: another file, whose
-                              SHA-256 is written into the new one
-        order                 "space" as in `load`; else as it was when it was saved
+        Step numbers continue from the saved step.
 
-        Steps are counted on from the saved one. Raises `Damaged`, which names the line, if the file is not as it was
-        written.
+        Parameters
+        ----------
+        path : path
+            The file.
+        name : str, optional
+            As in `load`. The default is the name under which it was saved.
+        replace : bool, optional
+            As in `load`.
+        order : {"space"}, optional
+            As in `load`. By default as it was when it was saved.
+        watch : bool, optional
+            As in `load`.
+        record : path, optional
+            As in `load`.
+        continues : path, optional
+            The record that the new record continues, such as the record of a killed run: another file, whose SHA-256 is written into
+            the new record.
+
+        Returns
+        -------
+        Session
+            The session.
+
+        Raises
+        ------
+        Damaged
+            If the file differs from what was written; the error names the line.
         """
-        state, before = checkpoint.read(path), sum_of_continued(continues, record)
+        state = checkpoint.read(path)
+        options = LoadOptions(replace=replace, order=order, watch=watch, record=record, continues=sum_of_continued(continues, record))
         state = dataclasses.replace(
             state,
             name=checked_session(state.name if name is None else name),
@@ -283,47 +363,39 @@ class Loader:
         order_of = Order(by_halves(state.places) if state.is_sorted else None)
         if watch:
             warn_of_large_steps(state.scale, state.mixture)
-        self._put(state, order_of, EnergyWatch(watch), replace, record, before)
+        self._put(state, order_of, EnergyWatch(watch), options)
         return Session(cast("User", self), state.name, state.scale, mixture=state.mixture)
 
     @whole
-    def copy_of(self, name: str, new: str, replace: bool) -> Session:
+    def _copy_of(self, name: str, new: str, replace: bool) -> Session:
         """As `Session.copy`."""
         if checked_session(new) == name:
-            raise ValueError(f"a copy of {name} has another name")
-        state, known = dataclasses.replace(self.state_of(name), name=new), self.known(name)
-        self._put(state, Order(known.order.numbers), dataclasses.replace(known.watch), replace)
+            raise ValueError(f"new must be another name than {name}, got {new!r}")
+        state, known = dataclasses.replace(self._state_of(name), name=new), self._known_of(name)
+        self._put(state, Order(known.order.numbers), dataclasses.replace(known.watch), LoadOptions(replace=replace))
         return Session(cast("User", self), new, state.scale, mixture=state.mixture)
 
     @whole
-    def resort(self, name: str) -> None:
+    def _resort(self, name: str) -> None:
         """As `Session.resort`."""
         if saved := branches_of(self, name):
-            raise ValueError(f"{name} cannot be sorted anew, since what is saved by branch would be lost: {', '.join(saved)}")
+            raise ValueError(f"cannot sort {name} again: what is saved by `branch` would be lost ({', '.join(saved)}); use `forget` first")
         resort(self, name)
 
     @whole
-    def restore(self, name: str, branch: str) -> int:
+    def _restore(self, name: str, branch: str) -> int:
         """As `Session.restore`."""
         line = f"RESTORE {name} {branch}"
-        step, known = number_after(line, self.ask(line).words, 3), self.known(name)
+        step, known = number_after(line, self.ask(line).words, 3), self._known_of(name)
         known.order = known.branch_order(branch)
         return known.order.step_of(step)
 
     @whole
-    def state_of(self, name: str) -> State:
+    def _state_of(self, name: str) -> State:
         """The whole state of a session, which is as it was then. Its pending steps are done first."""
         return state_of(self, name)
 
-    def _put(
-        self,
-        state: State,
-        order: Order,
-        watch: EnergyWatch,
-        replace: bool = False,
-        record: Optional[files.Path] = None,
-        continues: str = "",
-    ) -> None:
+    def _put(self, state: State, order: Order, watch: EnergyWatch, options: LoadOptions) -> None:
         """Has a state be a session in this order, in place of one of its name where that is to be replaced. An interrupt waits until
         this is done."""
 
@@ -331,21 +403,25 @@ class Loader:
             return dataclasses.replace(state, name=new).command(order)
 
         with held():
-            with self._recorded(state.name, record, replace, command_of, continues):
-                self.ask_commands([command_of(state.name)])
-            self._known[state.name] = dataclasses.replace(state.known(order), watch=watch, direction=1)
+            with self._recorded(state.name, options, command_of):
+                self._ask_commands([command_of(state.name)])
+            self._learn(state.name, dataclasses.replace(state.known(order), watch=watch, direction=1))
 
-    def known(self, name: str) -> Known:
+    def _learn(self, name: str, known: Known) -> None:
+        """Notes what is known of a session that was loaded, beside what the server has said."""
+        self._known[name] = dataclasses.replace(known, n_atoms=self._known_of(name).n_atoms)
+
+    def _known_of(self, name: str) -> Known:
         """What is known of a session."""
         return self._known.setdefault(name, Known())
 
-    def has_dropped(self, name: str) -> None:
+    def _forget(self, name: str) -> None:
         """Forgets what was said of a session that is gone."""
         self._known.pop(name, None)
-        self.started.discard(name)
+        self._started.discard(name)
 
     @property
-    def outlasts_connections(self) -> bool:
+    def _outlasts_connections(self) -> bool:
         """Whether what is loaded is still there when the connection has ended."""
         raise NotImplementedError
 
@@ -354,12 +430,12 @@ class Loader:
         """As `User.closed`."""
         raise NotImplementedError
 
-    def row(self, name: str) -> Row:
-        """As `User.row`."""
+    def _row(self, name: str) -> Row:
+        """As `User._row`."""
         raise NotImplementedError
 
-    def make_room(self, count: int) -> None:
-        """As `User.make_room`."""
+    def _make_room(self, count: int) -> None:
+        """As `User._make_room`."""
         raise NotImplementedError
 
     def _attach(self) -> None:
@@ -374,25 +450,18 @@ class Loader:
         """As `User.ask_all`."""
         raise NotImplementedError
 
-    def ask_commands(self, commands: Sequence[Command]) -> List[Reply]:
-        """As `User.ask_commands`."""
+    def _ask_commands(self, commands: Sequence[Command]) -> List[Reply]:
+        """As `User._ask_commands`."""
         raise NotImplementedError
 
-    def ask_text(self, line: str) -> Tuple[List[str], bytes]:
-        """As `User.ask_text`."""
+    def _ask_text(self, line: str) -> Tuple[List[str], bytes]:
+        """As `User._ask_text`."""
         raise NotImplementedError
 
-    def ask_rows(self, lines: Sequence[str]) -> bytes:
-        """As `User.ask_rows`."""
+    def _ask_rows(self, lines: Sequence[str]) -> bytes:
+        """As `User._ask_rows`."""
         raise NotImplementedError
 
     def sessions(self) -> List[Row]:
         """As `User.sessions`."""
         raise NotImplementedError
-
-
-def _edge_of(edge: Optional[units.Number], source: Any, frames: xyz.Frames) -> units.Number:
-    """The edge of the box that was said, or that the source says itself."""
-    if edge is None and (edge := xyz.edge_of(source, frames)) is None:
-        raise ValueError("say the edge of the box, edge=..: the atoms say no Lattice")
-    return edge

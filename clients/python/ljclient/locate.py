@@ -1,4 +1,4 @@
-"""Which program `run` starts, and the building of the repository's own."""
+"""Finds the program that `run` starts, and builds the one of the repository."""
 from __future__ import annotations
 
 import os
@@ -18,11 +18,11 @@ else:
 
 BUILD_SECONDS = 3600.0
 VERSION_SECONDS = 30.0
-NONE_FOUND = "there is no ljserve: say run(program), set LJSERVE, install the wheel ljserve beside ljclient, or put it on the PATH"
+NONE_FOUND = "cannot find ljserve; use run(program), set LJSERVE, install the wheel ljserve beside ljclient, or put it on the PATH"
 
 
 def find_program() -> str:
-    """The program that `run` starts where none is said.
+    """The program that `run` starts by default.
 
     It is the one that LJSERVE names, else that of the wheel `ljserve` in the folder of this package, else bin/ljserve of the
     repository that this package stands in, else that of the wheel wherever it is installed, else `ljserve` on the PATH.
@@ -67,9 +67,9 @@ def _build(script: pathlib.Path) -> None:
     try:
         done = subprocess.run(words, stdin=subprocess.DEVNULL, stdout=subprocess.DEVNULL, timeout=BUILD_SECONDS, env=env)
     except (OSError, subprocess.TimeoutExpired) as error:
-        raise CannotStart(f"{script} cannot be started: {error}") from error
+        raise CannotStart(f"cannot start {script}: {error}") from error
     if done.returncode != 0:
-        raise CannotStart(f"{script} has ended with status {done.returncode}")
+        raise CannotStart(f"cannot build by {script}: it ended with status {done.returncode}")
 
 
 def version_of(program: str, env: Optional[Dict[str, str]] = None) -> List[str]:

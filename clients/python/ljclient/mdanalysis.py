@@ -1,4 +1,4 @@
-"""Between sessions and MDAnalysis: a `Universe` over a session that goes on, and atoms of a `Universe` as a source.
+"""Sessions in MDAnalysis: a `Universe` that advances a session, and atoms of a `Universe` as a source.
 
     from ljclient import run, units
     from ljclient.mdanalysis import universe
@@ -43,7 +43,7 @@ class SessionReader(_Reader):  # type: ignore[misc]
     every : int
         How many steps there are from one frame to the next.
     n_frames : int
-        How many frames there are, of which the first is the present one.
+        The number of frames. The first is the present one.
 
     Raises
     ------
@@ -58,7 +58,7 @@ class SessionReader(_Reader):  # type: ignore[misc]
         super().__init__(session, **words)
         checked_stops(every, n_frames, "n_frames")
         self.session, self.every = session, every
-        self.n_frames, self.n_atoms = n_frames, session.atoms
+        self.n_frames, self.n_atoms = n_frames, session.n_atoms
         self._made = 0
         time = session.scale.time(every)
         self._ts_kwargs["dt"] = time / self._picosecond
@@ -108,22 +108,22 @@ class SessionReader(_Reader):  # type: ignore[misc]
 
 
 def universe(session: Session, every: int = 1, n_frames: int = 1, symbols: Optional[Replacements] = None) -> Any:
-    """A `Universe` of MDAnalysis over a session: its atoms, and a trajectory of the frames on its way.
+    """A `Universe` of MDAnalysis for a session: its atoms, and a trajectory of its frames.
 
-    So all of MDAnalysis's analysis goes on with the session, and its writers write it, such as `.gro`, `.pdb` and `.xtc`. Any frame can
-    be asked for, in any order: the session goes on or back to it, exactly. After a whole iteration it is at the first frame again, to
-    the bit.
+    All of MDAnalysis's analysis can read it, and all of its writers can write it, such as `.gro`, `.pdb` and `.xtc`. You can ask for any
+    frame, in any order: the session goes forward or back to it, exactly. After a whole iteration the session is at the first frame again,
+    bit for bit.
 
     Parameters
     ----------
     session : Session
-        A session whose scale is known. The trajectory has it go on, and back.
+        A session whose scale is known. The trajectory moves it forward and back.
     every : int, optional
         How many steps there are from one frame to the next.
     n_frames : int, optional
-        How many frames there are, of which the first is the present one.
+        The number of frames. The first is the present one.
     symbols : dict, optional
-        What stands in place of each symbol of the session, such as `{"A": "Ar", "B": "Kr"}`.
+        What replaces each symbol of the session, such as `{"A": "Ar", "B": "Kr"}`.
 
     Returns
     -------
@@ -134,7 +134,7 @@ def universe(session: Session, every: int = 1, n_frames: int = 1, symbols: Optio
     Raises
     ------
     ValueError
-        If `every` or `n_frames` is below 1, or a symbol is left out.
+        If `every` or `n_frames` is below 1, or a symbol has no replacement.
     """
     reader = SessionReader(session, every, n_frames)
     own: List[str] = session.symbols()

@@ -10,15 +10,25 @@ from .units import POTENTIAL_UNIT, Scale
 
 @dataclass(frozen=True)
 class Measurement:
-    """What `measure` tells.
+    """The result of `Session.measure`.
 
-    step, atoms  the step number, and how many atoms there are
-    momentum     along x, y and z: the sum of the displacements of the last step, in ring units (edge / 2^32) per step
-    kinetic      the kinetic number: the sum of the squares of these displacements, in square ring units
-    potential    the potential in units of 2^-24 epsilon
+    Displacements are from the step before to this step, so the kinetic energy is the value half a step ago. The potential energy is
+    the value at this step. For a mixture, epsilon is the epsilon of its first class.
 
-    Of a mixture, epsilon is that of its first class. Displacements are those of the step before, so the kinetic energy is
-    that of half a step ago, and the potential energy that of now.
+    Attributes
+    ----------
+    step : int
+        The step number.
+    atoms : int
+        How many atoms there are.
+    momentum : tuple of int
+        Along x, y and z: the sum of the displacements of the last step, in ring units (edge / 2^32) per step.
+    kinetic : int
+        The kinetic number: the sum of the squares of these displacements, in square ring units.
+    potential : int
+        The potential in units of 2^-24 epsilon.
+    scale : Scale or None
+        What the whole numbers of the session mean, if the client knows it.
     """
 
     step: int
@@ -30,18 +40,18 @@ class Measurement:
 
     @staticmethod
     def of(words: Sequence[str], scale: Optional[Scale]) -> "Measurement":
-        """The measurement that the words of a reply tell, those after the name of the session."""
+        """The measurement from the words of a reply after the name of the session."""
         step, atoms, x, y, z, kinetic, potential = whole_numbers(words, 7)
         return Measurement(step, atoms, (x, y, z), kinetic, potential, scale)
 
     @property
     def potential_energy(self) -> float:
-        """In epsilon."""
+        """The potential energy in epsilon."""
         return self.potential / POTENTIAL_UNIT if self.scale is None else self.scale.potential_energy(self.potential)
 
     @property
     def kinetic_energy(self) -> float:
-        """In epsilon, as the potential energy."""
+        """The kinetic energy in epsilon."""
         return known(self.scale).kinetic_energy(self.kinetic)
 
     @property
@@ -51,23 +61,50 @@ class Measurement:
 
     @property
     def temperature(self) -> float:
-        """Two thirds of the kinetic energy of an atom: in kelvin where epsilon was said, else in epsilon / k_B."""
+        """Two thirds of the kinetic energy of an atom: in kelvin if epsilon is known, else in epsilon / k_B."""
         return self.temperature_at(self.kinetic_energy)
 
     def temperature_at(self, kinetic_energy: float) -> float:
-        """The temperature that these atoms would have at another kinetic energy, in epsilon."""
+        """The temperature that these atoms would have at another kinetic energy.
+
+        Parameters
+        ----------
+        kinetic_energy : float
+            In epsilon.
+
+        Returns
+        -------
+        float
+            In kelvin if epsilon is known, else in epsilon / k_B.
+        """
         return known(self.scale).temperature_unit * 2 * kinetic_energy / (3 * self.atoms)
 
     def in_electronvolt(self, energy: float) -> float:
-        """An energy in epsilon, such as `potential_energy`, in electronvolt. Needs epsilon."""
+        """An energy in electronvolt.
+
+        Parameters
+        ----------
+        energy : float
+            In epsilon, such as `potential_energy`.
+
+        Returns
+        -------
+        float
+            In electronvolt.
+
+        Raises
+        ------
+        ValueError
+            If epsilon is not known.
+        """
         epsilon = known(self.scale).epsilon
         if epsilon is None:
-            raise ValueError("epsilon is not known: say epsilon= (in electronvolt) where the session is loaded")
+            raise ValueError("epsilon must be known, got None; use epsilon= (in electronvolt) where the session is loaded")
         return energy * epsilon
 
 
 def known(scale: Optional[Scale]) -> Scale:
     """A scale that somebody has said. Raises ValueError if nobody has."""
     if scale is None:
-        raise ValueError("the scale is not known: user.session(name, edge=.., sigma=.., h=..) says it")
+        raise ValueError("the scale of the session must be known, got None; use user.session(name, edge=.., sigma=.., h=..)")
     return scale

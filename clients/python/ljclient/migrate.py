@@ -41,15 +41,15 @@ class Kept:
 
     def tell(self, loader: "Loader") -> None:
         """Has it be known that these commands were done."""
-        known = loader.known(self.now.name)
+        known = loader._known_of(self.now.name)
         known.order = self.now.order_of(self.order)
         known.branches = {branch: state.order_of(self.order) for branch, state in self.saved.items()}
 
     def put_back(self, loader: "Loader") -> None:
         """Has the session that was read be as it was, by tugs too. The server counts on from the last saved state."""
         for last in list(self.saved.values())[-1:]:
-            loader.ask_commands(changes(last, self.now, self.order))
-            known, now = loader.known(self.now.name), self.now
+            loader._ask_commands(changes(last, self.now, self.order))
+            known, now = loader._known_of(self.now.name), self.now
             step = known.order.direction * (last.step - known.order.step)
             direction = known.order.direction * last.direction * now.direction
             known.order = replace(known.order, step=now.step - direction * step, direction=direction)
@@ -62,11 +62,11 @@ def most_commands(atoms: int, branches: int) -> int:
 
 def kept_of(loader: "Loader", name: str) -> Kept:
     """A session with what is saved in it. It has the last saved state then, if any, until `put_back`."""
-    now, saved = loader.state_of(name), {}
+    now, saved = loader._state_of(name), {}
     for branch in [line.split(" ")[0] for line in loader.ask(f"LIST {name}").lines]:
-        loader.restore(name, branch)
-        saved[branch] = loader.state_of(name)
-    return Kept(now, saved, Order(loader.known(name).order.numbers))
+        loader._restore(name, branch)
+        saved[branch] = loader._state_of(name)
+    return Kept(now, saved, Order(loader._known_of(name).order.numbers))
 
 
 def program_with(restart: Callable[[], Wire], sessions: Sequence[Kept]) -> Optional[Wire]:

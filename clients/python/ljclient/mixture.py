@@ -5,24 +5,32 @@ import math
 from dataclasses import dataclass, field
 from typing import List, Optional, Sequence, Tuple
 
-from .names import checked_symbol
-from .units import FULL_WEIGHT, Number, Scale, checked_positive, plain_float, real_of, word
+from .names import checked_symbol, shortened
+from .scalars import checked_positive, plain_float, real_of, word
+from .units import FULL_WEIGHT, Number, Scale
 
 MAX_WEIGHT = 65_536
+OF_PAIRS = "first=, second=, mass= and dt="
+OF_CLASSES = "classes= of (sigma, h, weight)"
 Pair = Tuple[Number, float]
 RawClass = Tuple[Number, int, int]
 
 
 @dataclass(frozen=True)
 class Mixture:
-    """Two species of atoms, and how two atoms interact by what they are. All atoms have one mass.
+    """Two species of atoms, and how each pair of species interacts. `str` has a line for each class.
 
-    species  the symbols of the two species
-    classes  the scales of two atoms of the first species, of one of each, and of two of the second, with what their
-             numbers were rounded to: `h`, `weight`, `sigma_on_ring`, and the time step `dt` that h stands for
-    words    the words of the command that say species and classes
+    All atoms have one mass.
 
-    `str` has a line for each class.
+    Attributes
+    ----------
+    species : tuple of str
+        The symbols of the two species.
+    classes : tuple of Scale
+        The scales of the pairs first with first, first with second, and second with second species. They have the rounded numbers:
+        `h`, `weight`, `sigma_on_ring`, and the time step `dt` that belongs to h.
+    words : str
+        The words of the command for species and classes.
     """
 
     species: Tuple[str, str]
@@ -44,7 +52,7 @@ class Mixture:
     ) -> "Mixture":
         """The mixture of pairs of sigma and epsilon, with mass and dt; or of three classes of sigma, h and weight.
 
-        Of pairs, each h and each weight is the nearest whole number, and where `mixed` is not said it is that of Lorentz
+        Of pairs, each h and each weight is the nearest whole number, and `mixed` is by default that of Lorentz
         and Berthelot. Beside classes, `epsilon` (of the first one) and `mass` may be said.
         """
         symbols = checked_species(species)
@@ -52,15 +60,19 @@ class Mixture:
             mass = real_of("mass", mass, ": both species have one mass here")
         if classes is None:
             if first is None or second is None or mass is None or dt is None or epsilon is not None:
-                raise ValueError("say first= and second= (sigma, epsilon) with mass= and dt=, or classes= (sigma, h, weight)")
+                raise ValueError(
+                    f"a mixture must have first and second (sigma, epsilon), mass and dt, or classes; use {OF_PAIRS}, or {OF_CLASSES}"
+                )
             first, second = checked_pair("first", first), checked_pair("second", second)
             pairs = [first, lorentz_berthelot(first, second) if mixed is None else checked_pair("mixed", mixed), second]
             scales = _rounded(edge, symbols, pairs, mass, dt)
             return _made(symbols, [sigma for sigma, _ in pairs], scales)
         if (first, second, mixed, dt) != (None,) * 4:
-            raise ValueError("classes= takes the place of first=, second=, mixed= and dt=")
+            raise ValueError(
+                f"cannot use classes= with first=, second=, mixed= or dt=: it takes their place; use {OF_PAIRS}, or {OF_CLASSES}"
+            )
         if len(classes) != 3 or not all(hasattr(each, "__len__") and len(each) == 3 for each in classes):
-            raise ValueError(f"a mixture has three classes of (sigma, h, weight), not {classes!r}")
+            raise ValueError(f"a mixture must have three classes of (sigma, h, weight), got {shortened(classes)}")
         scales = [Scale.of(edge, sigma, h, weight=weight) for sigma, h, weight in classes]
         sigma, h, weight = classes[0]
         scales[0] = Scale.of(edge, sigma, h, epsilon=epsilon, mass=mass, weight=weight)
@@ -73,7 +85,7 @@ class Mixture:
 
     @property
     def epsilons(self) -> Optional[Tuple[float, ...]]:
-        """The epsilons that the weights stand for, in electronvolt; None where that of the first class was not said."""
+        """The epsilons that belong to the weights, in electronvolt; None if the epsilon of the first class is not known."""
         unit = self.scale.epsilon
         return None if unit is None else tuple(unit * each.weight / self.scale.weight for each in self.classes)
 
@@ -83,23 +95,23 @@ class Mixture:
 
 
 def checked_species(species: Sequence[str]) -> Tuple[str, str]:
-    """The symbols of two species. Raises ValueError for what is none, and for one symbol said twice."""
+    """The symbols of two species. Raises ValueError for others, and if both are equal."""
     if isinstance(species, str) or len(species) != 2:
-        raise ValueError(f"a mixture has two species, such as ('Ar', 'Kr'), not {species!r}")
+        raise ValueError(f"species must be two symbols, such as ('Ar', 'Kr'), got {shortened(species)}")
     first, second = species
     for symbol in (first, second):
         checked_symbol(symbol)
     if first == second:
-        raise ValueError(f"the two species have one symbol, {first!r}; `load` takes atoms that are all alike")
+        raise ValueError(f"species must be two different symbols, got {first!r} twice; use `load` for atoms that are all alike")
     return first, second
 
 
 def checked_pair(name: str, pair: Pair) -> Pair:
-    """Sigma and epsilon. Raises ValueError for what is not these two."""
+    """Sigma and epsilon. Raises ValueError if a pair has something else."""
     try:
         sigma, epsilon = pair
     except (TypeError, ValueError):
-        raise ValueError(f"{name}= is (sigma, epsilon), not {pair!r}") from None
+        raise ValueError(f"{name} must be (sigma, epsilon), got {shortened(pair)}") from None
     return sigma, epsilon
 
 
@@ -114,7 +126,7 @@ def weight_of(epsilon: float, unit: float) -> int:
     weight = round(min(FULL_WEIGHT * (checked_positive("epsilon", epsilon) / unit), 2.0 * MAX_WEIGHT))
     if not 1 <= weight <= MAX_WEIGHT:
         least, most = unit / FULL_WEIGHT, unit * MAX_WEIGHT / FULL_WEIGHT
-        raise ValueError(f"epsilon is from {least:.3g} to {most:.3g} beside {unit:.3g} of the first class, not {epsilon:.3g}")
+        raise ValueError(f"epsilon must be from {least:.3g} to {most:.3g} beside {unit:.3g} of the first class, got {epsilon:.3g}")
     return weight
 
 

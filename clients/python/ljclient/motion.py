@@ -2,10 +2,12 @@
 from __future__ import annotations
 
 from dataclasses import dataclass, field
-from typing import Any, Optional, Sequence, Tuple
+from typing import Any, Callable, List, Optional, Sequence, Tuple
 
 from . import ase_bridge, columns
-from .units import RING, Scale, checked_positive
+from .renamed import Renamed
+from .scalars import checked_positive
+from .units import RING, Scale
 
 HALF = RING // 2
 Displacement = Tuple[int, int, int]
@@ -14,14 +16,16 @@ TAKEN_AWAY = "atoms.set_momenta(None) takes velocities away"
 
 @dataclass(frozen=True)
 class Motion:
-    """The velocities that atoms were loaded with, and what they were rounded to.
+    """The velocities with which atoms were loaded, and how far they were rounded. `str` shows both in a line.
 
-    unit           a displacement of one ring unit (edge / 2^32) for each step, in angstrom per femtosecond: velocities are
-                   whole multiples of it
-    largest_error  by how much a velocity is off along an axis at most, in angstrom per femtosecond
-    displacements  of each atom along x, y and z, in ring units for each step
-
-    `str` tells it in a line.
+    Attributes
+    ----------
+    unit : float
+        One ring unit (edge / 2^32) per step, in angstrom per femtosecond. Velocities are whole multiples of it.
+    largest_error : float
+        The largest rounding error of a velocity along an axis, in angstrom per femtosecond.
+    displacements : tuple of tuple of int
+        For each atom the displacement along x, y and z, in ring units per step.
     """
 
     unit: float
@@ -35,7 +39,7 @@ class Motion:
         rest  what the error says of how these atoms are loaded at rest
         """
         if scale.dt is None:
-            raise ValueError(f"the atoms have velocities, which need epsilon= and mass=; {rest}")
+            raise ValueError(f"epsilon and mass must be given for atoms with velocities, got none; use epsilon= and mass=, or {rest}")
         unit = checked_positive("edge", scale.edge) / (RING * checked_positive("dt", scale.dt))
         wanted = [[part / unit for part in velocity] for velocity in velocities]
         rounded = tuple(_rounded(atom, parts) for atom, parts in enumerate(wanted))
@@ -47,6 +51,12 @@ class Motion:
             f"{len(self.displacements)} velocities, rounded to multiples of {self.unit:.3g} angstrom / fs: "
             f"off by {self.largest_error:.3g} at most along an axis"
         )
+
+    def _tugs(self, name: str) -> List[str]:
+        moving = ((atom, moved) for atom, moved in enumerate(self.displacements) if any(moved))
+        return [f"TUG {name} {atom} {x} {y} {z}" for atom, (x, y, z) in moving]
+
+    tugs = Renamed[Callable[[str], List[str]]]("_tugs", "Session.tug(atom, displacement)")
 
 
 def motion_of(source: Any, body: bytes, scale: Scale) -> Optional[Motion]:
@@ -60,12 +70,12 @@ def motion_of(source: Any, body: bytes, scale: Scale) -> Optional[Motion]:
     told = columns.velocities_of(body, scale.mass or 1.0)
     if told is None:
         return None
-    return Motion.of(told.values, scale, f"before= the same text loads them at rest, without its column {told.column}")
+    return Motion.of(told.values, scale, f"before= with the same text, without its column {told.column}, for atoms at rest")
 
 
 def _rounded(atom: int, parts: Sequence[float]) -> Displacement:
     """The nearest whole displacement, where it is below half the box."""
     if not all(abs(part) < HALF - 1 for part in parts):
-        raise ValueError(f"the velocity of atom {atom} is not below half the box in a step")
+        raise ValueError(f"the velocity of atom {atom} must be below half the box in a step; use a shorter time step")
     x, y, z = [round(part) for part in parts]
     return x, y, z

@@ -1,4 +1,4 @@
-"""Names of sessions and of what is saved, symbols of atoms, and numbers that count something."""
+"""Names of sessions and saved states, symbols of atoms, whole numbers, and values in messages."""
 from __future__ import annotations
 
 import operator
@@ -7,37 +7,45 @@ from typing import Any, Tuple
 
 NAME = re.compile(r"[A-Za-z0-9_-]{1,16}\Z")
 SYMBOL = re.compile(r"[!-~]{1,16}\Z")
+# The most characters of a value in a message.
+MAX_SHOWN = 80
+
+
+def shortened(value: Any) -> str:
+    """A value as the message of an error shows it: its `repr`, cut where it is long."""
+    text = repr(value)
+    return text if len(text) <= MAX_SHOWN else text[: MAX_SHOWN - 2] + ".."
 
 
 def checked_name(name: str) -> str:
-    """A name of a session or of what is saved. Raises ValueError for what is none."""
+    """A name of a session or of a saved state. Raises ValueError if it is not one."""
     if not (isinstance(name, str) and NAME.match(name)):
-        raise ValueError(f"a name is 1 to 16 letters, digits, `_` or `-`, not {name!r}")
+        raise ValueError(f"a name must be 1 to 16 letters, digits, `_` or `-`, got {shortened(name)}")
     return name
 
 
 def checked_symbol(symbol: Any) -> str:
-    """The symbol of an atom. Raises ValueError for what is none."""
+    """The symbol of an atom. Raises ValueError if it is not one."""
     if not (isinstance(symbol, str) and SYMBOL.match(symbol)):
-        raise ValueError(f"a symbol is 1 to 16 printing characters, not {symbol!r}")
+        raise ValueError(f"a symbol must be 1 to 16 printing characters, got {shortened(symbol)}")
     return symbol
 
 
 def whole_of(number: Any, what: str) -> int:
-    """A whole number of Python, of this or of one of numpy. Raises TypeError, which says what is wanted, for what is none."""
+    """A whole number as a Python int, from one of Python or numpy. Raises TypeError, with the name `what`, if it is not one."""
     try:
         return operator.index(number)
     except TypeError:
-        raise TypeError(f"{what} is a whole number (int), not {number!r}") from None
+        raise TypeError(f"{what} must be a whole number (int), got {shortened(number)}") from None
 
 
 def displacement_of(displacement: Any) -> Tuple[int, int, int]:
-    """The three whole numbers of a displacement. Raises TypeError or ValueError, which says so, for what is none."""
+    """The three whole numbers of a displacement. Raises TypeError or ValueError if it has others."""
     try:
         x, y, z = map(operator.index, displacement)
     except (TypeError, ValueError) as error:
-        wanted = "a displacement is three whole numbers (int), in ring units along x, y and z"
-        raise type(error)(f"{wanted}, not {displacement!r}") from None
+        wanted = "a displacement must be three whole numbers (int), in ring units along x, y and z"
+        raise type(error)(f"{wanted}, got {shortened(displacement)}") from None
     return x, y, z
 
 
@@ -45,5 +53,5 @@ def count_of(number: Any, what: str) -> int:
     """A whole number that is not below zero."""
     count = whole_of(number, what)
     if count < 0:
-        raise ValueError(f"{what} is not below 0, but {count} is")
+        raise ValueError(f"{what} must be 0 or more, got {count}")
     return count

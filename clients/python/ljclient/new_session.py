@@ -8,7 +8,8 @@ from .exact import exact_frames, text_in_box
 from .motion import Motion
 from .order import Order, by_halves
 from .state import Command, Known, State
-from .units import RING, Number, is_on_ring, nano
+from .scalars import Number, nano
+from .units import MIN_SIGMA, RING, Scale
 from .xyz import Frames
 
 
@@ -34,7 +35,7 @@ class NewSession:
         new = NewSession(verb, words, frames)
         if known.scale is None or not (motion or known.is_sorted):
             return new
-        if not all(map(is_on_ring, known.mixture.classes if known.mixture else (known.scale,))):
+        if not all(map(_is_on_ring, known.mixture.classes if known.mixture else (known.scale,))):
             return new
         exact = exact_frames(*frames, nano(edge))
         if exact is None:
@@ -69,3 +70,8 @@ class NewSession:
         if self.state is not None and self.is_on_ring:
             known = replace(self.state.known(self.order), watch=known.watch)
         return replace(known, direction=1)
+
+
+def _is_on_ring(scale: Scale) -> bool:
+    """Whether the server takes the edge and the sigma of a scale, so far as both together say it."""
+    return MIN_SIGMA <= scale.sigma_on_ring and 5 * scale.sigma_on_ring < RING

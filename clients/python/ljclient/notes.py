@@ -45,10 +45,10 @@ def read(data: bytes) -> Noted:
         done, sessions, notes = (told[name] for name in ("done", "sessions", "notes"))
         is_known = told[HEAD] == VERSION and type(done) is int and type(sessions) is int and type(notes) is list
         if not (is_known and done >= 0 and 0 <= sessions <= MAX_SESSIONS):
-            raise ValueError("these are no notes")
+            raise ValueError("the file must have notes of a job, got something else")
         return Noted(done, sessions, [of_json(note) for note in notes])
     except (IndexError, KeyError, OverflowError, RecursionError, TypeError) as error:
-        raise ValueError(f"these are no notes: {error!r}") from error
+        raise ValueError(f"the file must have notes of a job, got something else ({error!r})") from error
 
 
 def to_json(thing: Any) -> Any:
@@ -65,13 +65,13 @@ def to_json(thing: Any) -> Any:
         is_plain = thing.dtype.kind in "biuU" or (thing.dtype.kind == "f" and numpy.isfinite(thing).all())
         return {"array": [thing.dtype.str, list(thing.shape), values if is_plain else to_json(values)]}
     if type(thing) not in TAGS:
-        raise TypeError(f"a {type(thing).__name__} was noted, which no file of notes has: have `look` return {KINDS}")
+        raise TypeError(f"`look` must return {KINDS}, got {type(thing).__name__}")
     name, parts_of = TAGS[type(thing)]
     return {name: parts_of(thing)}
 
 
 def of_json(value: Any) -> Any:
-    """The thing that these words of JSON are. Raises ValueError, KeyError or TypeError if they are none."""
+    """The thing that these words of JSON are. Raises ValueError, KeyError or TypeError for other values."""
     if isinstance(value, list):
         return [of_json(part) for part in value]
     if not isinstance(value, dict):
@@ -83,9 +83,11 @@ def of_json(value: Any) -> Any:
 def _of_numpy(kind: Any, shape: Any, values: Any) -> Any:
     """An array of numpy of this kind and shape."""
     if arrays.numpy is None:
-        raise Missing("these notes have arrays of numpy, which is not installed: `pip install numpy`, or Debian's python3-numpy")
+        raise Missing(
+            "cannot read these notes: they have arrays, and numpy is not installed; use `pip install numpy`, or Debian's python3-numpy"
+        )
     if not OF_NUMPY.match(kind):
-        raise ValueError(f"{kind!r} is no kind of numbers")
+        raise ValueError(f"the kind of an array must be one of numbers, got {kind!r}")
     return arrays.numpy.array(of_json(values), dtype=kind).reshape(shape)
 
 

@@ -1,4 +1,4 @@
-"""Packages that are needed for some things alone: they are imported where these are done."""
+"""Optional packages, which are imported where they are needed."""
 from __future__ import annotations
 
 import importlib

@@ -10,6 +10,8 @@ from dataclasses import dataclass
 from typing import Any, Dict, List, Optional, Sequence, Set, Tuple, TypeVar
 
 from . import arrays
+from .names import shortened
+from .renamed import Renamed
 
 BLOCK = 64
 IN_SPACE = "space"
@@ -19,7 +21,7 @@ Thing = TypeVar("Thing")
 
 @dataclass(frozen=True)
 class Doubt:
-    """The order that a session may have in place of another one, since a connection was lost while its atoms were sorted anew.
+    """The order that a session may have in place of another one, since a connection was lost while its atoms were sorted again.
 
     numbers       the server's number of each of the user's atoms in that order
     number        a number of the server
@@ -34,16 +36,22 @@ class Doubt:
 
 @dataclass(frozen=True)
 class Order:
-    """How the numbers of the server stand to those of the user, for a session.
+    """How the server numbers the atoms and steps of a session, compared with the user's numbers.
 
-    numbers    the server's number of each of the user's atoms; None if both have the same
-    step       the user's step number at step 0 of the server
-    direction  1 if both count alike, -1 if the server's steps go up as the user's go down
-    on_ring    whether the server has the atoms in a box whose edge is 4294.967296, so that its sixth decimal is a ring unit
-    doubt      which other numbers the server may have, where a connection was lost while they changed. Who takes the order up
-               looks which it has
+    `User.session(name, order=session.order)` passes it to another connection. It is valid until the session is sorted again.
 
-    `User.session(name, order=session.order)` hands it on to another connection. It holds until the session is sorted anew.
+    Attributes
+    ----------
+    numbers : tuple of int or None
+        The server's number of each of the user's atoms; None if the numbers are the same.
+    step : int
+        The user's step number at step 0 of the server.
+    direction : {1, -1}
+        1 if both count in the same direction, -1 if the server's step numbers rise while the user's fall.
+    on_ring : bool
+        Whether the server's box has the edge 4294.967296, so that the sixth decimal of a position is a ring unit.
+    doubt : Doubt or None
+        Which other numbers the server may have, if a connection was lost while they changed. `User.session` finds out which it has.
     """
 
     numbers: Optional[Tuple[int, ...]] = None
@@ -56,9 +64,10 @@ class Order:
         if self.numbers is not None:
             object.__setattr__(self, "numbers", tuple(map(int, self.numbers)))
             if sorted(self.numbers) != list(range(len(self.numbers))):
-                raise ValueError("an order has each number from 0 up to the number of atoms once")
+                wanted = f"each number from 0 to {len(self.numbers) - 1} once"
+                raise ValueError(f"an order must have {wanted}, got {shortened(list(self.numbers))}")
         if self.direction not in (1, -1):
-            raise ValueError(f"a direction is 1 or -1, not {self.direction!r}")
+            raise ValueError(f"a direction must be 1 or -1, got {shortened(self.direction)}")
 
     @staticmethod
     def of(order: "Order | Sequence[int] | None") -> "Order":
@@ -66,21 +75,32 @@ class Order:
         return order if isinstance(order, Order) else Order(None if order is None else tuple(order))
 
     def number_of(self, atom: int) -> int:
-        """The server's number of an atom. One that is not there stays as it is, and the server refuses it."""
+        """The server's number of an atom.
+
+        Parameters
+        ----------
+        atom : int
+            The user's number.
+
+        Returns
+        -------
+        int
+            The server's number. The number of an atom that does not exist is returned unchanged, and the server refuses it.
+        """
         return atom if self.numbers is None or atom >= len(self.numbers) else self.numbers[atom]
 
-    def for_user(self, things: Any) -> Any:
+    def _for_user(self, things: Any) -> Any:
         """What the server tells of each atom, in the user's order: an array of an array, else a list."""
         if self.numbers is None:
             return things
         numbers = self._of_as_many(things)
         return things[self._indices] if hasattr(things, "tolist") else [things[number] for number in numbers]
 
-    def columns_for_user(self, columns: Any) -> Any:
+    def _columns_for_user(self, columns: Any) -> Any:
         """The same of an array whose columns are of one atom each."""
         return columns if self.numbers is None else columns.take(self._indices, axis=1)
 
-    def for_server(self, things: Sequence[Thing]) -> Sequence[Thing]:
+    def _for_server(self, things: Sequence[Thing]) -> Sequence[Thing]:
         """What the user tells of each atom, in the server's order."""
         if self.numbers is None:
             return things
@@ -88,7 +108,18 @@ class Order:
         return [placed[number] for number in range(len(placed))]
 
     def step_of(self, step: int) -> int:
-        """The user's number of a step of the server."""
+        """The user's number of a step.
+
+        Parameters
+        ----------
+        step : int
+            The server's number.
+
+        Returns
+        -------
+        int
+            The user's number.
+        """
         return self.step + self.direction * step
 
     @functools.cached_property
@@ -97,15 +128,20 @@ class Order:
         return arrays.numpy.array(self.numbers)
 
     def _of_as_many(self, things: Sequence[Any]) -> Tuple[int, ...]:
-        if self.numbers is None or len(self.numbers) != len(things):
-            raise ValueError(f"the session has {len(things)} atoms, and its order is another one's")
-        return self.numbers
+        numbers = self.numbers or ()
+        if len(numbers) != len(things):
+            wanted = f"an order must have a number for each of the {len(things)} atoms of the session"
+            raise ValueError(f"{wanted}, got {len(numbers)}; use the `order` of this session")
+        return numbers
+
+    for_user = Renamed[Any]("_for_user", "Order.number_of(atom)")
+    for_server = Renamed[Any]("_for_server", "Order.number_of(atom)")
 
 
 def is_in_space(order: Optional[str]) -> bool:
     """Whether atoms are to be kept in the order of space, as `order=` says."""
     if order not in (None, IN_SPACE):
-        raise ValueError(f"an order is 'space', or None for that of the file, not {order!r}")
+        raise ValueError(f"order must be 'space', or None for the order of the file, got {shortened(order)}")
     return order is not None
 
 

@@ -1,4 +1,4 @@
-"""Files of other programs, which are no XYZ text: what reads them, so that what it gives can be loaded."""
+"""Files of other programs, which are not XYZ text: the error names what reads them."""
 from __future__ import annotations
 
 import os
@@ -6,8 +6,8 @@ from typing import Dict
 
 from .files import Path
 
-BY_ASE = "ase.io.read({path!r}{words}) gives Atoms that can be loaded in its place"
-BY_MDANALYSIS = "MDAnalysis.Universe(topology, {path!r}).atoms.positions can be loaded in its place, with symbols= and edge="
+BY_ASE = "use ase.io.read({path!r}{words}) and load its Atoms"
+BY_MDANALYSIS = "use MDAnalysis.Universe(topology, {path!r}).atoms.positions, with symbols= and edge="
 # Words of `ase.io.read` for a file with such an ending.
 OF_ASE: Dict[str, str] = {
     ".traj": "",
@@ -31,4 +31,4 @@ def check_text(path: Path, text: bytes) -> None:
     if (words and words[0].isdigit()) or ending not in {*OF_ASE, *OF_MDANALYSIS}:
         return
     advice = (BY_ASE if ending in OF_ASE else BY_MDANALYSIS).format(path=os.fspath(path), words=OF_ASE.get(ending))
-    raise ValueError(f"{os.fspath(path)} is no XYZ text, but a {ending} file: {advice}")
+    raise ValueError(f"{os.fspath(path)} must be XYZ text, got a {ending} file; {advice}")

@@ -1,12 +1,12 @@
-"""Whether atoms that are to be loaded stand too close to each other: a warning, since they would fly apart."""
+"""Warns if atoms that are loaded are too close to each other, since they would fly apart."""
 from __future__ import annotations
 
 import itertools
-import warnings
 from typing import Dict, Iterator, List, Optional, Sequence, Tuple
 
 from .mixture import Mixture
 from .units import Scale
+from .warning import warn_caller
 from .xyz import Frames, Row, present_atoms
 
 CLOSE = 0.8
@@ -19,16 +19,15 @@ Pair = Tuple[float, int, int]
 
 
 def warn_of_close_atoms(frames: Frames, scale: Scale, mixture: Optional[Mixture] = None) -> None:
-    """Warns, at who has called what calls this, if two atoms are closer than 0.8 sigma. A text that is no frame is passed over."""
+    """Warns if two atoms are closer than 0.8 sigma. A text that is not a frame is skipped."""
     second = None if mixture is None else mixture.species[1]
     sigmas = [scale.sigma] * 3 if mixture is None else [each.sigma for each in mixture.classes]
     found = closest(present_atoms(frames), scale.edge, sigmas, second)
     if found is not None:
         distance, atom, other = found
-        warnings.warn(
+        warn_caller(
             f"the closest pair, atoms {atom} and {other}, is {distance:.3g} sigma apart: below {CLOSE} sigma it sets more than "
-            f"40 epsilon free (are edge and sigma in the unit of the file?)",
-            stacklevel=3,
+            f"40 epsilon free (are edge and sigma in the unit of the file?)"
         )
 
 

@@ -16,7 +16,7 @@ from .tails import energy_tail, pressure_tail
 from .units import POTENTIAL_UNIT, RING, Scale
 
 if TYPE_CHECKING:
-    from .session import Session
+    from .looks import Looks
     from .user import User
 
 BINS_TO_SQUARE, BINS, MIN_BIN = 128, 800, 64
@@ -31,7 +31,7 @@ class Composition(NamedTuple):
     species: Tuple[str, ...] = ()
 
 
-def composition_of(session: "Session", user: "User") -> Composition:
+def composition_of(session: "Looks", user: "User") -> Composition:
     """The composition of a session."""
     if session.mixture is None:
         return Composition((session.scale,))
@@ -40,22 +40,22 @@ def composition_of(session: "Session", user: "User") -> Composition:
     return Composition(session.mixture.classes, seconds, session.mixture.species)
 
 
-def pressure(session: "Session", user: "User", tail: bool = False) -> float:
+def pressure(session: "Looks", user: "User", tail: bool = False) -> float:
     """As `Session.pressure`."""
     checked_numpy()
     three, atoms = three_frames(user, session.name), composition_of(session, user)
     return of_frames(three, atoms) + (pressure_tail(atoms, len(three.now)) if tail else 0.0)
 
 
-def lacking_energy(session: "Session", user: "User") -> float:
+def lacking_energy(session: "Looks", user: "User") -> float:
     """What the energy of a session lacks by the cutoff, in epsilon of the first class."""
-    return energy_tail(composition_of(session, user), session.atoms)
+    return energy_tail(composition_of(session, user), session.n_atoms)
 
 
 def checked_numpy() -> None:
     """Raises ClientError if numpy is not installed."""
     if arrays.numpy is None:
-        raise ClientError("a pressure needs numpy: `pip install numpy`, or Debian's python3-numpy")
+        raise ClientError("cannot tell a pressure: numpy is not installed; use `pip install numpy`, or Debian's python3-numpy")
 
 
 def of_frames(three: ThreeFrames, atoms: Composition) -> float:

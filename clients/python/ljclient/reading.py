@@ -47,7 +47,7 @@ class Frame(NamedTuple):
     def for_user(self, order: Order) -> "Frame":
         """The frame with the numbers of atoms and steps that the user has."""
         step = order.step_of(self.step)
-        return Frame(step, self.lines) if order.numbers is None else Frame.of(step, order.for_user(self.rows))
+        return Frame(step, self.lines) if order.numbers is None else Frame.of(step, order._for_user(self.rows))
 
     def text(self, comment: str) -> str:
         """The frame as XYZ text with this comment."""
@@ -134,7 +134,7 @@ def millionths_of(name: str, words: List[str], text: bytes) -> Tuple[int, Any]:
 def frame_with(name: str, words: List[str], text: bytes, converted: Callable[[Any], Any], order: Order) -> Frame:
     """The frame that the reply to `DUMP` tells, with its millionths converted, and with the numbers of the user."""
     if not text.isascii():
-        raise BadReply(f"{' '.join(words)[:80]!r} is followed by what is no text of the protocol")
+        raise BadReply(f"{' '.join(words)[:80]!r} is followed by other bytes than text of the protocol")
     step, start, count = _begin_of(name, words, text)
     read = _rows_of(text, start, count)
     if read is not None:
@@ -186,7 +186,7 @@ def _positions_in(text: bytes, start: int, count: int) -> Any:
         positions = _listed_positions(text[start:].decode("latin-1"))
     if positions is None:
         wrong = [row for row in text[start:].decode("latin-1").split("\n")[:-1] if not ROWS.fullmatch(row + "\n")]
-        raise BadReply(f"{wrong[0][:80]!r} is no atom of a frame")
+        raise BadReply(f"{wrong[0][:80]!r} is not an atom of a frame")
     if len(positions) != count:
         raise BadReply(f"a frame of {count} atoms has {len(positions)} lines")
     return positions
@@ -213,7 +213,7 @@ def _listed_places(text: bytes, head: bytes, count: int) -> Any:
 
 
 def _listed_positions(text: str) -> Any:
-    """The positions of the lines of a frame, read one by one: an array, or a list of tuples. None if any line is none."""
+    """The positions of the lines of a frame, read one by one: an array, or a list of tuples. None if a line has another form."""
     if not ROWS.fullmatch(text):
         return None
     words = text.split()

@@ -72,17 +72,17 @@ class RecordFile:
                     self._follow(rules, entry)
                     yield entry
                 elif mark is Mark.END and rules.is_moving:
-                    raise self._damaged("`moved` is followed by a LOAD or LOADMIX that was granted")
+                    raise self._damaged("`moved` must be followed by a LOAD or LOADMIX that was granted")
 
     def _rows(self, file: BinaryIO) -> Iterator[Tuple[Mark, bytes]]:
         """What each line says below the head, up to one that is cut short."""
         self._read_head(file.readline(MAX_ROW))
         for self._at, row in enumerate(iter(lambda: file.readline(MAX_ROW), b""), 2):
             if self.is_ended:
-                raise self._damaged("the record goes on below its end")
+                raise self._damaged("a record must not go on below its end")
             if not row.endswith(b"\n"):
                 if len(row) == MAX_ROW:
-                    raise self._damaged(f"the line has more than {MAX_ROW:,} bytes")
+                    raise self._damaged(f"a line must have at most {MAX_ROW:,} bytes")
                 self.cut = self._at
                 return
             check, _, text = row[:-1].partition(b" ")
@@ -90,7 +90,7 @@ class RecordFile:
                 raise self._damaged("the line was changed, or one above it is missing")
             word, blank, rest = text.partition(b" ")
             if word not in MARKS or (MARKS[word] in ALONE) == bool(blank):
-                raise self._damaged("there is no line of this kind")
+                raise self._damaged("a line must be of one of the kinds of a record")
             yield MARKS[word], rest
 
     def _read_head(self, head: bytes) -> None:
@@ -101,11 +101,11 @@ class RecordFile:
             self._may_stand = ABOVE if line == record.HEAD else ABOVE[:2]
             return
         if head.endswith(b"\r\n") and line[:-1] in record.HEADS:
-            raise self._damaged("its line ends were changed: each line of a record ends with LF alone, and here with CR LF")
+            raise self._damaged("each line of a record must end with LF alone, got CR LF: its line ends were changed")
         if head.startswith(record.FORMAT) and head.endswith(b"\n"):
             told = record.shown(line)[:40]
-            raise self._damaged(f"it says `{told}`, and this client reads `{record.HEAD.decode()}` and older: take a newer client")
-        raise self._damaged(f"a record begins with `{record.HEAD.decode()}`")
+            raise self._damaged(f"a record must begin with `{record.HEAD.decode()}` or an older head, got `{told}`; use a newer client")
+        raise self._damaged(f"a record must begin with `{record.HEAD.decode()}`")
 
     def _entry(self, mark: Mark, rest: bytes, rows: Iterator[Tuple[Mark, bytes]]) -> Optional[Entry]:
         """The entry that begins with this line, if one does, and is there whole."""
@@ -114,7 +114,7 @@ class RecordFile:
             return None
         self._may_stand = ()
         if self._is_below_quota and mark is not Mark.SENT:
-            raise self._damaged("a quota stands right above a command")
+            raise self._damaged("a quota must stand right above a command")
         self._is_below_quota = mark is Mark.QUOTA
         if mark in (Mark.QUOTA, Mark.END):
             self._take_in(mark, rest)
@@ -122,7 +122,7 @@ class RecordFile:
         if mark in (Mark.CONNECTION, Mark.MOVED):
             return Entry(mark, self._at, sum=self.sum)
         if mark not in (Mark.SENT, Mark.UNANSWERED):
-            raise self._damaged("the line stands below no command")
+            raise self._damaged("the line must stand below a command")
         number = self._at
         self._check_command(rest)
         if mark is Mark.UNANSWERED:
@@ -136,9 +136,9 @@ class RecordFile:
     def _take_above(self, mark: Mark, rest: bytes) -> None:
         """Takes in a line that stands above all others, and tells where the record comes from."""
         if mark not in self._may_stand:
-            raise self._damaged("a line of this kind stands above all others, once and in its order, if the format has it")
+            raise self._damaged("a line of this kind must stand above all others, once and in its order, if the format has it")
         if mark is Mark.CONTINUES and not SUM.match(rest):
-            raise self._damaged("`continues` is followed by a SHA-256 of 64 digits")
+            raise self._damaged("`continues` must be followed by a SHA-256 of 64 digits")
         self._may_stand = ABOVE[ABOVE.index(mark) + (mark is not Mark.PROGRAM) :]
         told = record.shown(rest)
         if mark is Mark.CLIENT:
@@ -155,7 +155,7 @@ class RecordFile:
             return
         quota = self._quota(record.shown(rest))
         if not quota.is_above(self.quota):
-            raise self._damaged("a quota is larger than the one above it, and smaller in nothing")
+            raise self._damaged("a quota must be larger than the one above it, and smaller in nothing")
         self.quota = quota
 
     def _quota(self, told: str) -> Quota:
@@ -163,14 +163,14 @@ class RecordFile:
         numbers = [int(word) if word.isascii() and word.isdigit() and len(word) < 8 else -1 for word in words[1::2]]
         fit = len(words) == 6 and all(0 <= number <= most for number, most in zip(numbers, MOST))
         if not fit or str(Quota(*numbers)) != told:
-            raise self._damaged("a quota is of sessions, atoms and branches, at most 64, 65536 and 256")
+            raise self._damaged("a quota must be sessions, atoms and branches, at most 64, 65536 and 256")
         return Quota(*numbers)
 
     def _check_command(self, line: bytes) -> None:
         """Raises `Damaged` unless this is a command of the session, as all others are."""
         name = record.session_of(record.words_of(line)) if line.decode(errors="ignore").encode() == line else ""
         if not NAME.match(name) or (self.session and self.session != name) or len(line) > MAX_LINE:
-            raise self._damaged("this is no command of a session" + (f" {self.session}" if self.session else ""))
+            raise self._damaged("the line must be a command of " + (f"session {self.session}" if self.session else "a session"))
         self.session = name
 
     def _command(self, number: int, line: bytes, rows: Iterator[Tuple[Mark, bytes]]) -> Entry:
@@ -178,14 +178,14 @@ class RecordFile:
         body = self._body(record.count_of(line) or 0, rows)
         mark, first = next(rows)
         if mark not in (Mark.REPLY, Mark.OUTSIDE):
-            raise self._damaged("here a reply should stand")
+            raise self._damaged("a reply must stand here")
         if mark is Mark.REPLY and record.count_of(line) is None:
-            raise self._damaged("the load above says no count of bytes, which ends a connection")
+            raise self._damaged("the load above must end with a count of bytes: without one the connection ends")
         reply, more = self._at, b""
         if mark is Mark.REPLY and _has_more(first):
             following, more = next(rows)
             if following is not Mark.MORE:
-                raise self._damaged("here the sum of the lines of a reply should stand")
+                raise self._damaged("the sum of the lines of a reply must stand here")
         return Entry(mark, number, line, body, first, more, self.sum, reply)
 
     def _body(self, count: int, rows: Iterator[Tuple[Mark, bytes]]) -> bytes:
@@ -194,11 +194,11 @@ class RecordFile:
         while size < count:
             mark, row = next(rows)
             if mark is not Mark.BODY:
-                raise self._damaged(f"the body has {count} bytes, and only {size} stand here")
+                raise self._damaged(f"the body must have {count} bytes, got {size}")
             parts.append(row + b"\n")
             size += len(row) + 1
         if size > count + 1:
-            raise self._damaged(f"the body has {count} bytes, and {size} stand here")
+            raise self._damaged(f"the body must have {count} bytes, got {size}")
         return b"".join(parts)[:count]
 
     def _follow(self, rules: Rules, entry: Entry) -> None:
@@ -217,18 +217,18 @@ def check_regular(path: Path) -> None:
     kind = stat.S_IFMT(os.stat(path).st_mode)
     if kind not in (stat.S_IFREG, stat.S_IFDIR):
         what = KINDS.get(kind, "no regular file")
-        raise ValueError(f"{os.fspath(path)} is {what}, and a record is read twice: save it to a file first")
+        raise ValueError(f"a record must be a regular file, since it is read twice, got {os.fspath(path)}, {what}; save it to a file first")
 
 
 def sum_of_continued(path: Optional[Path], following: Optional[Path]) -> str:
     """The SHA-256 of a record that another file continues, of its whole lines if it is cut short. Nothing without a path.
 
-    Raises `Damaged` if it is no record, and ValueError if the other file is none or the same, which would be written anew.
+    Raises `Damaged` if it is not a record, and ValueError if there is no other file, or it is the same, which would be replaced.
     """
     if path is None:
         return ""
     if following is None or os.path.realpath(path) == os.path.realpath(following):
-        raise ValueError(f"continues={os.fspath(path)!r} is of a record in another file: say record=..")
+        raise ValueError(f"continues must come with record=, a record in another file, got {os.fspath(path)!r}")
     file = RecordFile(path)
     for _ in file.entries():
         pass

@@ -1,6 +1,6 @@
 """Where a session of a record is loaded again: whether it goes on as it was, or another trajectory begins.
 
-A session that moves to a new program, or whose atoms are sorted anew, is loaded again from both of its frames. What the program
+A session that moves to a new program, or whose atoms are sorted again, is loaded again from both of its frames. What the program
 has just before and just after is compared in ring units, in whatever order its atoms are.
 """
 from __future__ import annotations
@@ -63,7 +63,7 @@ class Side:
 
 
 def whole_of(word: bytes) -> int:
-    """A whole number of the protocol. ValueError if it is none."""
+    """A whole number of the protocol. ValueError for other words."""
     if not WHOLE.match(word):
         raise ValueError("this is no whole number of the protocol")
     return int(word)
@@ -86,16 +86,32 @@ def loaded_by(entry: Entry) -> Loaded:
 
 def side_of(user: "User", name: str, loaded: Loaded) -> Side:
     """A session as the program has it. It is then as it was."""
+    return Side(loaded, sorted(present_of(user, name, loaded).atoms))
+
+
+@dataclass(frozen=True)
+class Present:
+    """A session as a program has it: its step, by how much the next one changes that, and its atoms in order."""
+
+    step: int
+    direction: int
+    atoms: Sequence[Tuple[str, Place, Place]]
+
+
+def present_of(user: "User", name: str, loaded: Loaded) -> Present:
+    """A session as the program has it, with its step and its order of atoms. It is then as it was."""
     turn = f"REVERSE {name}"
     if loaded.on_ring:
-        dumped, _, past, _ = user.ask_all([f"DUMP {name}", turn, f"DUMP {name}", turn])
+        dumped, turned, past, _ = user.ask_all([f"DUMP {name}", turn, f"DUMP {name}", turn])
         now, before = _dumped_places(dumped), _dumped_places(past)
     else:
         shows = [f"SHOW {name} {number}" for number in range(loaded.atoms)]
         dumped, *shown = user.ask_all([f"DUMP {name}", *shows, turn, *shows, turn])
+        turned = shown[loaded.atoms]
         now, before = _shown_places(shown[: loaded.atoms]), _shown_places(shown[loaded.atoms + 1 : -1])
     symbols = [line.split(" ")[0] for line in dumped.lines[2:]]
-    return Side(loaded, sorted(zip(symbols, now, before)))
+    step = int(dumped.words[2])
+    return Present(step, step - int(turned.words[2]), list(zip(symbols, now, before)))
 
 
 def _shown_places(replies: Sequence[Reply]) -> List[Place]:
@@ -149,7 +165,7 @@ class Joints:
         self._found.append(after[NOW] == self._before.get(saved) if after else None)
 
     def differ(self) -> None:
-        """Takes in that the commands behind a load leave it otherwise than it was."""
+        """Takes in that the commands behind a load change it."""
         self._found.append(False)
 
     def arrive(self) -> str:

@@ -1,4 +1,4 @@
-"""What a record has in it, which its first reading tells: how much is played, and where the session is loaded again."""
+"""The contents of a record, from its first reading: how much is played, and where the session is loaded again."""
 from __future__ import annotations
 
 import enum
@@ -106,6 +106,11 @@ class Plan:
     def commands(self) -> str:
         """The SHA-256 of the commands that are played, and of their bodies: of what stands behind `>` and `:`, each with LF."""
         return self._commands.hexdigest()
+
+    @property
+    def is_settled(self) -> bool:
+        """Whether the session is there with nothing saved in it, so that its two frames are all that it is."""
+        return self._gone is None and self._return is None and not self._saved
 
     def take(self, entry: Entry) -> None:
         """Takes the next entry in."""

@@ -123,7 +123,7 @@ class Stage:
             return
         if leaving is Leaving.LOST or self._is_server:
             self._drop()
-            self.user.listen(self._file.session, self._player)
+            self.user._listen(self._file.session, self._player)
         else:
             self.user.close()
             self.user = self._opened()
@@ -134,7 +134,7 @@ class Stage:
         """Plays some commands."""
         self._player.awaits(entries)
         with contextlib.suppress(Refused):
-            self.user.ask_commands([(entry.line.decode(), entry.body) for entry in entries])
+            self.user._ask_commands([(entry.line.decode(), entry.body) for entry in entries])
         if self._player.trouble or not self._player.is_done:
             why = self._player.trouble or f"line {entries[-1].number}: not all commands up to here were answered"
             raise Trouble(f"{self._player.path}, {why}; the file says that it needs a quota of {self._file.quota}")
@@ -157,12 +157,12 @@ class Stage:
 
     def _opened(self) -> User:
         user = self._opener(self._file)
-        user.listen(self._file.session, self._player)
+        user._listen(self._file.session, self._player)
         return user
 
     def _drop(self) -> None:
         name = self._file.session
-        self.user.listen(name, None)
+        self.user._listen(name, None)
         if any(row.name == name for row in self.user.sessions()):
             self.user.ask(f"DROP {name}")
 
@@ -202,18 +202,23 @@ def left_out(entry: Entry) -> str:
 def play(plan: Plan, stage: Stage, player: Player) -> None:
     """Plays a whole record, as it was planned. Raises Trouble if that cannot be, or if the file is another one by now."""
     again = RecordFile(plan.file.path)
-    for part in parts_of(again.entries(), {*plan.arrives, *plan.leaves, *plan.looks}):
-        first = part[0]
-        if first.number in plan.looks:
-            stage.look()
-        if first.number in plan.leaves:
-            stage.leave(plan.leaves[first.number])
-        if first.mark is Mark.REPLY:
-            stage.play(part)
-        else:
-            player.note(left_out(first))
-            player.is_renewed = player.is_renewed or first.mark is Mark.CONNECTION
-        if first.number in plan.arrives:
-            stage.arrive(plan.arrives[first.number])
+    for piece in parts_of(again.entries(), {*plan.arrives, *plan.leaves, *plan.looks}):
+        play_piece(piece, plan, stage, player)
     if again.sum != plan.file.sum or player.count != sum(plan.played):
-        raise Trouble(f"{player.path} was changed while it was played")
+        raise Trouble(f"cannot play {player.path}: it was changed while it was played")
+
+
+def play_piece(piece: List[Entry], plan: Plan, stage: Stage, player: Player) -> None:
+    """Plays one of the pieces of a record (`parts_of`), with what is planned before and behind it."""
+    first = piece[0]
+    if first.number in plan.looks:
+        stage.look()
+    if first.number in plan.leaves:
+        stage.leave(plan.leaves[first.number])
+    if first.mark is Mark.REPLY:
+        stage.play(piece)
+    else:
+        player.note(left_out(first))
+        player.is_renewed = player.is_renewed or first.mark is Mark.CONNECTION
+    if first.number in plan.arrives:
+        stage.arrive(plan.arrives[first.number])

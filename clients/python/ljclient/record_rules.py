@@ -1,4 +1,4 @@
-"""What may stand where in a record, so that nothing in it that is not played has to be believed.
+"""The rules of what may stand where in a record, so that what is not played need not be believed.
 
 A reply is played and compared, or it is one that others than the session bring about, where that can be. The protocol has the
 refusals of each command in its table of commands.
@@ -27,7 +27,7 @@ BODY, ENOUGH = refusals.Body.number, refusals.Enough.number
 
 
 class Misplaced(Exception):
-    """Why an entry cannot stand where it does. `is_reply` says whether its reply is at fault."""
+    """Why an entry cannot stand where it does. `is_reply` is whether its reply is wrong."""
 
     def __init__(self, why: str, is_reply: bool = False):
         super().__init__(why)
@@ -72,11 +72,11 @@ class Rules:
         words = record.words_of(entry.line)
         is_load = entry.is_granted_of(*record.LOADS)
         if not is_load and not self.is_begun:
-            raise Misplaced("here a session should begin with a LOAD or LOADMIX that was granted")
+            raise Misplaced("a session must begin here, with a LOAD or LOADMIX that was granted")
         if not is_load and self.is_moving:
-            raise Misplaced("`moved` is followed by a LOAD or LOADMIX that was granted")
+            raise Misplaced("`moved` must be followed by a LOAD or LOADMIX that was granted")
         if self.is_stopped and entry.mark not in (Mark.CONNECTION, Mark.UNANSWERED):
-            raise Misplaced("the connection has ended above, and no new one was begun")
+            raise Misplaced("a new connection must begin here: the one above has ended")
         if entry.mark is Mark.CONNECTION:
             self.is_stopped, self.is_renewed = False, self.is_loaded
         elif entry.mark is Mark.MOVED:
@@ -90,7 +90,7 @@ class Rules:
 
     def _move(self) -> None:
         if not self.is_loaded:
-            raise Misplaced("the session is gone above, so it cannot have moved")
+            raise Misplaced("the session must be there to have moved: it is gone above")
         self.is_moving = True
 
     def _refused(self, entry: Entry, words: List[bytes]) -> None:
@@ -102,7 +102,7 @@ class Rules:
         elif number == record.NO_SESSION and (self.is_renewed or self.is_lost):
             self._lose()
         elif number not in OF_QUOTA_AND_MEMORY.get(words[0], ()) or not self._gets_as_far(entry.line, words):
-            raise Misplaced(f"this is no refusal of a {record.shown(words[0])} that may stand here behind `!`", True)
+            raise Misplaced(f"a refusal behind `!` must be one that {record.shown(words[0])} can get here", True)
         elif self.is_renewed and is_gone:
             self._lose()
 
@@ -120,9 +120,9 @@ class Rules:
     def _replied(self, entry: Entry, words: List[bytes], quota: Quota) -> None:
         """Takes in a reply that is played."""
         if entry.refusal in (*record.FROM_OUTSIDE, record.NO_SESSION):
-            raise Misplaced("this refusal should stand behind `!`", True)
+            raise Misplaced("this refusal must stand behind `!`", True)
         if self.is_begun and not self.is_loaded and words[0] not in record.LOADS:
-            raise Misplaced("the session is gone above, and was not loaded again")
+            raise Misplaced("the session must be loaded again: it is gone above")
         if self.is_renewed and record.tells_that_it_is_gone(words, entry.refusal):
             self._lose()
         elif entry.refusal not in record.OF_FORM:
@@ -130,7 +130,7 @@ class Rules:
         if entry.is_granted:
             self._granted(words)
             if quota.with_these(entry.atoms, len(self.saved)) != quota:
-                raise Misplaced("the quota above has no room for this")
+                raise Misplaced("the quota above must have room for this")
 
     def _granted(self, words: List[bytes]) -> None:
         """Takes in what a command has changed."""

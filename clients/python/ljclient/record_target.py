@@ -17,7 +17,7 @@ class RecordTarget:
             _lock(self._file.fileno())
         except BlockingIOError:
             self._file.close()
-            text = f"{name} is a record that is being written: say another file, or close the user that writes it"
+            text = f"cannot write {name}: it is a record that is being written; use another file, or close the user that writes it"
             raise ValueError(text) from None
 
     def write(self, data: bytes) -> None:

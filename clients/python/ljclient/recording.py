@@ -1,4 +1,4 @@
-"""Records of sessions: what is sent and replied is written to a file before the caller is told."""
+"""Records of sessions: commands and replies are written to a file before the caller gets the reply."""
 from __future__ import annotations
 
 import contextlib
@@ -12,7 +12,7 @@ from .files import Path, checked_target
 from .interrupts import held
 from .record import Answer, Chain, Mark, Quota
 from .record_target import RecordTarget
-from .wire import Wire
+from .wire import Dialogue, Wire
 
 # The commands that change what the session has.
 FOLLOWED = (*record.LOADS, b"BRANCH", b"FORGET", b"DROP")
@@ -58,6 +58,11 @@ class Record(Listener):
         self._saved: Set[bytes] = set()
         self._pending: List[bytes] = []
 
+    @property
+    def sum(self) -> str:
+        """The SHA-256 of what is written so far."""
+        return self._chain.sum
+
     def is_of(self, path: Path) -> bool:
         """Whether this is the file that is written."""
         return self._file.target == os.path.realpath(path)
@@ -98,7 +103,7 @@ class Record(Listener):
                     self._pending.clear()
             except OSError as error:
                 self.is_over = True
-                raise NotRecorded(f"{self.path}: {error.strerror or error}; nothing more is recorded") from error
+                raise NotRecorded(f"cannot write the record {self.path}: {error.strerror or error}; nothing more is recorded") from error
             finally:
                 if self.is_over:
                     self._file.close()
@@ -199,6 +204,9 @@ class Notes:
     def unanswered(self, lines: Sequence[str]) -> None:
         pass
 
+    def told(self, mark: Mark) -> None:
+        pass
+
 
 class Listeners:
     """Those who hear of a user's sessions, each of one, by its name."""
@@ -206,7 +214,7 @@ class Listeners:
     def __init__(self) -> None:
         self.by_name: Dict[str, Listener] = {}
 
-    def attach(self, wire: Wire) -> None:
+    def attach(self, wire: Dialogue) -> None:
         """Has them hear of what a wire is replied, if there are any."""
         wire.listener = self if self.by_name else None
 
@@ -232,10 +240,15 @@ class Listeners:
         if listener is not None:
             self.by_name[name] = listener
 
+    def record_of(self, name: str) -> Optional[Record]:
+        """The record that is written of this session, if there is one."""
+        listener = self.by_name.get(name)
+        return listener if isinstance(listener, Record) else None
+
     def writes(self, name: str, path: Optional[Path]) -> bool:
         """Whether the record of this session is written to this file."""
-        listener = self.by_name.get(name)
-        return path is not None and isinstance(listener, Record) and listener.is_of(path)
+        record = self.record_of(name)
+        return path is not None and record is not None and record.is_of(path)
 
     @contextlib.contextmanager
     def paused(self, name: str) -> Iterator[None]:

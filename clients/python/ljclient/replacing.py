@@ -1,4 +1,4 @@
-"""A session in the place of another one of its name: the older one is there until the new one was taken by the server.
+"""Replaces a session by another one of the same name: the older one stays until the server has accepted the new one.
 
 The new one is loaded under a reserved name first. So what is wrong with it is told while the older one is still there, and what
 is lost of a connection on the way is found by the next one (`leftovers`). Where the quota has no place for both, the older one is
@@ -43,7 +43,7 @@ def replacing(user: "Loader", name: str, command_of: CommandOf, is_wanted: bool)
         yield []
         return
     with held(), user.lock:
-        user.make_room(COMMANDS)
+        user._make_room(COMMANDS)
         rows = [row.name for row in user.sessions()]
         gone = gone_of(user, rows)
         if not is_wanted or name not in rows:
@@ -52,7 +52,7 @@ def replacing(user: "Loader", name: str, command_of: CommandOf, is_wanted: bool)
                 user.ask(f"DROP {REPLACING}")
             return
         if gone is not None:
-            raise ValueError(f"{gone} is gone, and what was to replace it is there as {REPLACING}: load {gone} first")
+            raise ValueError(f"cannot load: {gone} is gone, and what was to replace it is there as {REPLACING}; load {gone} first")
         if REPLACING in rows:
             user.ask(f"DROP {REPLACING}")
         with _replaced(user, name, command_of):
@@ -67,7 +67,7 @@ def gone_of(user: "Loader", rows: Sequence[str]) -> Optional[str]:
 
 @contextlib.contextmanager
 def _replaced(user: "Loader", name: str, command_of: CommandOf) -> Iterator[None]:
-    """Within, a session is dropped and loaded anew: the new one is there under the reserved name, or the older one in a file."""
+    """Within, a session is dropped and loaded again: the new one is there under the reserved name, or the older one in a file."""
     if _is_taken(user, name, command_of):
         with _told(name, f"what was to replace it is there as {REPLACING}"):
             yield
@@ -81,14 +81,18 @@ def _replaced(user: "Loader", name: str, command_of: CommandOf) -> Iterator[None
 
 def _saved(user: "Loader", name: str) -> pathlib.Path:
     """The file that a session is saved to. Raises ValueError or ClientError, and nothing is changed, if it cannot be."""
-    state = user.state_of(name)
+    state = user._state_of(name)
     if state.mixture is None and len(set(state.symbols)) > 1:
-        raise ValueError(f"the quota has no place beside {name}, and how its atoms of several symbols interact is not known: drop it first")
+        raise ValueError(
+            f"cannot replace {name}: the quota has no room beside it, and how its species interact is not known; use drop first"
+        )
     try:
         path = saved_file_of(Owned(user.address, user.name or "", name))
         checkpoint.write(state, path)
     except OSError as error:
-        raise ClientError(f"the quota has no place beside {name}, and it cannot be saved ({error}): drop it first") from error
+        raise ClientError(
+            f"cannot replace {name}: the quota has no room beside it, and it cannot be saved ({error}); use drop first"
+        ) from error
     return path
 
 
@@ -96,7 +100,7 @@ def _is_taken(user: "Loader", name: str, command_of: CommandOf) -> bool:
     """Has the new session be there under the reserved name, and in it the name of the older one. Returns whether there is a place
     for it."""
     try:
-        user.ask_commands([command_of(REPLACING)])
+        user._ask_commands([command_of(REPLACING)])
     except NO_PLACE:
         return False
     except Refused as refusal:

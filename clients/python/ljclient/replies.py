@@ -1,10 +1,46 @@
-"""Words of replies, and the numbers that they are."""
+"""Words of replies, the numbers that they are, and the rows of two lists: sessions, and what is saved in one."""
 from __future__ import annotations
 
 import re
-from typing import List, Sequence
+from typing import List, NamedTuple, Sequence
 
 from .errors import BadReply
+
+
+class Saved(NamedTuple):
+    """What is saved in a session.
+
+    Attributes
+    ----------
+    name : str
+        Its name.
+    step : int
+        The step that it was saved at.
+    """
+
+    name: str
+    step: int
+
+
+class Row(NamedTuple):
+    """A line of the list of sessions.
+
+    Attributes
+    ----------
+    name : str
+        The name of the session.
+    step : int
+        The step number after all steps that were started.
+    atoms : int
+        How many atoms it has.
+    branches : int
+        The number of its branches.
+    """
+
+    name: str
+    step: int
+    atoms: int
+    branches: int
 
 
 def fields(line: str, count: int) -> List[str]:
@@ -18,7 +54,7 @@ def fields(line: str, count: int) -> List[str]:
 def whole_number(word: str) -> int:
     """The number that a word of a reply is."""
     if not re.fullmatch(r"-?[0-9]{1,60}", word):
-        raise BadReply(f"{word[:80]!r} is no number")
+        raise BadReply(f"{word[:80]!r} is not a number")
     return int(word)
 
 

@@ -24,25 +24,25 @@ def resort(loader: "Loader", name: str) -> None:
     Raises a refusal of `guards.NO_PLACE`, and nothing is changed, if there is no place for what the session was before.
     """
     with loader.unrecorded(name):
-        state = loader.state_of(name)
-    known, old = loader.known(name), loader.known(name).order
+        state = loader._state_of(name)
+    known, old = loader._known_of(name), loader._known_of(name).order
     new = replace(old, numbers=sorted_anew(state.places, state.symbols, old))
     doubt = _doubt(state.places, old, new)
     if doubt is None:
         return
     turn = f"REVERSE {name}"
-    before, places = (tugs_of(name, Order(), old.for_server(frame), new.for_server(frame)) for frame in (state.before, state.places))
+    before, places = (tugs_of(name, Order(), old._for_server(frame), new._for_server(frame)) for frame in (state.before, state.places))
     lines = [*before, turn, *places, turn]
     with turning(loader, name, len(lines)) as end:
         known.order = replace(old, doubt=doubt)
-        loader.ask_rows([*lines, *end])
+        loader._ask_rows([*lines, *end])
         known.order = new
 
 
 def _doubt(places: Sequence[Place], old: Order, new: Order) -> Optional[Doubt]:
     """What tells the new order from the old one: a number of the server whose atoms have other places in both. None if there is
     none, since no atom comes elsewhere."""
-    for number, (here, other) in enumerate(zip(old.for_server(places), new.for_server(places))):
+    for number, (here, other) in enumerate(zip(old._for_server(places), new._for_server(places))):
         if here != other and new.numbers is not None:
             return Doubt(new.numbers, number, _place(here), _place(other))
     return None
@@ -54,7 +54,7 @@ def _place(parts: Sequence[int]) -> Place:
 
 
 class Resorting:
-    """Sorts the atoms of a session anew each 250 steps, if they are kept in the order of space, and counts its steps."""
+    """Sorts the atoms of a session again every 250 steps, if they are kept in the order of space, and counts its steps."""
 
     def __init__(self, loader: "Loader", name: str):
         self._loader = loader
@@ -65,19 +65,19 @@ class Resorting:
 
         While something is saved by `branch`, or where the quota has no place for a branch, the atoms are left as they are.
         """
-        known = self._loader.known(self._name)
+        known = self._loader._known_of(self._name)
         if not known.is_sorted:
             return UNBOUNDED
         if known.gone >= RESORTED_EACH:
             known.gone = 0
             if not branches_of(self._loader, self._name):
                 with contextlib.suppress(*NO_PLACE):
-                    self._loader.resort(self._name)
-        return RESORTED_EACH - self._loader.known(self._name).gone
+                    self._loader._resort(self._name)
+        return RESORTED_EACH - self._loader._known_of(self._name).gone
 
     def made(self, steps: int, step: int) -> int:
         """Counts steps that were made or begun, and returns the user's number of the server's step."""
-        known = self._loader.known(self._name)
+        known = self._loader._known_of(self._name)
         known.gone += steps
         known.is_started = False
         return known.order.step_of(step)

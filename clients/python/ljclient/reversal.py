@@ -1,8 +1,8 @@
-"""What exact reversal makes possible: echoes, runs that part, the entropy of mixing and the direction of time, there and back.
+"""What exact reversal makes possible: echoes, the divergence of runs, the entropy of mixing and the direction of time.
 
-Each function makes steps, and leaves the session as it was, to the bit, by a branch that the quota needs a place for. All numbers
-are in reduced units: distances in sigma, energies in epsilon for each atom, times in `sigma sqrt(m / epsilon)`, entropies in k_B for
-each atom. They need numpy, and `plot()` matplotlib:
+Each function makes steps, and leaves the session as it was, bit for bit. It uses a branch, so the quota needs room for one. All numbers
+are in reduced units: distances in sigma, energies in epsilon per atom, times in `sigma sqrt(m / epsilon)`, entropies in k_B per atom.
+The functions need numpy, and `plot()` needs matplotlib:
 
     from ljclient import reversal, run, state_points
 
@@ -13,16 +13,15 @@ each atom. They need numpy, and `plot()` matplotlib:
 """
 from __future__ import annotations
 
-import contextlib
 import dataclasses
 import math
-from typing import TYPE_CHECKING, Any, Callable, Dict, Iterator, List, NamedTuple, Optional, Sequence, Tuple, TypeVar, Union
+from typing import TYPE_CHECKING, Any, Dict, List, NamedTuple, Optional, Sequence, Tuple, Union
 
 from . import arrays
-from .errors import ClientError
-from .names import count_of, displacement_of, whole_of
+from .names import count_of, displacement_of
 from .optional import needed_numpy, pyplot
 from .quantities import above_maxwell, departure, mixing_entropy, rank_correlation
+from .there_and_back import START, at_least_1, back_of, kept, on_the_way, stops_of, there_and_back
 
 if TYPE_CHECKING:
     from .session import Session
@@ -30,11 +29,6 @@ if TYPE_CHECKING:
 
 __all__ = ["Arrow", "Divergence", "Echo", "Kick", "Mixing", "arrow", "divergence", "echo", "entropy_of_mixing"]
 
-Looked = TypeVar("Looked")
-START = "reversal-start"
-"""The name of the branch from which a session is put back."""
-FRAMES = 100
-"""Into so many parts the steps are divided if nothing says how long these are."""
 NEAR, FAR = 1 / 256, 1 / 10
 """Between these distances two runs part as the liquid's own chaos has it; below them as the bins of the table have it."""
 TELLING_TREND, TELLING_DEPARTURE = 0.5, 5.0
@@ -44,7 +38,7 @@ SHUFFLES = 20
 
 
 class Kick(NamedTuple):
-    """A displacement that one atom is given more for each step, as by `Session.tug`.
+    """A displacement per step that is added to the motion of one atom, as by `Session.tug`.
 
     Attributes
     ----------
@@ -60,7 +54,7 @@ class Kick(NamedTuple):
 
 @dataclasses.dataclass(frozen=True, eq=False)
 class Echo:
-    """How far a run that was turned back is from where it came along.
+    """How far a reversed run is from its own path on the way there.
 
     Attributes
     ----------
@@ -71,7 +65,7 @@ class Echo:
     distances : numpy.ndarray, shape (n_frames,)
         The root mean square distance of the atoms from where they were at the same step on the way there, in sigma.
     kick : Kick or None
-        What the atom was given at the turn.
+        The kick at the reversal, or None.
     """
 
     steps: arrays.IntArray
@@ -81,11 +75,22 @@ class Echo:
 
     @property
     def returned(self) -> float:
-        """How far the atoms are from the start at the end, in sigma. It is 0.0 if each is at its place to the bit."""
+        """The distance of the atoms from the start at the end, in sigma. It is 0.0 if each atom is exactly at its place."""
         return float(self.distances[-1])
 
     def plot(self, axes: Any = None) -> Any:
-        """Draws the distance over the time since the turn, and returns the axes of matplotlib, new ones if none are given."""
+        """Draws the distance over the time since the turn.
+
+        Parameters
+        ----------
+        axes : matplotlib.axes.Axes, optional
+            What is drawn into; else a new figure.
+
+        Returns
+        -------
+        matplotlib.axes.Axes
+            What was drawn into.
+        """
         axes = _axes(axes)
         label, apart = "no kick", self.distances > 0
         if self.kick is None or not apart.any():
@@ -105,7 +110,7 @@ class Echo:
 
 @dataclasses.dataclass(frozen=True, eq=False)
 class Divergence:
-    """How fast runs of which each has another kick leave the run without one.
+    """How fast kicked runs separate from the run without a kick.
 
     Attributes
     ----------
@@ -116,11 +121,11 @@ class Divergence:
     distances : numpy.ndarray, shape (n_kicks, n_frames)
         The root mean square distance of the atoms of each run from those of the run without a kick, in sigma.
     kicks : tuple of Kick
-        What each run was given.
+        The kick of each run.
     exponents : numpy.ndarray, shape (n_fitted,)
-        The slope of the logarithm of each run's distance over the time from 1/256 to 1/10 sigma, of the runs that have three
-        frames there or more. Nearer than 1/256 sigma, the width of a bin, runs part two to three times as fast as the liquid's
-        chaos has it.
+        The slope of the logarithm of each run's distance over the time, from 1/256 to 1/10 sigma, for the runs with three frames
+        or more in this range. Below 1/256 sigma, the width of a bin, runs separate two to three times as fast as the liquid's
+        Lyapunov exponent predicts.
     """
 
     steps: arrays.IntArray
@@ -141,7 +146,18 @@ class Divergence:
         return float(self.exponents.std(ddof=1)) / math.sqrt(fitted) if fitted > 1 else math.nan
 
     def plot(self, axes: Any = None) -> Any:
-        """Draws the distances over the time, their geometric mean and the exponential that was fitted, and returns the axes."""
+        """Draws the distances over the time, their geometric mean and the exponential that was fitted.
+
+        Parameters
+        ----------
+        axes : matplotlib.axes.Axes, optional
+            What is drawn into; else a new figure.
+
+        Returns
+        -------
+        matplotlib.axes.Axes
+            What was drawn into.
+        """
         axes, numpy = _axes(axes), needed_numpy("a plot")
         means = numpy.exp(numpy.log(self.distances[:, 1:]).mean(axis=0))
         axes.semilogy(self.times[1:], self.distances[:, 1:].T, color="tab:red", linewidth=0.5, alpha=0.4)
@@ -174,12 +190,12 @@ class Mixing:
     there : numpy.ndarray, shape (n_frames,)
         The entropy of mixing at these steps on the way there, in k_B for each atom.
     back : numpy.ndarray, shape (n_frames,)
-        That on the way back, at the same steps.
+        The entropy of mixing on the way back, at the same steps.
     ideal : float
-        That of cells which all have the composition of the whole box: ln 2 of two kinds with as many atoms.
+        The value if each cell has the composition of the whole box: ln 2 for two kinds with equally many atoms.
     random : float
-        What a random mixture has on average, which is less, since a cell has few atoms: that of the frame at the turn with its kinds
-        shuffled.
+        The mean value of a random mixture, computed from the frame at the reversal with shuffled kinds. It is smaller than `ideal`,
+        since a cell has few atoms.
     cells : int
         How many cells there are along each axis.
     """
@@ -193,11 +209,22 @@ class Mixing:
 
     @property
     def is_exact(self) -> bool:
-        """Whether both ways have the same entropies, to the bit."""
+        """Whether both ways have the same entropies, bit for bit."""
         return bool((self.there == self.back).all())
 
     def plot(self, axes: Any = None) -> Any:
-        """Draws the entropy over the steps made, there and back, and returns the axes."""
+        """Draws the entropy over the steps made, there and back.
+
+        Parameters
+        ----------
+        axes : matplotlib.axes.Axes, optional
+            What is drawn into; else a new figure.
+
+        Returns
+        -------
+        matplotlib.axes.Axes
+            What was drawn into.
+        """
         axes = _both_ways(_axes(axes), self.steps, self.there, self.back)
         axes.axhline(self.random, color="gray", linestyle="--", linewidth=1, label="a random mixture")
         axes.set(xlabel="steps made", ylabel="entropy of mixing / $k_B$ per atom", ylim=(0, None))
@@ -212,7 +239,7 @@ class Mixing:
 
 @dataclasses.dataclass(frozen=True, eq=False)
 class Arrow:
-    """What of a run tells the direction of time.
+    """Quantities of a run, and which of them show the direction of time.
 
     Attributes
     ----------
@@ -232,29 +259,44 @@ class Arrow:
 
     @property
     def is_exact(self) -> bool:
-        """Whether both ways have the same quantities, to the bit. Then no single frame tells the direction, but for the start."""
+        """Whether the quantities are the same on both ways, bit for bit. Then no single frame except the start shows the direction."""
         return all(bool((self.there[name] == self.back[name]).all()) for name in self.there)
 
     @property
     def trends(self) -> Dict[str, float]:
-        """Kendall's rank correlation of each quantity with the time on the way there, from -1 to 1. On the way back it has the other
-        sign. It is near 0 of what only fluctuates."""
+        """Kendall's rank correlation of each quantity with the time on the way there, from -1 to 1.
+
+        On the way back it has the opposite sign. It is near 0 for a quantity that only fluctuates.
+        """
         return {name: rank_correlation(values) for name, values in self.there.items()}
 
     @property
     def departures(self) -> Dict[str, float]:
-        """How far the start is from the mean of the second half of the way there, in standard deviations of that half. A run that
-        begins with a large one comes to its equilibrium, and one that ends with it was turned back."""
+        """How far the start is from the mean of the second half of the way there, in standard deviations of that half.
+
+        A run that begins far from the mean relaxes to equilibrium. A run that ends far from the mean was reversed.
+        """
         return {name: departure(values) for name, values in self.there.items()}
 
     @property
     def telling(self) -> List[str]:
-        """The quantities that tell the direction: with a trend of 0.5 or a departure of 5 or more, by amount."""
+        """The quantities that show the direction, with a trend of 0.5 or a departure of 5 or more, sorted by size."""
         trends, departures = self.trends, self.departures
         return [name for name in trends if abs(trends[name]) >= TELLING_TREND or abs(departures[name]) >= TELLING_DEPARTURE]
 
     def plot(self, axes: Any = None) -> Any:
-        """Draws each quantity, from its least to its greatest value, over the steps made, and returns the axes."""
+        """Draws each quantity, from its least to its greatest value, over the steps made.
+
+        Parameters
+        ----------
+        axes : matplotlib.axes.Axes, optional
+            What is drawn into; else a new figure.
+
+        Returns
+        -------
+        matplotlib.axes.Axes
+            What was drawn into.
+        """
         axes, trends, departures = _axes(axes), self.trends, self.departures
         for name, values in self.there.items():
             low, span = values.min(), values.max() - values.min() or 1.0
@@ -275,19 +317,19 @@ class Arrow:
 
 
 def echo(session: "Session", steps: int, kick: Optional[Kick] = Kick(), every: Optional[int] = None) -> Echo:
-    """Makes steps, turns the motion back, kicks an atom and makes as many steps: a Loschmidt echo.
+    """Makes steps, reverses the motion, kicks an atom, and makes the same number of steps: a Loschmidt echo.
 
     Parameters
     ----------
     session : Session
-        A session whose scale is known. It is as it was at the end.
+        A session whose scale is known. At the end it is as it was.
     steps : int
         How many steps are made there, and back.
     kick : Kick, optional
-        What an atom is given at the turn: atom 0 a displacement of one ring unit along x if nothing is said. None kicks nothing, and
-        then each atom finds back to its place, to the bit.
+        The kick at the reversal. By default atom 0 is kicked by one ring unit along x. With None, each atom returns exactly to its
+        place.
     every : int, optional
-        How many steps there are from frame to frame; a hundredth of the steps if nothing is said.
+        How many steps there are from frame to frame; a hundredth of the steps by default.
 
     Returns
     -------
@@ -311,14 +353,14 @@ def echo(session: "Session", steps: int, kick: Optional[Kick] = Kick(), every: O
     20 steps there and back, without a kick: 0 sigma, to the bit from the start
     """
     numpy = needed_numpy("an echo")
-    stops, unit = _stops(steps, every), session.scale.sigma_on_ring
+    stops, unit = stops_of(steps, every), session.scale.sigma_on_ring
     kick = None if kick is None else _checked_kick(session, kick)
-    with _kept(session):
-        there = _on_the_way(session, stops, session.places)
+    with kept(session):
+        there = on_the_way(session, stops, session.places)
         session.reverse()
         if kick is not None:
             session.tug(*kick)
-        back = _on_the_way(session, _back_of(stops), session.places)
+        back = on_the_way(session, back_of(stops), session.places)
     # At the turn itself the kick has moved nothing yet.
     distances = [0.0, *(arrays.distance(*pair) / unit for pair in zip(back, there[-2::-1]))]
     made = numpy.array([stops[-1] - stop for stop in reversed(stops)])
@@ -326,25 +368,24 @@ def echo(session: "Session", steps: int, kick: Optional[Kick] = Kick(), every: O
 
 
 def divergence(session: "Session", steps: int, kicks: Union[int, Sequence[Kick]] = 8, every: Optional[int] = None) -> Divergence:
-    """Runs a session without a kick, and from the same start with each of some kicks, and fits a Lyapunov exponent.
+    """Runs a session without a kick, and again from the same start with each kick, and fits a Lyapunov exponent.
 
     Parameters
     ----------
     session : Session
-        A session whose scale is known. It is as it was at the end.
+        A session whose scale is known. At the end it is as it was.
     steps : int
         How many steps each run makes. A kick of one ring unit in a liquid takes a time of about 3, in `sigma sqrt(m / epsilon)`, to
         grow to 1/10 sigma.
     kicks : int or sequence of Kick, optional
-        What an atom is given in each run. A number is that of the runs, in each of which another atom is given one ring unit along
-        x.
+        The kick of each run, or the number of runs. With a number, another atom is kicked by one ring unit along x in each run.
     every : int, optional
-        How many steps there are from frame to frame; a hundredth of the steps if nothing is said.
+        How many steps there are from frame to frame; a hundredth of the steps by default.
 
     Returns
     -------
     Divergence
-        The distances of the runs, and the exponent that is fitted from 1/256 to 1/10 sigma.
+        The distances of the runs, and the exponent fitted from 1/256 to 1/10 sigma.
 
     Raises
     ------
@@ -354,9 +395,9 @@ def divergence(session: "Session", steps: int, kicks: Union[int, Sequence[Kick]]
         If the quota has no place for a branch.
     """
     numpy = needed_numpy("a divergence")
-    stops, wanted = _stops(steps, every), _checked_kicks(session, kicks)
-    with _kept(session):
-        alone = _on_the_way(session, stops, session.places)
+    stops, wanted = stops_of(steps, every), _checked_kicks(session, kicks)
+    with kept(session):
+        alone = on_the_way(session, stops, session.places)
         rows = [_distances_of(session, kick, stops, alone) for kick in wanted]
     made = numpy.array(stops)
     times = made * session.scale.reduced_dt
@@ -368,7 +409,7 @@ def divergence(session: "Session", steps: int, kicks: Union[int, Sequence[Kick]]
 def entropy_of_mixing(
     session: "Session", steps: int, every: Optional[int] = None, cells: int = 4, labels: Optional[Sequence[object]] = None
 ) -> Mixing:
-    """Makes steps there and back, and tells the entropy of mixing on both ways.
+    """Makes steps there and back, and measures the entropy of mixing on both ways.
 
     The box is divided into cells. The entropy is `- sum n ln(n / m)` over all kinds and cells, for each atom and in k_B, where a cell
     has n atoms of a kind, of m.
@@ -376,20 +417,20 @@ def entropy_of_mixing(
     Parameters
     ----------
     session : Session
-        A session whose scale is known. It is as it was at the end.
+        A session whose scale is known. At the end it is as it was.
     steps : int
         How many steps are made there, and back.
     every : int, optional
-        How many steps there are from frame to frame; a hundredth of the steps if nothing is said.
+        How many steps there are from frame to frame; a hundredth of the steps by default.
     cells : int, optional
         How many cells there are along each axis. With 10 atoms in a cell a random mixture has 0.05 less than an ideal one.
     labels : sequence, optional
-        The kind of each atom, such as where it was at the start. Without it, its symbol.
+        The kind of each atom, such as where it was at the start. The default is its symbol.
 
     Returns
     -------
     Mixing
-        The entropies there and back, which are the same to the bit.
+        The entropies there and back, which are the same bit for bit.
 
     Raises
     ------
@@ -399,12 +440,12 @@ def entropy_of_mixing(
         If the quota has no place for a branch.
     """
     numpy = needed_numpy("an entropy of mixing")
-    stops, cells = _stops(steps, every), _at_least_1(cells, "cells")
+    stops, cells = stops_of(steps, every), at_least_1(cells, "cells")
     kinds = list(session.symbols() if labels is None else labels)
-    if len(kinds) != session.atoms or len(set(kinds)) < 2:
-        raise ValueError(f"labels must be one of each of {session.atoms} atoms, and of two kinds at least: say labels=")
+    if len(kinds) != session.n_atoms or len(set(kinds)) < 2:
+        raise ValueError(f"labels must be one for each of the {session.n_atoms} atoms, and of at least two kinds; use labels=")
     numbers = numpy.array([sorted(set(kinds), key=repr).index(kind) for kind in kinds])
-    frames, returned = _there_and_back(session, stops, session.places)
+    frames, returned = there_and_back(session, stops, session.places)
     there, back = (numpy.array([mixing_entropy(places, numbers, cells) for places in way]) for way in (frames, returned))
     parts, drawn = numpy.bincount(numbers) / len(numbers), numpy.random.default_rng(0)
     shuffled = [mixing_entropy(frames[-1], drawn.permutation(numbers), cells) for _ in range(SHUFFLES)]
@@ -413,20 +454,20 @@ def entropy_of_mixing(
 
 
 def arrow(session: "Session", steps: int, every: Optional[int] = None) -> Arrow:
-    """Makes steps there and back, and tells which quantities of a run tell the direction of time.
+    """Makes steps there and back, and finds the quantities that show the direction of time.
 
-    Each quantity has the same values on both ways, so none of a single frame tells it. What rises or falls all along does: a
-    crystal that melts loses potential energy on the way back alone. In a liquid in equilibrium nothing does but the distance
-    from a start that is known. Where the time step is long, the total energy does too, since the bins of the table have it grow.
+    Each quantity has the same values on both ways, so a single frame does not show the direction. A quantity that rises or falls
+    during the whole run does: a melting crystal loses potential energy only on the way back. In a liquid in equilibrium only the
+    distance from a known start shows it. With a long time step the total energy shows it too, since it grows.
 
     Parameters
     ----------
     session : Session
-        A session whose scale is known. It is as it was at the end.
+        A session whose scale is known. At the end it is as it was.
     steps : int
         How many steps are made there, and back.
     every : int, optional
-        How many steps there are from frame to frame; a hundredth of the steps if nothing is said.
+        How many steps there are from frame to frame; a hundredth of the steps by default.
 
     Returns
     -------
@@ -441,69 +482,17 @@ def arrow(session: "Session", steps: int, every: Optional[int] = None) -> Arrow:
         If the quota has no place for a branch.
     """
     numpy = needed_numpy("an arrow of time")
-    stops, start = _stops(steps, every), session.places()
-    there, back = _there_and_back(session, stops, lambda: _quantities_of(next(session.frames([0])), start))
+    stops, start = stops_of(steps, every), session.places()
+    there, back = there_and_back(session, stops, lambda: _quantities_of(next(session.frames([0])), start))
     ways = [{name: numpy.array([each[name] for each in way]) for name in way[0]} for way in (there, back)]
     return Arrow(numpy.array(stops), *ways)
-
-
-@contextlib.contextmanager
-def _kept(session: "Session") -> Iterator[None]:
-    """What is done within is undone at the end: the session is as it was. If the connection is lost, the error says how to go back."""
-    session.branch(START)
-    try:
-        yield
-    except BaseException as error:
-        with contextlib.suppress(ClientError):
-            _put_back(session)
-        if isinstance(error, ClientError) and not session.is_free:
-            error.more = error.more or f"{session.name} was on its way: restore({START!r}) leads back if it is still there"
-        raise
-    _put_back(session)
-
-
-def _put_back(session: "Session") -> None:
-    session.restore(START)
-    session.forget(START)
-
-
-def _stops(steps: int, every: Optional[int]) -> List[int]:
-    """After how many steps frames are: at the start, each so many, and at the end."""
-    total = _at_least_1(steps, "steps")
-    part = max(1, total // FRAMES) if every is None else _at_least_1(every, "every")
-    return [*range(0, total, part), total]
-
-
-def _back_of(stops: Sequence[int]) -> List[int]:
-    """After how many steps behind REVERSE the same frames are on the way back, but for the last one: it goes back by a step itself."""
-    return [stops[-1] - stop - 1 for stop in reversed(stops[:-1])]
-
-
-def _on_the_way(session: "Session", stops: Sequence[int], look: Callable[[], Looked]) -> List[Looked]:
-    """What is seen of a session after so many steps from here each."""
-    seen, made = [], 0
-    for stop in stops:
-        if stop > made:
-            session.advance(stop - made)
-        seen.append(look())
-        made = stop
-    return seen
-
-
-def _there_and_back(session: "Session", stops: Sequence[int], look: Callable[[], Looked]) -> Tuple[List[Looked], List[Looked]]:
-    """What is seen at each stop on the way there and on the way back, both in the order of the stops."""
-    with _kept(session):
-        there = _on_the_way(session, stops, look)
-        session.reverse()
-        back = _on_the_way(session, _back_of(stops), look)
-    return there, [*reversed(back), there[-1]]
 
 
 def _distances_of(session: "Session", kick: Kick, stops: Sequence[int], alone: Sequence[Any]) -> List[float]:
     """How far a run with a kick from the start is from the run without it at each stop, in sigma."""
     session.restore(START)
     session.tug(*kick)
-    frames = _on_the_way(session, stops, session.places)
+    frames = on_the_way(session, stops, session.places)
     return [arrays.distance(*pair) / session.scale.sigma_on_ring for pair in zip(frames, alone)]
 
 
@@ -527,31 +516,24 @@ def _quantities_of(frame: "Snapshot", start: Any) -> Dict[str, float]:
 
 def _checked_kicks(session: "Session", kicks: Union[int, Sequence[Kick]]) -> Tuple[Kick, ...]:
     """Kicks as they were said, or so many of which each has another atom."""
-    atoms = session.atoms
+    atoms = session.n_atoms
     if not isinstance(kicks, Sequence):
-        count = _at_least_1(kicks, "kicks")
+        count = at_least_1(kicks, "kicks")
         if count > atoms:
-            raise ValueError(f"kicks must be at most {atoms}, which is how many atoms there are, got {count}")
+            raise ValueError(f"kicks must be at most {atoms}, the number of atoms, got {count}")
         return tuple(Kick(number * atoms // count) for number in range(count))
     wanted = tuple(_checked_kick(session, kick) for kick in kicks)
     if not wanted:
-        raise ValueError("kicks must be one at least, got none")
+        raise ValueError("kicks must have at least one, got none")
     return wanted
 
 
 def _checked_kick(session: "Session", kick: Kick) -> Kick:
     """A kick of an atom that there is."""
     atom, displacement = kick
-    if (number := count_of(atom, "an atom number")) >= session.atoms:
-        raise ValueError(f"the atom of a kick must be below {session.atoms}, which is how many there are, got {number}")
+    if (number := count_of(atom, "the number of an atom")) >= session.n_atoms:
+        raise ValueError(f"the atom of a kick must be below {session.n_atoms}, the number of atoms, got {number}")
     return Kick(number, displacement_of(displacement))
-
-
-def _at_least_1(number: Any, what: str) -> int:
-    """A whole number above 0. Raises TypeError or ValueError for what is none."""
-    if (count := whole_of(number, what)) < 1:
-        raise ValueError(f"{what} must be 1 at least, got {count}")
-    return count
 
 
 def _axes(axes: Any) -> Any:

@@ -1,4 +1,4 @@
-"""What a session tells on its way: its positions at every so many steps, in arrays."""
+"""Samples of a session: its positions every so many steps, in arrays."""
 from __future__ import annotations
 
 from typing import TYPE_CHECKING, Any, Callable, Iterator, List, NamedTuple, Tuple, Union
@@ -16,9 +16,12 @@ Progress = Union[bool, bars.Report]
 class Samples(NamedTuple):
     """Frames of a session on its way.
 
-    steps   the step number of each
-    frames  positions in the unit of the file, or places in ring units: an array of shape (frames, atoms, 3), or a list of
-            lists of tuples if numpy is not installed
+    Attributes
+    ----------
+    steps : list of int
+        The step number of each.
+    frames : numpy.ndarray, shape (frames, atoms, 3)
+        Positions in the unit of the file, or places in ring units. A list of lists of tuples if numpy is not installed.
     """
 
     steps: List[int]
@@ -29,7 +32,7 @@ def checked_stops(every: Any, count: Any, what: str) -> None:
     """Raises TypeError or ValueError unless both are whole numbers above 0."""
     for number, name in ((every, "every"), (count, what)):
         if whole_of(number, name) < 1:
-            raise ValueError(f"{name} is 1 at least, not {number}")
+            raise ValueError(f"{name} must be at least 1, got {number}")
 
 
 def stops(session: "Session", every: int, count: int, progress: Progress, ahead: int = 0) -> Iterator[int]:

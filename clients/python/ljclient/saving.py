@@ -1,4 +1,4 @@
-"""Sessions that are saved to a file on their way, so that a run that is lost costs the steps since then and no more."""
+"""Sessions that are saved to a file during a run, so that a lost run costs only the steps since then."""
 from __future__ import annotations
 
 import contextlib
@@ -8,7 +8,7 @@ from typing import TYPE_CHECKING, Iterator, Optional
 
 from .files import Path
 from .progress import Report
-from .units import real_of
+from .scalars import real_of
 
 if TYPE_CHECKING:
     from .session import Session
@@ -25,7 +25,7 @@ def saver(session: "Session", path: Optional[Path], seconds: float, report: Opti
         yield report
         return
     if not 0 <= real_of("seconds", seconds) < math.inf:
-        raise ValueError(f"seconds is a number from 0 on, not {seconds!r}")
+        raise ValueError(f"seconds must be a finite number from 0 on, got {seconds!r}")
     session.save(path)
     try:
         yield _reporter(session, path, seconds, report)

@@ -1,4 +1,4 @@
-"""Frames of a session on its way, with all that a frame tells: positions, velocities, forces and energies."""
+"""Frames of a session during a run, with positions, velocities, forces and energies."""
 from __future__ import annotations
 
 import dataclasses
@@ -7,12 +7,12 @@ from typing import TYPE_CHECKING, Any, Iterator, List, Optional, Sequence, Union
 
 from . import arrays, progress as bars
 from .centred import ThreeFrames, three_frames
-from .names import count_of
+from .names import count_of, shortened
 from .pressure import Composition, composition_of, of_frames
 from .sampling import Progress, checked_stops, onward
 from .thermo import Thermo
 from .units import RING, Scale
-from .unwrapping import Path
+from .unwrapping import Path, warn_of_far
 
 if TYPE_CHECKING:
     from .session import Session
@@ -25,16 +25,29 @@ Every = Union[int, Sequence[int]]
 class Snapshot:
     """A session as it is at a step.
 
-    step, time  the step number, and its time: in femtoseconds if epsilon and mass are known, else in units of
-                `sigma sqrt(m / epsilon)`
-    energies    the row of `Session.thermo` of this step: temperature, kinetic, potential and total energy
-    scale       what the whole numbers of the session mean
-    moved       of each atom the displacement from the first frame, in ring units, followed round the box
-    three       the places now and a step before and after, in ring units
-    atoms       how they interact
+    Positions, velocities, forces and displacements are computed when they are read: arrays of shape (atoms, 3), or lists of tuples
+    if numpy is not installed.
 
-    Positions, velocities, forces and displacements are worked out when they are asked for: arrays of shape (atoms, 3), or lists
-    of tuples if numpy is not installed.
+    Attributes
+    ----------
+    step : int
+        The step number.
+    time : float
+        The time of the step: in femtoseconds if epsilon and mass are known, else in units of `sigma sqrt(m / epsilon)`.
+    energies : Thermo
+        The row of `Session.thermo` of this step: temperature, kinetic, potential and total energy.
+    scale : Scale
+        What the whole numbers of the session mean.
+    moved : numpy.ndarray of int, shape (atoms, 3)
+        The displacement of each atom from the first frame, in ring units, followed round the box.
+    three : ThreeFrames
+        The places now and a step before and after, in ring units.
+    atoms : Composition
+        How the atoms interact.
+    name : str
+        The name of the session.
+    far : float
+        The farthest that an atom has gone since a frame before, as a part of the edge.
     """
 
     step: int
@@ -44,6 +57,8 @@ class Snapshot:
     moved: Any = dataclasses.field(repr=False, compare=False)
     three: ThreeFrames = dataclasses.field(repr=False, compare=False)
     atoms: Composition = dataclasses.field(repr=False, compare=False)
+    name: str = dataclasses.field(default="", repr=False, compare=False)
+    far: float = dataclasses.field(default=0.0, repr=False, compare=False)
 
     @property
     def temperature(self) -> float:
@@ -75,9 +90,17 @@ class Snapshot:
         """The pressure in epsilon / sigma^3, as `Session.pressure`. It needs numpy."""
         return of_frames(self.three, self.atoms)
 
-    @functools.cached_property
+    @property
     def displacements(self) -> arrays.FloatArray:
-        """The displacements from the first frame in the unit of the file, also of atoms that have left the box meanwhile."""
+        """The displacements from the first frame in the unit of the file, also of atoms that have left the box meanwhile.
+
+        There is a warning if an atom may have gone round the box the other way between two frames.
+        """
+        warn_of_far(self.name, self.far)
+        return self._displacements
+
+    @functools.cached_property
+    def _displacements(self) -> arrays.FloatArray:
         return arrays.scaled(self.moved, self.scale.edge / RING)
 
 
@@ -88,37 +111,41 @@ def stops_of(every: Every, count: Optional[int]) -> List[int]:
     """
     if hasattr(every, "__len__"):
         if count is not None:
-            raise ValueError("a list of steps says itself how many frames there are: leave n out")
+            raise ValueError(f"n must be left out beside a list of {len(every)} steps, got {count!r}; the list has a frame for each step")
         return checked_stops_of(cast(Sequence[int], every))
     if count is None:
-        raise ValueError("say how many frames, n=..")
+        raise ValueError("n must be the number of frames, got None; use n=..")
     checked_stops(every, count, "n")
     return [every * number for number in range(count)]
 
 
 def checked_stops_of(steps: Sequence[int]) -> List[int]:
     """The steps of a list. Raises TypeError or ValueError unless they are whole numbers that rise."""
-    stops = [count_of(step, "a number of steps") for step in steps]
+    stops = [count_of(step, "the number of steps") for step in steps]
     if not stops or any(later <= stop for stop, later in zip(stops, stops[1:])):
-        raise ValueError("a list of steps has one at least, and each is greater than the one before")
+        raise ValueError(f"a list of steps must have at least one, each greater than the one before, got {shortened(stops)}")
     return stops
 
 
 def snapshots(session: "Session", user: "User", stops: Sequence[int], progress: Progress) -> Iterator[Snapshot]:
     """The snapshots of a session after so many steps from here each. When one is given, the session stands at its step."""
-    path, made = Path(session.name), 0
+    path, made, far = Path(session.name), 0, 0.0
     with bars.reporter(progress, session.name) as report:
         for stop in stops:
             if stop > made:
                 session.advance(stop - made, onward(report, made, stops[-1]) if report else False)
             made = stop
-            yield _taken(session, user, path)
+            snapshot = _taken(session, user, path, far)
+            far = snapshot.far
+            yield snapshot
 
 
-def _taken(session: "Session", user: "User", path: Path) -> Snapshot:
-    """The snapshot of a session as it is."""
-    with session.lock:
+def _taken(session: "Session", user: "User", path: Path, far: float) -> Snapshot:
+    """The snapshot of a session as it is, in which an atom has gone so far already between two frames."""
+    with session._lock:
         here, three, atoms = session.measure(), three_frames(user, session.name), composition_of(session, user)
     after = dataclasses.replace(here, kinetic=three.kinetic_after())
     scale = session.scale
-    return Snapshot(three.step, scale.time(three.step), Thermo.of(here, after), scale, path.to(three.now), three, atoms)
+    moved, farther = path.followed(three.now)
+    time, energies = scale.time(three.step), Thermo.of(here, after)
+    return Snapshot(three.step, time, energies, scale, moved, three, atoms, session.name, max(far, farther))

@@ -1,11 +1,11 @@
-"""Symbols of atoms that are loaded: those that are said for a text, and whether atoms of one species have one."""
+"""Symbols of atoms that are loaded: `symbols=` in place of those of a text, and the check that one species has one symbol."""
 from __future__ import annotations
 
 import re
 from typing import Any, Iterable, List, Optional, Sequence, Union
 
 from .elements import ELEMENTS
-from .names import checked_symbol
+from .names import checked_symbol, shortened
 from .units import SUBSTANCES, Scale
 
 # The symbol of all atoms, or a list of one for each.
@@ -14,15 +14,15 @@ FIRST_WORD = re.compile(rb"\S+")
 
 
 def names_of(symbols: Any, count: int) -> List[str]:
-    """The symbol of each of so many atoms. Raises TypeError or ValueError for what says none."""
+    """The symbol of each of so many atoms. Raises TypeError or ValueError for anything else."""
     if isinstance(symbols, str):
         return [symbols] * count
     try:
         names = list(symbols)
     except TypeError:
-        raise TypeError(f"symbols= is a string, or a list of one for each atom, not {symbols!r}") from None
+        raise TypeError(f"symbols must be a string, or a list of one for each atom, got {shortened(symbols)}") from None
     if len(names) != count:
-        raise ValueError(f"there are {len(names)} symbols for {count} atoms")
+        raise ValueError(f"symbols must be one for each of the {count} atoms, got {len(names)}")
     return names
 
 
@@ -50,14 +50,14 @@ def check_alike(symbols: Iterable[str], scale: Scale) -> None:
     if len(names) > 1:
         told = f"{', '.join(names[:-1])} and {names[-1]}"
         raise ValueError(
-            f"the atoms have the symbols {told[:100]}, and here they are all alike: symbols={names[0]!r} says that they are, "
-            "and load_mix takes two species"
+            f"the atoms must have one symbol, since they are all alike here, got {told[:100]}; "
+            f"use symbols={names[0]!r}, or load_mix for two species"
         )
     substance = next((name for name, words in SUBSTANCES.items() if words == _words_of(scale)), None)
     if names and substance is not None and names[0] in ELEMENTS - {substance}:
         raise ValueError(
-            f"sigma, epsilon and mass are those of {substance}, and the symbol of the atoms is {names[0]}: say those of "
-            f"{names[0]}, or symbols={substance!r}"
+            f"the symbol of the atoms must be {substance}, since sigma, epsilon and mass are those of {substance}, got {names[0]}; "
+            f"use those of {names[0]}, or symbols={substance!r}"
         )
 
 

@@ -25,6 +25,7 @@ Command = Tuple[str, bytes]
 class Known:
     """What a user knows of a session: its scale, and how its numbers stand to those of the server.
 
+    n_atoms     how many atoms it has, once the server has said it
     symbols     the symbol of each atom, once they were read
     is_sorted   whether its atoms are kept in the order of space
     gone        how many steps it has made since they were sorted
@@ -48,6 +49,7 @@ class Known:
     watch: EnergyWatch = field(default_factory=EnergyWatch)
     direction: Optional[int] = None
     left: FrozenSet[str] = frozenset()
+    n_atoms: Optional[int] = None
 
     def branch_order(self, branch: str) -> Order:
         """How the numbers of what is saved under a name stand to those of the server."""
@@ -83,9 +85,9 @@ class State:
 
     def command(self, order: Order) -> Command:
         """The command that loads it, with the atoms in this order, and its body."""
-        symbols = order.for_server(self.symbols)
+        symbols = order._for_server(self.symbols)
         both = (("one step before", self.before), ("now", self.places))
-        body = b"".join(frames.text_on_ring(comment, symbols, order.for_server(places)) for comment, places in both)
+        body = b"".join(frames.text_on_ring(comment, symbols, order._for_server(places)) for comment, places in both)
         return f"{self._words()} pair {len(body)}", body
 
     def known(self, order: Order) -> Known:
@@ -107,11 +109,11 @@ def checked(name: str, known: Known) -> Scale:
     """The scale of a session that can be loaded again. Raises ValueError if too little was said of it."""
     scale = known.scale
     if scale is None:
-        raise ValueError(f"the scale of {name} is not known: user.session(name, edge=.., sigma=.., h=..) says it")
+        raise ValueError(f"the scale of {name} must be known, got None; use user.session(name, edge=.., sigma=.., h=..)")
     if known.mixture is None and scale.weight != FULL_WEIGHT:
-        raise ValueError(f"{name} has two species, and how they interact is known where load_mix has loaded it")
+        raise ValueError(f"cannot copy or save {name}: how its two species interact is known only where load_mix has loaded it")
     if not 0 < scale.sigma_on_ring < RING:
-        raise ValueError(f"sigma is below the edge of the box, not {scale.sigma:g} beside {scale.edge:g}")
+        raise ValueError(f"sigma must be below the edge of the box, {scale.edge:g}, got {scale.sigma:g}")
     return scale
 
 
@@ -132,7 +134,7 @@ def commands_of_state(atoms: int) -> int:
 def state_of(user: "Loader", name: str) -> State:
     """The state of a session. Its pending steps are done first. The session is then as it was."""
     user.ask(f"ADVANCE {name} 0")
-    known = user.known(name)
+    known = user._known_of(name)
     scale = checked(name, known)
     symbols = symbols_of(user, name)
     if known.order.on_ring:
@@ -144,15 +146,15 @@ def state_of(user: "Loader", name: str) -> State:
         raise BadReply(f"the two frames of {name} are at the steps {now.step} and {before.step}")
     known.direction = direction
     order = known.order
-    places, past = (order.for_user(arrays.listed(frame.places)) for frame in (now, before))
+    places, past = (order._for_user(arrays.listed(frame.places)) for frame in (now, before))
     step, direction = order.step_of(now.step), order.direction * direction
     return State(name, scale, known.mixture, step, direction, symbols, places, past, known.is_sorted)
 
 
 def symbols_of(user: "Loader", name: str) -> Sequence[str]:
     """The symbols of a session's atoms, in the user's order."""
-    known = user.known(name)
+    known = user._known_of(name)
     if not known.symbols:
         told = frames.dumped(user, name).symbols()
-        known.symbols = known.order.for_user(told)
+        known.symbols = known.order._for_user(told)
     return known.symbols

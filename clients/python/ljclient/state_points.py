@@ -1,4 +1,4 @@
-"""Atoms to begin with, and sessions at a temperature and a density: lattices, slabs, droplets, mixtures, equations of state.
+"""Starting configurations, and sessions at a temperature and a density: lattices, slabs, droplets, mixtures, equations of state.
 
     from ljclient import run, state_points
 
@@ -6,7 +6,7 @@
         for point in state_points.equation_of_state(user, [0.2, 0.4, 0.6, 0.7, 0.8], temperature=1.5):
             print(point)
 
-What `lattice` and the like return is loaded as `Atoms` of ASE are, with its box: `user.load("a", lattice(..), sigma=1, h=4295)`.
+`user.load("a", lattice(..), sigma=1, h=4295)` loads such a configuration with its box.
 """
 from __future__ import annotations
 
@@ -14,7 +14,7 @@ import dataclasses
 import math
 from typing import TYPE_CHECKING, Any, Dict, Iterable, Iterator, List, NamedTuple, Optional, Sequence, Tuple
 
-from . import units
+from . import scalars, units
 from .configurations import Configuration, Position, binary, droplet, lattice, relax, slab
 from .johnson import johnson
 from .mixture import Mixture
@@ -43,7 +43,7 @@ __all__ = [
     "state_point",
 ]
 
-FRAMES, BLOCKS = 100, 10
+FRAMES, BLOCKS = 500, 10
 """How many frames a mean has if nothing says it, and into how many blocks they are divided for its error."""
 CUTOFF = 2.5
 
@@ -68,7 +68,7 @@ class Mean(NamedTuple):
 
 @dataclasses.dataclass(frozen=True, eq=False)
 class StatePoint:
-    """What a session has on average, at constant energy.
+    """Mean values of a session at constant energy.
 
     Attributes
     ----------
@@ -83,7 +83,7 @@ class StatePoint:
     energy : Mean
         The potential energy of an atom in epsilon, with the correction for what is beyond the cutoff.
     tails : tuple of float
-        These two corrections, which pressure and energy have: those of a fluid that is uniform from 2.5 sigma on.
+        The corrections of pressure and energy, for a fluid that is uniform beyond 2.5 sigma.
     n_frames : int
         Of how many frames these are means.
     """
@@ -108,10 +108,27 @@ class StatePoint:
 
 
 class EquationOfState(List[StatePoint]):
-    """State points at one temperature: a list, which can be drawn."""
+    """State points at one temperature: a list with a method `plot`.
+
+    Parameters
+    ----------
+    iterable : iterable of StatePoint
+        The points.
+    """
 
     def plot(self, axes: Any = None) -> Any:
-        """Draws the pressures over the densities, and Johnson's equation at the mean temperature, and returns the axes."""
+        """Draws the pressures over the densities, and Johnson's equation at the mean temperature.
+
+        Parameters
+        ----------
+        axes : matplotlib.axes.Axes, optional
+            What is drawn into; else a new figure.
+
+        Returns
+        -------
+        matplotlib.axes.Axes
+            What was drawn into.
+        """
         axes = pyplot("a plot needs").subplots(layout="constrained")[1] if axes is None else axes
         densities = [point.density for point in self]
         values, errors = zip(*(point.pressure for point in self))
@@ -128,16 +145,16 @@ class EquationOfState(List[StatePoint]):
 
 
 def state_point(session: "Session", steps: int, every: Optional[int] = None, progress: Progress = False) -> StatePoint:
-    """Goes on at constant energy, and returns the means of temperature, pressure and potential energy. It needs numpy.
+    """Advances at constant energy, and returns the means of temperature, pressure and potential energy. It needs numpy.
 
     Parameters
     ----------
     session : Session
-        A session whose scale is known, of atoms that are brought to the temperature.
+        A session whose scale is known, and whose atoms already have the temperature.
     steps : int
         How many steps it goes on by.
     every : int, optional
-        How many steps there are from frame to frame; a hundredth of the steps if nothing is said.
+        How many steps there are from frame to frame; a five hundredth of the steps by default.
     progress : bool or callable, optional
         As in `Session.advance`.
 
@@ -152,16 +169,16 @@ def state_point(session: "Session", steps: int, every: Optional[int] = None, pro
         If there are fewer than ten frames.
     """
     needed_numpy("a state point")
-    total, part = whole_of(steps, "a number of steps"), 1
+    total, part = whole_of(steps, "the number of steps"), 1
     part = max(1, total // FRAMES) if every is None else whole_of(every, "every")
     if part < 1 or total // part + 1 < BLOCKS:
-        raise ValueError(f"steps must be {(BLOCKS - 1) * max(part, 1)} at least for ten frames, got {steps}: say more, or a smaller every=")
+        raise ValueError(f"steps must be at least {(BLOCKS - 1) * max(part, 1)} for ten frames, got {steps}; use more, or a smaller every=")
     rows = [
         (frame.temperature, frame.pressure, frame.energies.potential)
         for frame in session.frames(every=part, n=total // part + 1, progress=progress)
     ]
     temperatures, pressures, potentials = zip(*rows)
-    count, density, tails = session.atoms, _density_of(session), _tails_of(session)
+    count, density, tails = session.n_atoms, _density_of(session), _tails_of(session)
     energies = [potential / count + tails[1] for potential in potentials]
     pressure = _mean_of([each + tails[0] for each in pressures])
     return StatePoint(session, density, _mean_of(temperatures), pressure, _mean_of(energies), tails, len(rows))
@@ -176,11 +193,11 @@ def equilibrate(
     seed: int = 0,
     progress: Progress = False,
 ) -> StatePoint:
-    """Brings a session to a temperature and a density, and returns the means that it reached with their errors. It needs numpy.
+    """Brings a session to a temperature and a density, and returns means with their errors. It needs numpy.
 
-    For another density the atoms are loaded anew in another box, in place of the session: all positions are scaled, atoms that
-    overlap then are pushed apart, and velocities are drawn. What `branch` saved is gone then, and so is a record. Half of the steps
-    bring it to the temperature, as by `Session.equilibrate`, and in the other half, at constant energy, the means are taken.
+    For another density the atoms are loaded again in another box, and replace the session: all positions are scaled, overlapping
+    atoms are pushed apart, and new velocities are drawn. Branches and a record are then lost. The first half of the steps brings the
+    session to the temperature, as by `Session.equilibrate`. The means are taken in the second half, at constant energy.
 
     Parameters
     ----------
@@ -189,7 +206,7 @@ def equilibrate(
     temperature : float
         In kelvin if epsilon is known, else in epsilon / k_B.
     density : float, optional
-        How many atoms there are for each sigma^3; that of the session if nothing is said.
+        How many atoms there are for each sigma^3. The default is the density of the session.
     steps : int, optional
         How many steps there are in all.
     seed : int, optional
@@ -200,12 +217,12 @@ def equilibrate(
     Returns
     -------
     StatePoint
-        What it reached. Its `session` is the one to go on with.
+        The means. Continue with its `session`.
 
     Raises
     ------
     ValueError
-        If the temperature, the density or the steps are none. The session is as it was then.
+        If the temperature, the density or the steps are out of range. The session then stays as it was.
 
     Examples
     --------
@@ -217,12 +234,12 @@ def equilibrate(
     6.839904 0.1
     """
     needed_numpy("an equilibration")
-    half = whole_of(steps, "a number of steps") // 2
+    half = whole_of(steps, "the number of steps") // 2
     if half < BLOCKS:
-        raise ValueError(f"steps must be {2 * BLOCKS} at least, got {steps}")
-    units.checked_positive("temperature", temperature)
+        raise ValueError(f"steps must be at least {2 * BLOCKS}, got {steps}")
+    scalars.checked_positive("temperature", temperature)
     if density is not None:
-        session = _at_density(session, units.checked_positive("density", density))
+        session = _at_density(session, scalars.checked_positive("density", density))
     session.equilibrate(temperature, half, progress=progress, seed=seed)
     return state_point(session, half, progress=progress)
 
@@ -242,7 +259,7 @@ def equation_of_state(
     Parameters
     ----------
     user : User
-        Whose session it is.
+        The user for the session.
     densities : iterable of float
         How many atoms there are for each sigma^3.
     temperature : float
@@ -254,21 +271,21 @@ def equation_of_state(
     steps : int, optional
         How many steps there are for each density.
     name : str, optional
-        The name of the session, which takes the place of one of that name, and which is dropped at the end.
+        The name of the session. It replaces a session of this name, and is dropped at the end.
 
     Returns
     -------
     EquationOfState
-        A state point for each density, as a list. `plot()` draws them beside Johnson's equation.
+        A state point for each density, as a list. `plot()` draws them with Johnson's equation.
 
     Raises
     ------
     ValueError
-        If there is no density, or one of the numbers is none.
+        If there is no density, or one of the numbers is out of range.
     """
-    wanted = [units.checked_positive("a density", density) for density in densities]
+    wanted = [scalars.checked_positive("density", density) for density in densities]
     if not wanted:
-        raise ValueError("densities must be one at least, got none")
+        raise ValueError("densities must have at least one, got none")
     begin = lattice("fcc", density=wanted[0], atoms=atoms)
     session = user.load(name, begin, sigma=1, h=h, order="space", replace=True)
     points = EquationOfState()
@@ -282,11 +299,11 @@ def equation_of_state(
 def _at_density(session: "Session", density: float) -> "Session":
     """The session with its atoms at rest in a box of another density, loaded in its place."""
     user, scale, mixture = session.user, session.scale, session.mixture
-    edge = units.edge_of_density(session.atoms, density, sigma=scale.sigma)
+    edge = units.edge_of_density(session.n_atoms, density, sigma=scale.sigma)
     positions = tuple(_scaled(session.positions(), edge / scale.edge))
     widest = max(each.sigma for each in (mixture.classes if mixture else (scale,)))
     source = relax(Configuration(tuple(session.symbols()), positions, edge, widest))
-    known = user.known(session.name)
+    known = user._known_of(session.name)
     load: Any = user.load if mixture is None else user.load_mix
     words = {"sigma": scale.sigma, "h": scale.h, "symbols": source.symbols[0]} if mixture is None else words_of(mixture)
     words |= {"epsilon": scale.epsilon, "mass": scale.mass, "watch": known.watch.is_on}
@@ -313,7 +330,7 @@ def _mean_of(values: Sequence[float]) -> Mean:
 
 def _density_of(session: "Session") -> float:
     """How many atoms there are for each sigma^3, of sigma as the program has it."""
-    return session.atoms * (session.scale.sigma_on_ring / RING) ** 3
+    return session.n_atoms * (session.scale.sigma_on_ring / RING) ** 3
 
 
 def _tails_of(session: "Session") -> Tuple[float, float]:
@@ -330,7 +347,7 @@ def _weighed(session: "Session", first: Scale, what: str) -> float:
     """The mean of epsilon sigma^3 over all pairs of atoms, in that of the first class: by h, which forces go by, or by weights."""
     if session.mixture is None:
         return 1.0
-    second = session.symbols().count(session.mixture.species[1]) / session.atoms
+    second = session.symbols().count(session.mixture.species[1]) / session.n_atoms
     parts = ((1 - second) ** 2, 2 * second * (1 - second), second**2)
     return sum(part * _volume(each, first, what) for part, each in zip(parts, session.mixture.classes))
 

@@ -68,7 +68,7 @@ class Progress:
     def next_piece(self, most: int) -> int:
         return min(self.total - self.done, self._room, most)
 
-    def has_made(self, steps: int, step: int) -> None:
+    def note_made(self, steps: int, step: int) -> None:
         self.done += steps
         self.step = self._hooks.made(steps, step)
 
@@ -96,8 +96,8 @@ def go(all_progress: Sequence[Progress], ask: Ask, pace: Pace, piece: Optional[i
 
     Each piece is whole under the lock. Between two of them other threads may use the user.
     """
-    if piece is not None and whole_of(piece, "a piece") < 1:
-        raise ValueError(f"a piece is 1 step at least, not {piece}")
+    if piece is not None and whole_of(piece, "piece") < 1:
+        raise ValueError(f"piece must be at least 1 step, got {piece}")
     for progress in all_progress:
         progress.tell()
     breaks = Breaks()
@@ -123,5 +123,5 @@ def go_by(all_progress: Sequence[Progress], ask: Ask, most: int) -> int:
     waits = [f"ADVANCE {first.name} {sizes[0]}", *(f"ADVANCE {other.name} 0" for other in others)]
     replies = ask([*starts, *waits])[len(starts) :]
     for progress, size, line, reply in zip(all_progress, sizes, waits, replies):
-        progress.has_made(size, number_after(line, reply.words, 2))
+        progress.note_made(size, number_after(line, reply.words, 2))
     return max(sizes)

@@ -1,4 +1,4 @@
-"""What the pairs beyond the cutoff would add to energy and pressure, if they were as dense there as anywhere: g(r) = 1.
+"""The long-range terms of energy and pressure: the pairs beyond the cutoff, for g(r) = 1.
 
 Of pairs of one class these are, with the density rho of atoms and c = 2.5, the cutoff in sigma,
 

@@ -1,4 +1,4 @@
-"""Energies and temperature of a session on its way, in rows."""
+"""Energies and temperature of a session during a run, in rows."""
 from __future__ import annotations
 
 import contextlib
@@ -17,15 +17,21 @@ if TYPE_CHECKING:
 
 
 class Thermo(NamedTuple):
-    """What a session is like at a step.
+    """Temperature and energies of a session at a step. `str` shows them with their units.
 
-    temperature  two thirds of the kinetic energy of an atom, in epsilon / k_B; if epsilon was said, the row is a
-                 `ThermoInKelvin`, and the temperature in kelvin
-    kinetic      the kinetic energy in epsilon: the mean of those half a step before and half a step after
-    potential    the potential energy in epsilon
-    total        both together, in epsilon
-
-    `str` tells it with its units.
+    Attributes
+    ----------
+    step : int
+        The step number.
+    temperature : float
+        Two thirds of the kinetic energy of an atom, in epsilon / k_B. If epsilon is known, the row is a `ThermoInKelvin`, and
+        the temperature is in kelvin.
+    kinetic : float
+        The kinetic energy in epsilon: the mean of its values half a step before and half a step after.
+    potential : float
+        The potential energy in epsilon.
+    total : float
+        The sum of both, in epsilon.
     """
 
     step: int
@@ -43,8 +49,19 @@ class Thermo(NamedTuple):
         return Thermo(*numbers) if epsilon is None else ThermoInKelvin.with_epsilon(numbers, epsilon)
 
     def in_electronvolt(self) -> "ThermoInElectronvolt":
-        """The same row with its energies in electronvolt. ValueError if epsilon was not said."""
-        raise ValueError("epsilon is not known: say epsilon= (in electronvolt) where the session is loaded")
+        """The same row with its energies in electronvolt.
+
+        Returns
+        -------
+        ThermoInElectronvolt
+            The row.
+
+        Raises
+        ------
+        ValueError
+            If epsilon is not known.
+        """
+        raise ValueError("epsilon must be known, got None; use epsilon= (in electronvolt) where the session is loaded")
 
     def __str__(self) -> str:
         return self._told("epsilon / k_B")
@@ -56,21 +73,50 @@ class Thermo(NamedTuple):
 
 
 class ThermoInKelvin(Thermo):
-    """A `Thermo` whose temperature is in kelvin. Its energies are in epsilon all the same; `in_electronvolt` converts them.
+    """A `Thermo` whose temperature is in kelvin. Its energies are in epsilon; `in_electronvolt` converts them.
 
-    epsilon  an epsilon in electronvolt
+    Attributes
+    ----------
+    step : int
+        The step number.
+    temperature : float
+        In kelvin.
+    kinetic, potential, total : float
+        In epsilon.
+    epsilon : float or None
+        An epsilon in electronvolt.
     """
 
     epsilon: Optional[float] = None
 
     @classmethod
     def with_epsilon(cls, numbers: Tuple[int, float, float, float, float], epsilon: float) -> "ThermoInKelvin":
-        """The row of these numbers, and of this epsilon in electronvolt."""
+        """The row of these numbers.
+
+        Parameters
+        ----------
+        numbers : tuple
+            Those of a `Thermo`, in order.
+        epsilon : float
+            An epsilon in electronvolt.
+
+        Returns
+        -------
+        ThermoInKelvin
+            The row.
+        """
         row = cls(*numbers)
         row.epsilon = epsilon
         return row
 
     def in_electronvolt(self) -> "ThermoInElectronvolt":
+        """The same row with its energies in electronvolt.
+
+        Returns
+        -------
+        ThermoInElectronvolt
+            The row.
+        """
         if self.epsilon is None:
             return super().in_electronvolt()
         energies = (energy * self.epsilon for energy in (self.kinetic, self.potential, self.total))
@@ -81,9 +127,26 @@ class ThermoInKelvin(Thermo):
 
 
 class ThermoInElectronvolt(ThermoInKelvin):
-    """A `Thermo` whose temperature is in kelvin, and whose energies are in electronvolt."""
+    """A `Thermo` whose temperature is in kelvin, and whose energies are in electronvolt.
+
+    Attributes
+    ----------
+    step : int
+        The step number.
+    temperature : float
+        In kelvin.
+    kinetic, potential, total : float
+        In electronvolt.
+    """
 
     def in_electronvolt(self) -> "ThermoInElectronvolt":
+        """The row itself.
+
+        Returns
+        -------
+        ThermoInElectronvolt
+            The row.
+        """
         return self
 
     def __str__(self) -> str:
@@ -100,7 +163,7 @@ def thermo(session: "Session", user: "Loader", ask: Ask, tell: Look, every: int,
     Between two rows a session of a program of its own stands a step ahead, which it has to go anyway. If the rows are broken off it
     is put back to the step of the last one. At a server it stands at the row all the time, also if the connection is lost.
     """
-    is_ahead, ahead = not user.outlasts_connections, None
+    is_ahead, ahead = not user._outlasts_connections, None
     try:
         for number in stops(session, every, rows, progress, ahead=int(is_ahead)):
             goes_ahead = is_ahead and number + 1 < rows
@@ -120,17 +183,17 @@ def _put_back(session: "Session", ask: Ask, ahead: int) -> None:
 
     If the program or the session is gone, nothing is put back.
     """
-    with session.lock, contextlib.suppress(ClientError):
-        if session.is_free and session.step == ahead:
+    with session._lock, contextlib.suppress(ClientError):
+        if session._is_free and session.get_step() == ahead:
             ask(Way.by_turns(session.name).stepped)
 
 
 def _measured_ahead(session: "Session", ask: Ask) -> List[Measurement]:
     """What is measured here and a step ahead, where the session then is."""
     measure = f"MEASURE {session.name}"
-    with session.lock:
+    with session._lock:
         replies = ask([measure, f"ADVANCE {session.name} 1", measure])
-        return [session.measured(replies[at].words) for at in (0, 2)]
+        return [session._measured(replies[at].words) for at in (0, 2)]
 
 
 def _measured_twice(session: "Session", user: "Loader", ask: Ask) -> List[Measurement]:
@@ -138,4 +201,4 @@ def _measured_twice(session: "Session", user: "Loader", ask: Ask) -> List[Measur
     measure = f"MEASURE {session.name}"
     with look(user, session.name, 3) as way:
         replies = ask([measure, f"ADVANCE {session.name} 1", measure, *way.stepped, *way.end])
-        return [session.measured(replies[at].words) for at in (0, 2)]
+        return [session._measured(replies[at].words) for at in (0, 2)]

@@ -12,7 +12,7 @@ def whole(method: Method) -> Method:
 
     @functools.wraps(method)
     def alone(self: Any, *arguments: Any, **named: Any) -> Any:
-        with self.lock:
+        with self._lock:
             return method(self, *arguments, **named)
 
     return cast(Method, alone)

@@ -1,4 +1,4 @@
-"""Where a user's token comes from: a file, the environment, or a terminal. Never a command line, where others see it.
+"""The token of a user: from a file, the environment, or a terminal, and never from a command line, where others see it.
 
 A token may have blanks, as on a slip, where it stands in groups that are easier to type. They are left out.
 """
@@ -6,6 +6,7 @@ from __future__ import annotations
 
 import getpass
 import os
+import re
 import sys
 from typing import Dict, Mapping, Optional
 
@@ -14,7 +15,9 @@ from .errors import ClientError
 VARIABLE = "LJSERVE_TOKEN"
 MAX_BYTES = 65_536
 LENGTH = 32
-NOT_IN_COMMANDS = f"a token is never said on the command line, where others see it: use --token-file FILE or {VARIABLE}"
+# A fingerprint is a SHA-256. So many of its hexadecimal digits are enough: no other certificate is found that begins so.
+DIGITS, FEWEST_DIGITS = 64, 32
+NOT_IN_COMMANDS = f"a token must not be on the command line, where others can see it; use --token-file FILE or {VARIABLE}"
 
 
 def environment_without_token(environment: Optional[Mapping[str, str]] = None) -> Dict[str, str]:
@@ -34,11 +37,23 @@ def without_blanks(token: str) -> str:
     return "".join(token.split())
 
 
+def checked_fingerprint(fingerprint: str) -> str:
+    """The hexadecimal digits of a fingerprint, or of its beginning, without blanks and colons. Raises ValueError if it is not one."""
+    digits = re.sub("[\\s:]", "", fingerprint).lower() if isinstance(fingerprint, str) else ""
+    if not re.fullmatch("[0-9a-f]*", digits) or not FEWEST_DIGITS <= len(digits) <= DIGITS:
+        what = f"the SHA-256 of the server's certificate, or its first {FEWEST_DIGITS} hexadecimal digits or more"
+        # The digits are not shown: a token may have been given in their place.
+        found = f"{len(digits)} digits" if re.fullmatch("[0-9a-f]*", digits) else "other characters"
+        found = found if isinstance(fingerprint, str) else type(fingerprint).__name__
+        raise ValueError(f"a fingerprint must be {what}, got {found}")
+    return digits
+
+
 def fault_of(token: str) -> Optional[str]:
-    """Why this is no token, if it is none. The token itself is not told."""
+    """What is wrong with a token, or None. The text does not show it."""
     if token and not (token.isascii() and token.isalnum()):
-        return "a token has letters and digits alone"
-    return None if len(token) == LENGTH else f"a token has {LENGTH} letters and digits, and not {len(token)}"
+        return "a token must be letters and digits only"
+    return None if len(token) == LENGTH else f"a token must be {LENGTH} letters and digits, got {len(token)}"
 
 
 def token_of(name: str, path: Optional[str], is_terminal: bool) -> str:
@@ -47,7 +62,7 @@ def token_of(name: str, path: Optional[str], is_terminal: bool) -> str:
     if token is None and is_terminal:
         return typed_token(name)
     if token is None:
-        raise ClientError(f"there is no token: say --token-file FILE, or set {VARIABLE}")
+        raise ClientError(f"cannot connect: there is no token; use --token-file FILE, or set {VARIABLE}")
     return token
 
 
@@ -62,17 +77,17 @@ def stored_token(name: str, path: Optional[str]) -> Optional[str]:
 
 
 def typed_token(name: str) -> str:
-    """The token that somebody types, who is asked again where it is none."""
+    """The token that somebody types, who is asked again until it has the form of one."""
     while True:
         try:
             token = without_blanks(getpass.getpass(f"token of {name}: "))
         except EOFError:
             print(file=sys.stderr)
-            raise ClientError("no token was typed") from None
+            raise ClientError("cannot connect: no token was typed") from None
         fault = fault_of(token)
         if fault is None:
             return token
-        print(f"{fault}: type it again", file=sys.stderr, flush=True)
+        print(f"{fault}; type it again", file=sys.stderr, flush=True)
 
 
 def token_in(path: str, name: str) -> str:
@@ -86,5 +101,5 @@ def token_in(path: str, name: str) -> str:
     found = [words[1] for words in lines if len(words) > 1 and words[0] == name and words not in alone]
     found = found or ["".join(words) for words in alone]
     if not found:
-        raise ClientError(f"{path} has no token of {name}")
+        raise ClientError(f"cannot find a token of {name} in {path}; use a file with the token alone, or a file of users")
     return found[0]

@@ -1,4 +1,4 @@
-"""Frames of a session on its way in a file, of the kind that its ending says.
+"""Files of the frames of a session during a run, of the kind of their ending.
 
 .xyz, .extxyz  extended XYZ, as text
 .lammpstrj     a dump of LAMMPS, as text
@@ -19,7 +19,8 @@ from .files import Path, begin_beside, checked_target, put_in_place
 from .lammps_files import DumpFile, types_of
 from .sampling import Progress, checked_stops
 from .snapshots import Snapshot
-from .units import RING, Scale, nano
+from .scalars import nano
+from .units import RING, Scale
 
 if TYPE_CHECKING:
     from .session import Session
@@ -66,7 +67,7 @@ def opened(session: "Session", path: Path, every: int, symbols: Optional[Replace
     """The file of a path, whose ending says its kind. What cannot be written is told before anything is changed."""
     ending = os.path.splitext(os.fspath(path))[1].lower()
     if ending not in ENDINGS:
-        raise ValueError(other_ending(os.fspath(path), ending, session.atoms))
+        raise ValueError(other_ending(os.fspath(path), ending, session.n_atoms))
     own = session.symbols()
     if ending in BY_ASE:
         species = session.mixture.species if session.mixture else ()
@@ -180,7 +181,7 @@ class MdaFile:
         """The file that is there, as MDAnalysis reads it. Raises ValueError if it is of another number of atoms."""
         there = self._library.coordinates.core.get_reader_for(self._path, format=self._format).parse_n_atoms(self._path)
         if there != atoms:
-            raise ValueError(f"{self._path} has frames of {there} atoms, and those of the session have {atoms}: write another file")
+            raise ValueError(f"{self._path} must have frames of {atoms} atoms, as the session, got {there}; use another file")
         return self._library.Universe.empty(atoms).load_new(self._path, format=self._format)
 
     def write(self, frame: Snapshot, positions: Any) -> None:
@@ -224,8 +225,8 @@ class MdaFile:
             following = way[-1].time + way.dt
             if abs(way.dt - apart) > 1e-4 * abs(apart) or abs(following - first) > 1e-3 * abs(apart):
                 raise ValueError(
-                    f"{self._path} goes on at {following:g} and each {way.dt:g}, not at {first:g} and each {apart:g}: frames of a "
-                    ".dcd are equally far apart in time; go on to the next one first, or write another file"
+                    f"frames of a .dcd must be equally far apart in time: {self._path} goes on at {following:g} and each {way.dt:g}, "
+                    f"got {first:g} and each {apart:g}; go on to the next one first, or use another file"
                 )
             first = way[0].time
         return {"dt": apart, "nsavc": self._every, "istart": round(first / step)}

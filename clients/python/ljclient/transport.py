@@ -100,7 +100,7 @@ def opened_plainly(host: str, port: int, timeout: float) -> SocketTransport:
         return transport
     try:
         warn_caller(
-            f"the connection to {host} is not encrypted, so the network sees the token: say tls=True or --tls if the server has TLS, "
+            f"the connection to {host} is not encrypted, so the network sees the token; use tls=True or --tls if the server has TLS, "
             "or connect through ssh -L",
             PlainTextWarning,
         )

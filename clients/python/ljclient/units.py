@@ -3,10 +3,14 @@
 Physical units are those of ASE: lengths in angstrom, energies in electronvolt, masses in dalton (u); times are in
 femtoseconds and temperatures in kelvin. `119.8 * units.kelvin` is an energy in electronvolt.
 
-electronvolt, kelvin, joule_per_mole, kilojoule_per_mole, kilocalorie_per_mole  energies, in electronvolt
-angstrom, nanometre                                                             lengths, in angstrom
-dalton                                                                          a mass, in dalton
-femtosecond, picosecond                                                         times, in femtoseconds
+`electronvolt`, `kelvin`, `joule_per_mole`, `kilojoule_per_mole`, `kilocalorie_per_mole`
+    Energies, in electronvolt.
+`angstrom`, `nanometre`
+    Lengths, in angstrom.
+`dalton`
+    A mass, in dalton.
+`femtosecond`, `picosecond`
+    Times, in femtoseconds.
 
 Without them, everything is in reduced units: lengths in the unit of the file, energies in epsilon, times in
 `sigma sqrt(m / epsilon)`, temperatures in `epsilon / k_B`.
@@ -14,14 +18,21 @@ Without them, everything is in reduced units: lengths in the unit of the file, e
 from __future__ import annotations
 
 import math
-import operator
 from dataclasses import dataclass
-from decimal import ROUND_HALF_UP, Decimal, InvalidOperation, localcontext
-from typing import Any, Dict, List, Optional, Tuple, TypedDict, Union
+from decimal import InvalidOperation
+from typing import TYPE_CHECKING, Any, Dict, List, Optional, Tuple, TypedDict
 
 from .names import whole_of
-
-Number = Union[int, float, str, Decimal]
+from .renamed import warn as _warn
+from .scalars import (
+    Number as Number,
+    checked_length as _checked_length,
+    checked_positive as _checked_positive,
+    nano as _nano,
+    plain_float as _plain_float,
+    real_of as _real_of,
+    word as _word,
+)
 
 RING = 1 << 32
 MIN_SIGMA = 1 << 16
@@ -75,10 +86,20 @@ class TwoSpecies(TypedDict):
 
 
 def kob_andersen(h: int) -> TwoSpecies:
-    """The glass former of Kob and Andersen (1995), with the step factor h of two atoms A, in reduced units of these.
+    """The glass former of Kob and Andersen (1995), in reduced units of two atoms A.
 
-    Sigma is 1, 0.8 and 0.88, and epsilon 1, 1.5 and 0.5, of A with A, A with B and B with B. In a glass four of five atoms are A,
-    and there are 1.2 atoms for each sigma^3. The other two h are the nearest whole numbers, those of `epsilon / sigma^2`.
+    Sigma is 1, 0.8 and 0.88, and epsilon 1, 1.5 and 0.5, of A with A, A with B and B with B. In a glass four of five atoms are A, and
+    there are 1.2 atoms for each sigma^3. The other two h are the nearest whole numbers, those of `epsilon / sigma^2`.
+
+    Parameters
+    ----------
+    h : int
+        The step factor of two atoms A.
+
+    Returns
+    -------
+    TwoSpecies
+        Words of `User.load_mix`.
     """
     pairs = ((1.0, 1.0), (0.8, 1.5), (0.88, 0.5))
     classes = [(sigma, round(h * epsilon / sigma**2), round(FULL_WEIGHT * epsilon)) for sigma, epsilon in pairs]
@@ -90,94 +111,120 @@ KOB_ANDERSEN = kob_andersen(4096)
 
 
 def reduced_time_step(h: int) -> float:
-    """The time step in units of `sigma sqrt(m / epsilon)`: `sqrt(h / 2^32)`."""
+    """The time step of a step factor, `sqrt(h / 2^32)`.
+
+    Parameters
+    ----------
+    h : int
+        The step factor.
+
+    Returns
+    -------
+    float
+        In units of `sigma sqrt(m / epsilon)`.
+    """
     return math.sqrt(h / RING)
 
 
 def time_unit(sigma: float, epsilon: float, mass: float) -> float:
-    """`sigma sqrt(m / epsilon)` in femtoseconds; sigma in angstrom, epsilon in electronvolt, mass in dalton."""
+    """The unit of time, `sigma sqrt(m / epsilon)`.
+
+    Parameters
+    ----------
+    sigma : float
+        In angstrom.
+    epsilon : float
+        In electronvolt.
+    mass : float
+        In dalton.
+
+    Returns
+    -------
+    float
+        In femtoseconds.
+    """
     return sigma * math.sqrt(mass / (epsilon * _SPEED_SQUARED))
 
 
 def step_factor(dt: float, sigma: float, epsilon: float, mass: float) -> int:
-    """The step factor h nearest to a time step in femtoseconds; the other words are those of `time_unit`."""
+    """The step factor nearest to a time step.
+
+    Parameters
+    ----------
+    dt : float
+        The time step in femtoseconds.
+    sigma, epsilon, mass : float
+        As in `time_unit`.
+
+    Returns
+    -------
+    int
+        The step factor h.
+
+    Raises
+    ------
+    ValueError
+        If it is not from 1 to 16777216.
+    """
     for name, value in (("dt", dt), ("sigma", sigma), ("epsilon", epsilon), ("mass", mass)):
-        checked_positive(name, value)
+        _checked_positive(name, value)
     unit = time_unit(sigma, epsilon, mass)
     h = round(min((dt / unit) ** 2 * RING, 2.0 * MAX_STEP_FACTOR))
     if not 1 <= h <= MAX_STEP_FACTOR:
         shortest, longest = unit * reduced_time_step(1), unit * reduced_time_step(MAX_STEP_FACTOR)
-        raise ValueError(f"dt is from {shortest:.3g} to {longest:.3g} fs for these atoms, not {dt:g} fs")
+        raise ValueError(f"dt must be from {shortest:.3g} to {longest:.3g} fs for these atoms, got {dt:g} fs")
     return h
 
 
 def edge_of_density(atoms: int, density: float, *, sigma: float = 1.0, mass: Optional[float] = None) -> float:
     """The edge of the cubic box in which so many atoms have a density.
 
-    density  how many atoms there are for each sigma^3, and the edge is in the unit of sigma; or, with a mass in dalton, grams in
-             a cubic centimetre, and the edge is in angstrom
+    Parameters
+    ----------
+    atoms : int
+        How many atoms there are.
+    density : float
+        How many atoms there are for each sigma^3; or, with a mass, grams in a cubic centimetre.
+    sigma : float, optional
+        The length of the potential.
+    mass : float, optional
+        The mass of an atom in dalton.
+
+    Returns
+    -------
+    float
+        The edge in the unit of sigma; with a mass in angstrom.
     """
-    if whole_of(atoms, "a number of atoms") < 1:
-        raise ValueError(f"a number of atoms is 1 at least, not {atoms}")
-    checked_positive("a density", density)
+    if whole_of(atoms, "the number of atoms") < 1:
+        raise ValueError(f"the number of atoms must be at least 1, got {atoms}")
+    _checked_positive("density", density)
     if mass is None:
-        return float(checked_positive("sigma", sigma) * (atoms / density) ** (1 / 3))
+        return float(_checked_positive("sigma", sigma) * (atoms / density) ** (1 / 3))
     if sigma != 1.0:
-        raise ValueError("a density of mass needs no sigma: leave sigma= out, or mass=")
-    return float((atoms * checked_positive("mass", mass) * GRAMS_IN_DALTON / (density * CUBIC_ANGSTROM)) ** (1 / 3))
-
-
-def checked_positive(name: str, value: float) -> float:
-    """A number above 0. Raises ValueError for what is none, and TypeError for what is no number."""
-    if not 0 < (number := real_of(name, value)) < math.inf:
-        raise ValueError(f"{name} is a number above 0, not {value!r}")
-    return number
-
-
-def real_of(name: str, value: Any, why: str = "") -> float:
-    """A number of Python, of this or of one of numpy. Raises TypeError or ValueError, which names it, for what is none."""
-    try:
-        return float(value)
-    except (TypeError, ValueError) as error:
-        raise type(error)(f"{name} is one number, not {value!r}{why}") from None
-
-
-def checked_length(name: str, value: Any) -> None:
-    """Raises TypeError if this is neither a number nor a text, which is sent as it is and may be refused."""
-    if not isinstance(value, str):
-        real_of(name, value)
-
-
-def nano(number: Number) -> int:
-    """A number as the server reads it: a whole number of 10^-9, halves away from zero."""
-    with localcontext() as context:
-        context.prec = 60
-        return int((Decimal(word(number).lower().replace("d", "e")) * 10**9).to_integral_value(ROUND_HALF_UP))
-
-
-def word(number: Number) -> str:
-    """A number as a decimal word of the protocol. A text is sent as it is, where it is one word."""
-    if isinstance(number, str):
-        if number.split() != [number]:
-            raise ValueError(f"{number!r} is not one word")
-        return number
-    if isinstance(number, Decimal):
-        return str(number)
-    try:
-        return str(operator.index(number))  # type: ignore[arg-type]
-    except TypeError:
-        return repr(float(number))
+        raise ValueError(f"sigma must be left out beside mass, got {sigma!r}; use mass= for g/cm^3, or sigma= for atoms in sigma^3")
+    return float((atoms * _checked_positive("mass", mass) * GRAMS_IN_DALTON / (density * CUBIC_ANGSTROM)) ** (1 / 3))
 
 
 @dataclass(frozen=True)
 class Scale:
     """The scale of a session: what its whole numbers mean. Of a mixture, each class has one.
 
-    edge, sigma  the edge of the box and the distance sigma, in the unit of the file (angstrom where epsilon is said)
-    h            the step factor: `dt^2 epsilon / (m sigma^2)` in units of 2^-32
-    epsilon      the depth of the potential in electronvolt, if it was said
-    mass         the mass of an atom in dalton, if it was said
-    weight       what energies are multiplied by, in 256ths: 256 where all atoms are alike
+    Attributes
+    ----------
+    edge : float
+        The edge of the box, in the unit of the file (angstrom if epsilon is known).
+    sigma : float
+        The distance sigma, in the same unit.
+    h : int
+        The step factor: `dt^2 epsilon / (m sigma^2)` in units of 2^-32.
+    epsilon : float or None
+        The depth of the potential in electronvolt, if it is known.
+    mass : float or None
+        The mass of an atom in dalton, if it is known.
+    sigma_on_ring : int
+        Sigma in ring units (edge / 2^32).
+    weight : int
+        The factor of all energies, in 256ths: 256 if all atoms are alike.
     """
 
     edge: float
@@ -201,21 +248,23 @@ class Scale:
     ) -> "Scale":
         """The scale of these: h, or epsilon, mass and dt, of which h is the nearest whole number."""
         if (h is None) == (dt is None):
-            raise ValueError("say either the step factor h, or the time step dt with epsilon and mass")
-        checked_length("edge", edge)
-        checked_length("sigma", sigma)
-        epsilon = None if epsilon is None else real_of("epsilon", epsilon)
-        mass = None if mass is None else real_of("mass", mass)
+            raise ValueError(f"h or dt must be given, and not both, got h={h!r} and dt={dt!r}; use h=, or dt= with epsilon= and mass=")
+        _checked_length("edge", edge)
+        _checked_length("sigma", sigma)
+        epsilon = None if epsilon is None else _real_of("epsilon", epsilon)
+        mass = None if mass is None else _real_of("mass", mass)
         if h is None:
             if epsilon is None or mass is None or dt is None:
-                raise ValueError("a time step dt in femtoseconds needs epsilon (electronvolt) and mass (dalton)")
-            h = step_factor(dt, plain_float(sigma), epsilon, mass)
+                raise ValueError(
+                    f"epsilon and mass must be given with dt, got {epsilon} and {mass}; use epsilon= (electronvolt) and mass= (dalton)"
+                )
+            h = step_factor(dt, _plain_float(sigma), epsilon, mass)
         try:
-            on_ring = nano(sigma) * RING // nano(edge)
+            on_ring = _nano(sigma) * RING // _nano(edge)
         except (InvalidOperation, ValueError, ZeroDivisionError, OverflowError):
             on_ring = 0
-        floats = plain_float(edge), plain_float(sigma)
-        return Scale(*floats, whole_of(h, "the step factor h"), epsilon, mass, on_ring, whole_of(weight, "a weight"))
+        floats = _plain_float(edge), _plain_float(sigma)
+        return Scale(*floats, whole_of(h, "the step factor h"), epsilon, mass, on_ring, whole_of(weight, "weight"))
 
     @property
     def reduced_dt(self) -> float:
@@ -224,7 +273,7 @@ class Scale:
 
     @property
     def dt(self) -> Optional[float]:
-        """The time step in femtoseconds that the rounded h stands for; None without epsilon and mass."""
+        """The time step in femtoseconds that belongs to the rounded h; None without epsilon and mass."""
         if self.epsilon is None or self.mass is None:
             return None
         return self.reduced_dt * time_unit(self.sigma, self.epsilon, self.mass)
@@ -235,37 +284,88 @@ class Scale:
         return 1.0 if self.epsilon is None else self.epsilon / kelvin
 
     def time(self, step: int) -> float:
-        """The time of a step: in femtoseconds with epsilon and mass, else in units of `sigma sqrt(m / epsilon)`."""
+        """The time of a step.
+
+        Parameters
+        ----------
+        step : int
+            The step number.
+
+        Returns
+        -------
+        float
+            In femtoseconds with epsilon and mass, else in units of `sigma sqrt(m / epsilon)`.
+        """
         return step * (self.reduced_dt if self.dt is None else self.dt)
 
     def force(self, push: float) -> float:
-        """The force that pushes an atom by so many ring units in a step: in electronvolt / angstrom with epsilon, else in epsilon
-        / unit of the file. A push is `dt^2 / m` times the force, so it is `push * 2^32 / (sigma_on_ring h)` epsilon / sigma."""
+        """The force that pushes an atom by this many ring units in a step.
+
+        Parameters
+        ----------
+        push : float
+            In ring units: `dt^2 / m` times the force.
+
+        Returns
+        -------
+        float
+            In electronvolt / angstrom with epsilon, else in epsilon / unit of the file: `push * 2^32 / (sigma_on_ring h)` epsilon / sigma.
+        """
         return push * RING / (self.sigma_on_ring * self.h) / self.sigma * (1.0 if self.epsilon is None else self.epsilon)
 
     def potential_energy(self, potential: int) -> float:
-        """The potential energy in epsilon, of the number that `measure` tells."""
+        """The potential energy of a number of `measure`.
+
+        Parameters
+        ----------
+        potential : int
+            In units of 2^-24 epsilon.
+
+        Returns
+        -------
+        float
+            In epsilon.
+        """
         return potential * FULL_WEIGHT / (POTENTIAL_UNIT * self.weight)
 
     def kinetic_energy(self, kinetic_number: int) -> float:
-        """The kinetic energy in epsilon, of the sum of the squares of all displacements in ring units per step."""
+        """The kinetic energy of a kinetic number.
+
+        Parameters
+        ----------
+        kinetic_number : int
+            The sum of the squares of all displacements, in ring units per step.
+
+        Returns
+        -------
+        float
+            In epsilon.
+        """
         return kinetic_number * RING / (2 * self.sigma_on_ring**2 * self.h)
 
     def kinetic_number(self, kinetic_energy: float) -> float:
-        """The number whose kinetic energy, in epsilon, this is."""
+        """The kinetic number of a kinetic energy.
+
+        Parameters
+        ----------
+        kinetic_energy : float
+            In epsilon.
+
+        Returns
+        -------
+        float
+            The sum of the squares of all displacements, in ring units per step.
+        """
         return kinetic_energy * 2 * self.sigma_on_ring**2 * self.h / RING
 
 
-def is_on_ring(scale: Scale) -> bool:
-    """Whether the server takes the edge and the sigma of a scale, so far as both together say it."""
-    return MIN_SIGMA <= scale.sigma_on_ring and 5 * scale.sigma_on_ring < RING
+_OLD_NAMES = {"checked_positive": _checked_positive, "nano": _nano, "plain_float": _plain_float, "word": _word}
 
+if not TYPE_CHECKING:
 
-def plain_float(number: Number) -> float:
-    """A number that is read back; nan where the server will refuse it."""
-    if not isinstance(number, str):
-        return float(number)
-    try:
-        return float(number.lower().replace("d", "e"))
-    except ValueError:
-        return math.nan
+    def __getattr__(name: str) -> Any:
+        """A function of 1.1.0 that is no public name any more."""
+        if name not in _OLD_NAMES:
+            raise AttributeError(f"module {__name__!r} has no attribute {name!r}")
+        _warn(f"units.{name}")
+        return _OLD_NAMES[name]

@@ -1,11 +1,11 @@
-"""Atoms that are followed round the periodic box, from image to image, so that they move on where they leave it.
+"""Unwrapped positions: atoms are followed through the images of the periodic box.
 
 Between two frames an atom is taken to have gone the nearer way. So frames are to be so near to each other that none has moved
 by half the edge of the box along an axis; from a quarter on there is a warning.
 """
 from __future__ import annotations
 
-from typing import Any, List
+from typing import Any, List, Tuple
 
 from . import arrays
 from .units import RING
@@ -22,12 +22,18 @@ class Path:
 
     def to(self, places: Any) -> Any:
         """The displacements to these places, which are seen next. The first ones are 0."""
+        moved, far = self.followed(places)
+        warn_of_far(self._name, far)
+        return moved
+
+    def followed(self, places: Any) -> Tuple[Any, float]:
+        """The displacements to these places, and how far an atom has gone since the frame before, as a part of the edge. There is no
+        warning."""
         before = places if self._places is None else self._places
         moved = arrays.least_images(places, before)
-        warn_of_far(self._name, arrays.farthest(moved) / RING)
         self._moved = moved if self._moved is None else arrays.added(self._moved, moved)
         self._places = places
-        return self._moved
+        return self._moved, arrays.farthest(moved) / RING
 
 
 def warn_of_far(name: str, far: float) -> None:

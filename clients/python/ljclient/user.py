@@ -3,64 +3,71 @@ from __future__ import annotations
 
 import contextlib
 import dataclasses
-import functools
 import math
-import os
 from types import TracebackType
-from typing import TYPE_CHECKING, Callable, Dict, Iterable, Iterator, List, Optional, Sequence, Set, Tuple, Type, Union
+from typing import TYPE_CHECKING, Any, Callable, Iterable, Iterator, List, Optional, Sequence, Set, Tuple, Type, Union
 
 from . import progress as bars, stepping, units
 from .box import take_up
 from .energy_watch import EnergyWatch, WatchedHooks, look_at_started
-from .errors import BadReply, CannotStart, ClientError, ConnectionLost, TimedOut
+from .errors import BadReply, ClientError
 from .files import Path
 from .guards import RESERVED
 from .interrupts import held
 from .later import Later
 from .loading import Loader
-from .locate import find_program, version_of
 from .names import checked_name, count_of
 from .order import Order
 from .record import Mark
 from .recording import Notes, Versions
 from .refusals import NoSession
-from .replies import fields, number_after, whole_number
-from .session import Row, Session
+from .renamed import Renamed
+from .replies import Row, fields, number_after, whole_number
+from .session import Session
 from .state import Command, can_be_loaded
 from .threads import whole
-from .tokens import without_blanks
-from .transport import ChildTransport, Transport, opened_plainly
-from .wire import Reply, Wire, checked_timeout
+from .wire import Dialogue, Reply, Wire
 
 if TYPE_CHECKING:
-    from . import leftovers, migrate
+    from . import leftovers, migrate, retrying
 else:
-    leftovers, migrate = Later(".leftovers"), Later(".migrate")
+    leftovers, migrate, retrying = map(Later, (".leftovers", ".migrate", ".retrying"))
 
 MAX_ITEMS = 1_000_000
 FAREWELL_SECONDS = 2.0
 # What was known of a session before these commands is no longer true.
 NEW_OR_GONE = ("LOAD", "LOADMIX", "DROP")
+LOADS = ("LOAD", "LOADMIX")
 # These change the energy of a session, which is to be what it was as long as steps alone are made.
 OTHER_ENERGY = ("TUG", "RESTORE")
 LOST = "the server no longer has it: the server was started again, or another connection has dropped it"
-Program = Union[str, os.PathLike[str]]
 
 
 class User(Loader):
-    """What a user has at a server: sessions, each under its name. `connect` and `run` give one.
+    """A user with its sessions, each under its name. `connect` and `run` return one.
 
-    It is a context manager, which closes the connection at the end. What was loaded over `connect` stays at the server
-    for the next connection; what was loaded over `run` is gone with the program.
+    It is a context manager, which closes the connection at the end. Sessions loaded with `connect` stay at the server for the next
+    connection. Sessions loaded with `run` are lost when the program ends.
 
-    Several threads may use it and its sessions: what each asks for is whole, and the others wait meanwhile. `advance`,
-    `sample`, `thermo` and `write_trajectory` leave it to others after each piece. `with user.lock:` makes several calls whole.
+    Several threads may use a user and its sessions. Each call is atomic: other threads wait until it ends. `advance`, `sample`,
+    `thermo` and `write_trajectory` let other threads call after each piece. `with user.lock:` makes several calls atomic.
+
+    Attributes
+    ----------
+    name : str or None
+        Its name at the server; None with `run`.
+    address : str
+        The address of the server, as HOST:PORT; empty with `run`.
+    session_names : set of str
+        The sessions that this object has seen at the server and has not dropped.
+    lock : threading.RLock
+        A lock that a thread holds during a call.
     """
 
     def __init__(
         self,
-        wire: Wire,
-        reopen: Optional[Callable[[], Wire]] = None,
+        wire: Dialogue,
+        reopen: Optional[Callable[[], Dialogue]] = None,
         name: Optional[str] = None,
         restart: Optional[Callable[[], Wire]] = None,
         versions: Optional[Versions] = None,
@@ -99,24 +106,45 @@ class User(Loader):
         watch: bool = True,
         record: Optional[Path] = None,
     ) -> Session:
-        """A session that is at the server. Raises `refusals.NoSession` where there is none of that name.
+        """Returns a session that is already at the server.
 
-        The server does not tell a session's scale. Where another connection has loaded it, say it again, in the words of
-        `load`, for `positions`, energies and temperatures; places need none. Of a mixture say that of its first class,
-        with its weight where that is not 256.
+        The server does not report the scale of a session, nor how another connection numbers its atoms and steps. So pass the scale
+        again, by the arguments of `load`, for positions, energies and temperatures. Places need no scale.
 
-        Neither does it tell how another connection numbers atoms and steps: `order` is what `Session.order` told there, or
-        a list of the server's number of each atom. `Order(step=300)` says that the server's step 0 is step 300.
+        With an edge, the client reads by DUMP and SHOW in which box the server has the session, and so waits for steps that were started.
+        If it is the box of `load_saved`, `order="space"` or `resort`, and no step numbers are given, a warning follows. Later energies
+        are compared with the present one.
 
-        With an edge, one DUMP and one SHOW tell in which box the server has the session, so what was started is waited for. It
-        is a ValueError if that is neither the box of this edge nor the one of `load_saved`, `order="space"` and `resort`. Of
-        that one there is a warning if nothing says its step numbers.
+        Parameters
+        ----------
+        name : str
+            Its name.
+        edge, sigma, h, epsilon, mass, dt : float, optional
+            As in `load`; for a mixture, the values of its first class.
+        weight : int, optional
+            The weight of the first class of a mixture, in 256ths.
+        order : Order or sequence of int, optional
+            `Session.order` of the other connection, or the server's number of each atom. With `Order(step=300)` the server's step 0 is
+            step 300.
+        watch : bool, optional
+            As in `load`.
+        record : path, optional
+            Not possible here, raises a ValueError: a record begins with the `load` of its session.
 
-        `watch` is as in `load`, and the energy is compared with that of now. `record` is a ValueError: a record begins with
-        the `load` of its session.
+        Returns
+        -------
+        Session
+            The session.
+
+        Raises
+        ------
+        refusals.NoSession
+            If there is no session of that name.
+        ValueError
+            If the server's box has neither this edge nor the edge that `load_saved` uses.
         """
         if record is not None:
-            raise ValueError(f"{name} is there already, and a record begins with the load of a session: say record= to load")
+            raise ValueError(f"cannot record {name} from here on: a record begins with the load of its session; use record= of `load`")
         with self.lock:
             saved = self.ask(f"LIST {checked_name(name)}").lines
             if not RESERVED.isdisjoint(line.split(" ")[0] for line in saved):
@@ -125,10 +153,14 @@ class User(Loader):
             if edge is not None and sigma is not None:
                 scale = units.Scale.of(edge, sigma, h, epsilon=epsilon, mass=mass, dt=dt, weight=weight)
             elif (edge, sigma, h, epsilon, mass, dt) != (None,) * 6:
-                raise ValueError("a scale is edge and sigma, with h or with epsilon, mass and dt")
+                raise ValueError(
+                    "a scale must have edge and sigma, got one of them or none; use both, with h= or with epsilon=, mass= and dt="
+                )
             take_up(self, name, scale, order)
-            known = self.known(name)
+            known = self._known_of(name)
             known.watch = EnergyWatch(watch)
+            if known.n_atoms is None:
+                self._row(name)
             return Session(self, name, known.scale, mixture=known.mixture)
 
     def advance(
@@ -138,20 +170,32 @@ class User(Loader):
         progress: Union[bool, bars.NamedReport] = False,
         piece: Optional[int] = None,
     ) -> List[int]:
-        """Has several sessions go on at the same time, and answers their new step numbers.
+        """Advances several sessions at the same time.
 
-        n         how many steps each of them makes: one number for all, or a list of one for each
-        progress  with True a bar of tqdm for each is shown at a terminal or in a notebook, as by `Session.advance`; a function
-                  in its place is called with the name of a session, how many of its steps are done, and of how many
-        piece     as in `Session.advance`: so many steps of each are asked for at a time
+        Each session whose energy changes gives a warning, as in `Session.advance`.
 
-        There is a warning of each session whose energy changes, as by `Session.advance`.
+        Parameters
+        ----------
+        sessions : sequence of Session
+            Sessions of this user.
+        n : int or list of int
+            The number of steps: one for all, or one for each.
+        progress : bool or callable, optional
+            True shows a progress bar for each session, as in `Session.advance`. A function is called with the name of a session, the
+            number of its steps that are done, and the number of all its steps.
+        piece : int, optional
+            The number of steps in a piece, as in `Session.advance`.
+
+        Returns
+        -------
+        list of int
+            Their new step numbers.
         """
         totals = n if isinstance(n, list) else [n] * len(sessions)
         if len(totals) != len(sessions):
-            raise ValueError(f"{len(totals)} numbers of steps for {len(sessions)} sessions")
+            raise ValueError(f"n must be one number, or a list of one for each of the {len(sessions)} sessions, got {len(totals)}")
         names = [session.name for session in sessions]
-        counts = [count_of(total, "a number of steps") for total in totals]
+        counts = [count_of(total, "the number of steps") for total in totals]
         hooks = [WatchedHooks(self, name, count, piece) for name, count in zip(names, counts)]
         with bars.reporters(progress, names) as reports:
             tracked = [stepping.Progress(*parts) for parts in zip(names, counts, reports, hooks)]
@@ -159,20 +203,25 @@ class User(Loader):
 
     @whole
     def sessions(self) -> List[Row]:
-        """The sessions in order of loading: of each its name, its step, its atoms and how much is saved in it.
+        """The sessions of this user.
 
-        The step is that after all steps that were started.
+        Returns
+        -------
+        list of Row
+            For each session: its name, the step after all steps that were started, the numbers of its atoms and branches. The sessions
+            are in the order of loading.
         """
         rows = []
         for line in self.ask("LIST").lines:
             name, *numbers = fields(line, 4)
             step, atoms, branches = map(whole_number, numbers)
-            known = self.known(name)
+            known = self._known_of(name)
+            known.n_atoms = atoms
             rows.append(Row(name, known.order.step_of(step), atoms, branches - len(known.left)))
         return rows
 
     @whole
-    def row(self, name: str) -> Row:
+    def _row(self, name: str) -> Row:
         """The line of the list of sessions that is this session's."""
         for row in self.sessions():
             if row.name == name:
@@ -181,19 +230,53 @@ class User(Loader):
         raise BadReply(f"session {name} is there, but not in the list of sessions")
 
     def ask(self, line: str, body: bytes = b"") -> Reply:
-        """The reply to a command line of the protocol, with the body that it announces. A refusal is raised."""
-        return self.ask_commands([(line, body)])[0]
+        """Sends a command of the protocol.
+
+        Parameters
+        ----------
+        line : str
+            The command line.
+        body : bytes, optional
+            The body of the command.
+
+        Returns
+        -------
+        Reply
+            The words of the reply after `OK`, and the lines below it.
+
+        Raises
+        ------
+        Refused
+            If it is refused.
+        """
+        return self._ask_commands([(line, body)])[0]
 
     def ask_all(self, lines: Iterable[str]) -> List[Reply]:
-        """The replies to many command lines, of which many are under way at once. The first refusal is raised."""
-        return self.ask_commands([(line, b"") for line in lines])
+        """Sends many commands without waiting for each reply.
+
+        Parameters
+        ----------
+        lines : iterable of str
+            The command lines.
+
+        Returns
+        -------
+        list of Reply
+            The reply to each.
+
+        Raises
+        ------
+        Refused
+            The first refusal.
+        """
+        return self._ask_commands([(line, b"") for line in lines])
 
     @whole
-    def ask_commands(self, commands: Sequence[Command]) -> List[Reply]:
+    def _ask_commands(self, commands: Sequence[Command]) -> List[Reply]:
         """As `ask_all`, of commands with the bodies that they announce."""
-        if self.started:
+        if self._started:
             look_at_started(self, (line for line, _ in commands))
-        self.make_room(len(commands))
+        self._make_room(len(commands))
         with self._told():
             try:
                 replies = self._wire.ask_all(commands)
@@ -206,25 +289,31 @@ class User(Loader):
 
     @property
     def unanswered(self) -> List[str]:
-        """The command lines that were sent, and whose replies an interrupt has left. The next command waits for them."""
+        """The command lines whose replies were not read because of an interrupt. The next command reads them first."""
         return self._wire.unanswered
 
     @whole
     def catch_up(self) -> None:
-        """Waits for the replies that an interrupt has left, which are passed over."""
+        """Reads and ignores the replies that were not read because of an interrupt."""
         self._wire.catch_up()
 
     @contextlib.contextmanager
     def on_wait(self, tell: Callable[[str, float], None]) -> Iterator[None]:
-        """Has `tell` be called within the block, each quarter of a second in which nothing is heard, with the command line
-        whose reply is awaited, and for how many seconds nothing was heard. It may raise, as an interrupt does."""
+        """Calls a function within the block, each quarter of a second in which no reply arrives.
+
+        Parameters
+        ----------
+        tell : callable
+            It is called with the command line that has no reply yet, and with the seconds since something arrived. It may raise an
+            error, which ends the call like an interrupt.
+        """
         self._wire.on_wait = tell
         try:
             yield
         finally:
             self._wire.on_wait = None
 
-    def _take(self, wire: Wire) -> None:
+    def _take(self, wire: Dialogue) -> None:
         """Goes on over another connection."""
         wire.on_wait, self._wire = self._wire.on_wait, wire
 
@@ -232,15 +321,17 @@ class User(Loader):
         """Notes which sessions there are, and forgets what was said of one that is new or gone."""
         verb, *words = reply.words
         if verb in NEW_OR_GONE:
-            self.has_dropped(words[0])
+            self._forget(words[0])
+        if verb in LOADS and len(words) == 3:
+            self._known_of(words[0]).n_atoms = whole_number(words[2])
         elif verb in OTHER_ENERGY and words[1] not in RESERVED:
-            self.known(words[0]).watch.begin_anew()
-        if verb == "REVERSE" and (turned := self.known(words[0]).direction):
-            self.known(words[0]).direction = -turned
+            self._known_of(words[0]).watch.begin_anew()
+        if verb == "REVERSE" and (turned := self._known_of(words[0]).direction):
+            self._known_of(words[0]).direction = -turned
         elif verb == "RESTORE" and words[1] not in RESERVED:
-            self.known(words[0]).direction = None
+            self._known_of(words[0]).direction = None
         elif verb in ("RESTORE", "FORGET") and words[1] in RESERVED:
-            known = self.known(words[0])
+            known = self._known_of(words[0])
             known.left -= {words[1]} if verb == "FORGET" else frozenset()
         if verb == "DROP":
             self.session_names.discard(words[0])
@@ -283,24 +374,24 @@ class User(Loader):
             raise NoSession(refusal.command, meaning=LOST) from None
 
     @whole
-    def ask_text(self, line: str) -> Tuple[List[str], bytes]:
+    def _ask_text(self, line: str) -> Tuple[List[str], bytes]:
         """The words of the reply to a command line after `OK`, and the lines after them as they came. A refusal is raised."""
-        if self.started:
+        if self._started:
             look_at_started(self, [line])
-        self.make_room(1)
+        self._make_room(1)
         with self._told():
             return self._wire.ask_text(line)
 
     @whole
-    def ask_rows(self, lines: Sequence[str]) -> bytes:
+    def _ask_rows(self, lines: Sequence[str]) -> bytes:
         """The lines that many command lines are answered by, one for each, as they came. The first refusal is raised."""
-        if self.started:
+        if self._started:
             look_at_started(self, lines)
-        self.make_room(len(lines))
+        self._make_room(len(lines))
         with self._told():
             return self._wire.ask_rows(lines)
 
-    def make_room(self, count: int) -> None:
+    def _make_room(self, count: int) -> None:
         """Begins a new connection where this one's million commands would be passed, if the sessions outlast it.
 
         Of `run` they don't, so there they move to a new program when half of the commands are used up: reading them takes
@@ -324,7 +415,7 @@ class User(Loader):
             finally:
                 self._tried_at = self._wire.asked
                 for name, watch in watches.items():
-                    self.known(name).watch = watch
+                    self._known_of(name).watch = watch
 
     def _move(self, restart: Callable[[], Wire], commands: int) -> None:
         """Goes on in a new program with all sessions as they are, if this takes no more than so many commands.
@@ -333,7 +424,7 @@ class User(Loader):
         """
         rows = self.sessions()
         needed = sum(migrate.most_commands(row.atoms, row.branches) for row in rows)
-        known = [(row.name, self.known(row.name)) for row in rows]
+        known = [(row.name, self._known_of(row.name)) for row in rows]
         may_wait = commands < MAX_ITEMS // 10 or not any(each.is_started for _, each in known)
         if needed >= min(commands, MAX_ITEMS // 2) or not may_wait or not all(can_be_loaded(*each) for each in known):
             return
@@ -353,7 +444,7 @@ class User(Loader):
                 each.tell(self)
 
     @property
-    def outlasts_connections(self) -> bool:
+    def _outlasts_connections(self) -> bool:
         """Whether what is loaded is still there when the connection has ended, as at a server."""
         return self._reopen is not None
 
@@ -363,14 +454,16 @@ class User(Loader):
         return self._wire.closed
 
     @property
-    def is_free(self) -> bool:
+    def _is_free(self) -> bool:
         """Whether the connection is there, and no command is under way."""
         return not self._wire.closed and self._wire.is_idle
 
     @whole
     def close(self) -> None:
-        """Ends the connection, and the program of `run`. A command that still runs at a server runs on there, and steps that
-        were started there are made when this user is connected again."""
+        """Ends the connection, and the program of `run`.
+
+        A command that still runs at a server continues there. Steps that were started there are made when this user connects again.
+        """
         self._say_bye()
         self._wire.close()
         self._listeners.close()
@@ -388,124 +481,18 @@ class User(Loader):
         finally:
             self._wire.close()
 
+    ask_commands = Renamed[Any]("_ask_commands", "User.ask(line, body)")
+    ask_rows = Renamed[Any]("_ask_rows", "User.ask_all(lines)")
+    ask_text = Renamed[Any]("_ask_text", "User.ask(line)")
+    has_dropped = Renamed[Any]("_forget")
+    known = Renamed[Any]("_known_of", "Session.scale, Session.mixture and Session.order")
+    resort = Renamed[Any]("_resort", "Session.resort()")
+    restore = Renamed[Any]("_restore", "Session.restore(name)")
+    row = Renamed[Any]("_row", "User.sessions()")
+    state_of = Renamed[Any]("_state_of", "Session.save(path)")
+
 
 def dropped_by(commands: Sequence[Command]) -> Set[str]:
     """The sessions that these commands drop, if they are not refused."""
     words = [line.split()[:2] for line, _ in commands]
     return {each[1] for each in words if len(each) == 2 and each[0] == "DROP"}
-
-
-def connect(host: str, port: int, name: str, token: str, *, timeout: float = 60.0, tls: bool = False, ca: Optional[Path] = None) -> User:
-    """A user's connection to `ljserve serve`.
-
-    token    as on a slip: blanks in it are left out
-    timeout  how many seconds a connection, or the reply to a command, may take; then `TimedOut` is raised. A long
-             `advance` goes in pieces, each of which is much shorter.
-    tls      whether the connection is encrypted, to a server or a proxy before it that has a certificate of the name `host`
-    ca       with `tls`, a file with the certificate of the issuer, in PEM; without it one that the system knows
-
-    What an earlier connection has left half done, since it was lost, is put right, or a `LeftWarning` says what it is.
-
-    With `tls` the token is sent only if the certificate is valid; `ConnectionLost` says what to do if it is not. Without it there is
-    a `PlainTextWarning`, once for each host that is another machine; `warnings.simplefilter("ignore", PlainTextWarning)` silences it.
-
-    Raises `refusals.Denied` where the server knows no user of that name and token, and `ConnectionLost` where there is no
-    server, or where it has no place for a connection more.
-    """
-    checked_name(name)
-    checked_timeout(timeout)
-    token = without_blanks(token) if isinstance(token, str) else ""
-    if not (token.isascii() and token.isalnum()):
-        raise ValueError("a token is letters and digits")
-    open_transport = transport_opener(tls, ca)
-    return joined(lambda: open_transport(host, port, timeout), name, token, timeout, f"{host}:{port}")
-
-
-def joined(open_transport: Callable[[], Transport], name: str, token: str, timeout: float, address: str) -> User:
-    """A user who is let in over what is opened so, at this address, where each reply may take `timeout` seconds. What an earlier
-    connection has left half done is put right (`leftovers`)."""
-
-    def open_wire() -> Wire:
-        wire = Wire(open_transport(), timeout)
-        try:
-            _greet(wire, name, token)
-        except BaseException:
-            wire.close()
-            raise
-        return wire
-
-    user = User(open_wire(), open_wire, name, address=address)
-    try:
-        leftovers.put_right(user)
-    except BaseException:
-        user.close()
-        raise
-    return user
-
-
-def transport_opener(tls: bool, ca: Optional[Path]) -> Callable[[str, int, float], Transport]:
-    """What opens a connection, encrypted or not."""
-    if not tls:
-        if ca is not None:
-            raise ValueError("ca= is of a server's certificate: say tls=True too")
-        return opened_plainly
-    from .tls import Trust
-
-    return Trust(ca).transport
-
-
-def _greet(wire: Wire, name: str, token: str) -> None:
-    """Says who asks, and waits until this user's earlier connections have ended."""
-    try:
-        reply = wire.ask(f"HELLO {name} {token}")
-    except TimedOut as error:
-        causes = f"is another connection of {name} open? or are all --connections of the server used up?"
-        raise TimedOut(f"{error} ({causes})") from error
-    except ConnectionLost as error:
-        causes = f"do many connections of {name} wait? has the server no place for more connections? or are all its --connections used up?"
-        raise ConnectionLost(f"{error} ({causes} or does it want tls=True or --tls?)") from error
-    except BadReply as error:
-        raise BadReply(f"{error} (is it another kind of server? or does it want tls=True or --tls?)") from error
-    if reply.words != ["HELLO", name]:
-        raise BadReply(f"HELLO was answered {' '.join(reply.words)[:80]!r}")
-
-
-def run(
-    program: Optional[Program] = None,
-    *,
-    sessions: int = 8,
-    atoms: int = 16384,
-    branches: int = 16,
-    timeout: float = 60.0,
-    env: Optional[Dict[str, str]] = None,
-) -> User:
-    """A user of a program of its own, without a server: `ljserve run` as a child process.
-
-    program                    the program; without it the one that the environment variable LJSERVE names, else that of the
-                               wheel `ljserve` (`ljclient[program]`), else bin/ljserve of the repository or release that this
-                               package stands in (which builds it on first use), else `ljserve` on the PATH
-    sessions, atoms, branches  the quota, at most 64, 65536 and 256
-    timeout                    as in `connect`
-    env                        the environment of the program; without it, that of this process. LJSERVE_TOKEN is left out of it
-
-    What is loaded is gone when the program ends, which it does when the user is closed. Raises `CannotStart` where it can
-    not be started.
-    """
-    checked_timeout(timeout)
-    path = str(program) if program is not None else find_program()
-    words = [path, "run"]
-    for option, number in (("--sessions", sessions), ("--atoms", atoms), ("--branches", branches)):
-        words += [option, str(number)]
-
-    def start() -> Wire:
-        wire = Wire(ChildTransport(words, env), timeout)
-        try:
-            wire.ask("LIST")
-        except (ConnectionLost, BadReply) as error:
-            raise CannotStart(f"{path} does not answer: {error}") from error
-        except BaseException:
-            wire.close()
-            raise
-        return wire
-
-    return User(start(), restart=start, versions=functools.lru_cache(maxsize=None)(lambda: version_of(path, env)))

@@ -1,14 +1,15 @@
-"""`python3 -m ljclient verify run.lj` plays a record again, and tells whether each reply is the same."""
+"""`python3 -m ljclient verify run.lj` plays a record again, or all of a study, and checks that each reply is the same."""
 from __future__ import annotations
 
 import argparse
 import os
 import re
 import sys
-from typing import List
+from typing import Any, Dict, List
 
 from .errors import ClientError, Damaged
 from .locate import find_program, version_of
+from .names import shortened
 from .prompt.starting import Parser, add_tls, check_tls, is_address, word_of_waiting
 from .record import HEADS, shown
 from .record_file import RecordFile
@@ -16,7 +17,8 @@ from .record_joints import Joints
 from .record_plan import Plan, plan_of
 from .record_playing import SPARE_ITEMS, Opener, Player, Stage, Tell, Trouble, play
 from .tokens import token_of
-from .user import MAX_ITEMS, User, connect, run
+from .connecting import connect, run
+from .user import MAX_ITEMS, User
 
 SECONDS = 600.0
 SECONDS_OF_A_PROGRAM = 1_000_000.0
@@ -24,14 +26,14 @@ SAME, DIFFERS, TROUBLE, CUT = 0, 1, 2, 3
 FORMATS = len(HEADS)
 SUM = re.compile("[0-9a-f]{64}\\Z")
 ABOUT = """\
-Plays the commands of a record, which load(.., record=FILE) has written, and tells whether each reply is the same: a line for
-each command, with the SHA-256 of the record up to its reply. They are played over a program of its own, with the quota that the
-record says, or over a server, where NAME must have room for it and no session of that name. The session is dropped at the end.
+Plays the commands of a record, which load(.., record=FILE) has written, and checks that each reply is the same: a line for each
+command, with the SHA-256 of the record up to its reply. They are played over a program of its own, with the quota of the record, or
+over a server, where NAME must have room for it and no session of that name. The session is dropped at the end.
 
-The last line tells how many replies were compared; how many commands were not played, since the session has not replied to them;
-how many trajectories there are, of which another one begins where the session is loaded again and is not as it was; the SHA-256
-of the commands that were played, which each record of these commands has; and the SHA-256 of the record. A line for each
-load has the SHA-256 of its body. What was not played is only what the file says.
+The last line shows how many replies were compared; how many commands were not played, since the session has not replied to them;
+the number of trajectories (a new one begins if the session is loaded again and is not as it was); the SHA-256 of the played
+commands, which is the same in each record of these commands; and the SHA-256 of the record. A line for each load has the SHA-256
+of its body. What was not played is only a claim of the file.
 
 A session is loaded again by DROP and LOAD, by `moved`, and by 10 or a load that is granted, or refused for its body or for want of
 room, over a new connection. Both frames, the symbols, sigma on the ring, h and weights are then compared with those just before,
@@ -42,6 +44,10 @@ commands leave no room to read the frames: then it is `at most` so many trajecto
 
 Status 0: each reply is the same. 1: one differs. 2: it could not be played, or the file is damaged or not the one of --sha256.
 3: each reply is the same, and the record has no `end`, or is cut short (with --partial: 0).
+
+With a folder of `ljclient.study` its records are played, several at the same time, a long one in parts from its checkpoints; each
+file must have the SHA-256 of study.json, none may be missing or too many, and CITATION.cff must fit. The last line has the SHA-256
+of study.json, which stands for all. Status 1: something does not fit, and is named. 3: the study is unfinished.
 """
 
 
@@ -57,7 +63,7 @@ def say(text: str) -> None:
     except BrokenPipeError:
         raise
     except OSError as error:
-        raise Trouble(f"cannot write what is told: {error.strerror or error}") from error
+        raise Trouble(f"cannot write the output: {error.strerror or error}") from error
 
 
 def complain(text: str) -> None:
@@ -73,27 +79,31 @@ def options_of(words: List[str]) -> argparse.Namespace:
     """The options that the command line says."""
     usage = "python3 -m ljclient verify FILE [OPTION ..] [--program PROGRAM | --server HOST:PORT NAME [OPTIONS OF THE PROMPT]]"
     parser = Parser("ljclient", usage, ABOUT, formatter_class=argparse.RawDescriptionHelpFormatter, allow_abbrev=False)
-    parser.add_argument("file", metavar="FILE", help="the record")
+    parser.add_argument("file", metavar="FILE", help="the record, or the folder of a study")
     over = parser.add_mutually_exclusive_group()
     over.add_argument("--program", metavar="PROGRAM", help="the program to play it over; else the one that ljclient.run starts")
-    over.add_argument("--server", nargs=2, metavar=("HOST:PORT", "NAME"), help="where `ljserve serve` listens, and who asks")
+    over.add_argument("--server", nargs=2, metavar=("HOST:PORT", "NAME"), help="the address of `ljserve serve`, and the name of a user")
     parser.add_argument("--token-file", metavar="FILE", help="a file with the token, as for the prompt")
-    parser.add_argument("--timeout", metavar="SECONDS", type=float, help=f"how long a reply of a server may take: {SECONDS:g}")
-    parser.add_argument("--quiet", action="store_true", help="only the lines of loads and of what is not played, and the last one")
+    parser.add_argument("--timeout", metavar="SECONDS", type=float, help=f"how long a reply of a server may take (default: {SECONDS:g})")
+    parser.add_argument("--quiet", action="store_true", help="print only the lines of loads and of what is not played, and the last one")
     parser.add_argument("--partial", action="store_true", help="status 0 for a record without its end, if all that is there is the same")
-    parser.add_argument("--sha256", metavar="HEX", type=str.lower, help="the SHA-256 that the record has, as a paper prints it")
+    parser.add_argument("--sha256", metavar="HEX", type=str.lower, help="the SHA-256 that it must have, such as one from a paper")
+    parser.add_argument(
+        "--jobs", metavar="N", type=int, help="how many parts of a study are played at the same time (default: one for each processor)"
+    )
     add_tls(parser)
     options, unknown = parser.parse_known_args(words)
-    if unknown:
-        parser.error(f"there is no option {unknown[0].partition('=')[0]}")
+    parser.refuse(unknown)
     if options.server and not is_address(options.server[0]):
-        parser.error("--server HOST:PORT NAME: the first word is no HOST:PORT")
+        parser.error("the first word of --server must be HOST:PORT, such as 127.0.0.1:4000")
     if options.timeout is not None and not 0 < options.timeout < float("inf"):
-        parser.error("SECONDS is a number above 0")
+        parser.error(f"--timeout must be a finite number of seconds above 0, got {options.timeout:g}")
+    if options.jobs is not None and options.jobs < 1:
+        parser.error(f"--jobs must be at least 1, got {options.jobs}")
     if options.program == "":
-        parser.error("--program PROGRAM is empty")
+        parser.error("--program must be the path of a program, got an empty one")
     if options.sha256 is not None and not SUM.match(options.sha256):
-        parser.error("--sha256 HEX is 64 hexadecimal digits")
+        parser.error(f"--sha256 must be 64 hexadecimal digits, got {shortened(options.sha256)}")
     check_tls(parser, options)
     return options
 
@@ -112,10 +122,13 @@ def opener_of(options: argparse.Namespace) -> Opener:
         token = token_of(name, options.token_file, sys.stdin.isatty())
         with word_of_waiting(name):
             limit = options.timeout or SECONDS
-            user = connect(host.strip("[]"), int(port), name, token, timeout=limit, tls=options.tls, ca=options.ca)
+            way: Dict[str, Any] = {"tls": options.tls, "ca": options.ca, "fingerprint": options.fingerprint}
+            user = connect(host.strip("[]"), int(port), name, token, timeout=limit, **way)
         if any(row.name == file.session for row in user.sessions()):
             user.close()
-            raise Trouble(f"{name} has a session {file.session} at {address} already: drop it, or verify as another user")
+            raise Trouble(
+                f"cannot play {options.file}: {name} has a session {file.session} at {address} already; drop it, or use another user"
+            )
         return user
 
     return connected if options.server else begun
@@ -126,11 +139,11 @@ def checked(options: argparse.Namespace) -> Plan:
     plan = plan_of(options.file)
     most = max(plan.played)
     if not most:
-        raise Trouble(f"{options.file}: the record has no command that was replied to")
+        raise Trouble(f"cannot play {options.file}: it has no command with a reply")
     if most + SPARE_ITEMS > MAX_ITEMS and not options.server:
-        raise Trouble(f"{options.file} has {most} commands, and a program takes {MAX_ITEMS}: say --server HOST:PORT NAME")
+        raise Trouble(f"cannot play {options.file}: it has {most} commands, and a program takes {MAX_ITEMS}; use --server HOST:PORT NAME")
     if options.sha256 not in (None, plan.file.sum):
-        raise Trouble(f"{options.file} has the SHA-256 {plan.file.sum}, so it is another record than the one that is wanted")
+        raise Trouble(f"{options.file} must have the SHA-256 {options.sha256}, got {plan.file.sum}: it is another record")
     return plan
 
 
@@ -190,7 +203,11 @@ def heading(options: argparse.Namespace, file: RecordFile) -> str:
 
 
 def verify(options: argparse.Namespace) -> int:
-    """Plays a record and tells what came of it. Returns the exit status."""
+    """Plays a record, or those of a study, and tells what came of it. Returns the exit status."""
+    if os.path.isdir(options.file):
+        from .study_verifying import verify_study
+
+        return verify_study(options)
     plan = checked(options)
     is_ended = is_whole(plan.file)
     tell: Tell = (lambda text: None) if options.quiet else say

@@ -2,7 +2,7 @@
 
 A wire reads while it writes, so neither side's buffers fill up while it waits for the other, however many commands are
 under way. Each wait has a time limit. A reply says itself how many lines it has, so replies that nobody came for, since an
-interrupt from the keyboard was quicker, are passed over before the next command.
+interrupt from the keyboard was quicker, are skipped before the next command.
 """
 from __future__ import annotations
 
@@ -17,7 +17,7 @@ from typing import Callable, Deque, Dict, Iterable, List, NamedTuple, Optional, 
 from .arrays import count_of_lines, has_others
 from .errors import BadReply, ClientError, Closed, ConnectionLost, Refused, TimedOut, not_answered, refusal_of, shown
 from .interrupts import held
-from .record import Answer
+from .record import Answer, Mark
 from .transport import Transport
 
 MAX_UNDER_WAY = 1024
@@ -41,9 +41,9 @@ class Reply(NamedTuple):
 
 
 def checked_timeout(seconds: float) -> float:
-    """A time limit. Raises ValueError for what is none: nothing is awaited forever."""
+    """A time limit. Raises ValueError unless it is finite and above 0: nothing is awaited forever."""
     if not 0 < seconds < float("inf"):
-        raise ValueError(f"a timeout is a number of seconds above 0, not {seconds!r}")
+        raise ValueError(f"timeout must be a finite number of seconds above 0, got {seconds!r}")
     return seconds
 
 
@@ -62,6 +62,54 @@ class Listener(Protocol):
 
     def unanswered(self, lines: Sequence[str]) -> None:
         """Hears of commands that were sent, and whose replies will not come."""
+
+    def told(self, mark: Mark) -> None:
+        """Hears that a new connection was begun."""
+
+
+class Dialogue(Protocol):
+    """What a user asks over: a `Wire`, or one that is made again where it is lost (`retrying`)."""
+
+    timeout: float
+    on_wait: Optional[Callable[[str, float], None]]
+    listener: Optional[Listener]
+
+    @property
+    def asked(self) -> int:
+        """How many of the commands of a connection are used up."""
+
+    @property
+    def closed(self) -> bool:
+        """As `Wire.closed`."""
+
+    @property
+    def is_idle(self) -> bool:
+        """As `Wire.is_idle`."""
+
+    @property
+    def unanswered(self) -> List[str]:
+        """As `Wire.unanswered`."""
+
+    def catch_up(self) -> None:
+        """As `Wire.catch_up`."""
+
+    def pass_over(self) -> None:
+        """As `Wire.pass_over`."""
+
+    def ask(self, line: str, body: bytes = b"") -> Reply:
+        """As `Wire.ask`."""
+
+    def ask_all(self, commands: Iterable[Tuple[str, bytes]]) -> List[Reply]:
+        """As `Wire.ask_all`."""
+
+    def ask_text(self, line: str) -> Tuple[List[str], bytes]:
+        """As `Wire.ask_text`."""
+
+    def ask_rows(self, lines: Sequence[str]) -> bytes:
+        """As `Wire.ask_rows`."""
+
+    def close(self, why: str = "the connection was closed") -> None:
+        """As `Wire.close`."""
 
 
 class Wire:
@@ -107,7 +155,7 @@ class Wire:
         return list(self._unanswered)
 
     def catch_up(self) -> None:
-        """Waits until each command that was asked is answered. These replies are passed over."""
+        """Waits until each command that was asked is answered. These replies are skipped."""
         self._begin()
 
     def ask(self, line: str, body: bytes = b"") -> Reply:
@@ -189,7 +237,7 @@ class Wire:
         if self._closed:
             raise Closed(self._closed)
         if self._torn:
-            raise self._given_up(ConnectionLost("an interrupt came while bytes were on their way"))
+            raise self._given_up(ConnectionLost("the connection was closed: an interrupt came while bytes were on their way"))
         while self._unanswered and not self._closed:
             self._next_answer()
         if self._closed:
@@ -198,9 +246,10 @@ class Wire:
     def _post(self, line: str, body: bytes) -> None:
         """Puts a command among what is to be sent."""
         if "\n" in line:
-            raise ValueError("a command is one line")
+            raise ValueError(f"a command must be one line, got {shown(line)!r}")
         if body and len(line.encode()) > MAX_COMMAND:
-            raise ValueError(f"a line with a body has {MAX_COMMAND} bytes at most: after a longer one it is read as commands")
+            why = "the server would read the body as commands"
+            raise ValueError(f"a command with a body must have at most {MAX_COMMAND} bytes, got {len(line.encode())}: {why}")
         if self.listener is not None and body:
             self._bodies[self.asked] = body
         self._put(line.encode() + b"\n" + body, [line])
@@ -320,7 +369,7 @@ class Wire:
             return words
         if words[0] == "ERR" and len(words) in (3, 5) and words[1].isdigit() and words[-1].isdigit() == (len(words) == 5):
             return words
-        raise self._given_up(BadReply(f"{line[:80]!r} is no reply to `{shown(self._unanswered[0])}`"))
+        raise self._given_up(BadReply(f"{line[:80]!r} is not a reply to `{shown(self._unanswered[0])}`"))
 
     def _lines_after(self, words: List[str]) -> int:
         """How many lines a reply has after its first."""
@@ -350,7 +399,7 @@ class Wire:
     def _move(self, seconds: float) -> bool:
         """Sends and receives what can be. Answers whether any byte was sent or any line came whole.
 
-        It waits, for so many seconds at most, only where nothing was sent: what is sent begins the time limit anew.
+        It waits, for so many seconds at most, only where nothing was sent: what is sent begins the time limit again.
         """
         went = self._send()
         if not went:
@@ -403,7 +452,7 @@ class Wire:
     def _receive(self) -> bool:
         """Receives what is there. Answers whether a line came whole.
 
-        Whatever reads a reply has text alone, since a byte that is none ends the connection here: it could be for a terminal.
+        Whatever reads a reply has text alone, since any other byte ends the connection here: it could be for a terminal.
         """
         with held():
             self._torn = True
@@ -418,10 +467,10 @@ class Wire:
             if not self._torn:
                 self._take(data)
         if self._torn:
-            raise self._given_up(BadReply(f"{first_line_of_others(self._partial + data)[:80]!r} is no text of the protocol"))
+            raise self._given_up(BadReply(f"{first_line_of_others(self._partial + data)[:80]!r} is not text of the protocol"))
         rest = self._partial.rfind(b"\n") + 1
         if len(self._partial) - rest > MAX_LINE:
-            raise self._given_up(BadReply(f"{self._partial[rest : rest + 40]!r}.. is no line of the protocol"))
+            raise self._given_up(BadReply(f"{self._partial[rest : rest + 40]!r}.. is not a line of the protocol"))
         return b"\n" in data
 
     def _given_up(self, error: ClientError) -> ClientError:

@@ -1,4 +1,4 @@
-"""What a session can be loaded from, as the XYZ text that the server reads."""
+"""The sources of a session, as the XYZ text that the server reads."""
 from __future__ import annotations
 
 import collections
@@ -10,6 +10,7 @@ import re
 from typing import Any, Iterable, Iterator, List, Optional, Sequence, Tuple
 
 from . import ase_bridge, other_files
+from .names import shortened
 from .species import Symbols, names_of, with_symbols
 
 MAX_BYTES = 1_048_576
@@ -32,7 +33,7 @@ def body_of(source: Any, symbols: Symbols = None) -> bytes:
     else:
         body = text if symbols is None else with_symbols(text, symbols)
     if len(body) > MAX_BYTES:
-        raise ValueError(f"the XYZ text has {len(body)} bytes; the server takes {MAX_BYTES} at most")
+        raise ValueError(f"the XYZ text must have at most {MAX_BYTES} bytes, got {len(body)}")
     return body
 
 
@@ -60,7 +61,7 @@ def _rows(source: Any, symbols: Symbols) -> List[Tuple[str, Sequence[float]]]:
     else:
         own, positions = _listed(source)
     if symbols is None and len(own) < len(positions):
-        raise ValueError("positions need symbols='Ar', or rows of (symbol, x, y, z), whose symbols are strings")
+        raise ValueError("positions must come with symbols, got None; use symbols='Ar', or rows of (symbol, x, y, z)")
     return list(zip(own if symbols is None else names_of(symbols, len(positions)), positions))
 
 
@@ -69,7 +70,7 @@ def _listed(source: Any) -> Tuple[List[str], List[Any]]:
     try:
         rows = list(source)
     except TypeError:
-        raise TypeError(f"the atoms are a path, a file, a text, `Atoms` of ASE or a list, not {source!r}") from None
+        raise TypeError(f"the atoms must be a path, a file, a text, `Atoms` of ASE or a list, got {shortened(source)}") from None
     if not all(hasattr(row, "__len__") and len(row) == 4 and isinstance(row[0], str) for row in rows):
         return [], rows
     return [row[0] for row in rows], [row[1:] for row in rows]
@@ -80,11 +81,11 @@ def text_of(atoms: Iterable[Tuple[str, Sequence[float]]], comment: str = "ljclie
     lines = []
     for number, (symbol, position) in enumerate(atoms):
         if not (isinstance(symbol, str) and symbol.split() == [symbol]):
-            raise ValueError(f"a symbol is a word such as 'Ar', and that of atom {number} is {symbol!r}")
+            raise ValueError(f"the symbol of atom {number} must be a word such as 'Ar', got {shortened(symbol)}")
         try:
             x, y, z = map(float, position)
         except (TypeError, ValueError) as error:
-            raise type(error)(f"a position is three numbers, and that of atom {number} is {position!r}") from None
+            raise type(error)(f"the position of atom {number} must be three numbers, got {shortened(position)}") from None
         lines.append(f"{symbol} {x!r} {y!r} {z!r}\n")
     return f"{len(lines)}\n{comment}\n{''.join(lines)}".encode()
 
@@ -95,7 +96,7 @@ def frames_of(source: Any, before: Any, symbols: Symbols, pair: bool = False) ->
     With `pair` the source has both frames itself, that of one step before first.
     """
     if pair and before is not None:
-        raise ValueError("say before= or pair=True: with pair=True the source has both frames")
+        raise ValueError("cannot use before= with pair=True: the source has both frames then; use one of them")
     body = body_of(source, symbols)
     if pair or before is None:
         return ("pair" if pair else "rest"), body
@@ -106,7 +107,7 @@ def pair_of(before: bytes, present: bytes) -> bytes:
     """Two frames, one step apart, as one text."""
     body = before + (b"" if before.endswith(b"\n") else b"\n") + present
     if len(body) > MAX_BYTES:
-        raise ValueError(f"the two frames have {len(body)} bytes; the server takes {MAX_BYTES} at most")
+        raise ValueError(f"the two frames must have at most {MAX_BYTES} bytes, got {len(body)}")
     return body
 
 
@@ -128,15 +129,15 @@ def _next_frame(lines: Iterator[bytes]) -> List[Row]:
     rows = [line.split()[:4] for line in itertools.islice(lines, count)]
     atoms = [(symbol.decode(), _number(x), _number(y), _number(z)) for symbol, x, y, z in rows]
     if len(atoms) < count:
-        raise ValueError("atoms are missing")
+        raise ValueError(f"a frame must have {count} atoms, got {len(atoms)}")
     return atoms
 
 
 def _number(word: bytes) -> float:
-    """A coordinate. Raises ValueError for what is no finite number."""
+    """A coordinate. Raises ValueError unless it is a finite number."""
     number = float(word.lower().replace(b"d", b"e"))
     if not math.isfinite(number):
-        raise ValueError("a coordinate is a number")
+        raise ValueError(f"a coordinate must be a finite number, got {number}")
     return number
 
 
@@ -161,8 +162,7 @@ def lattice_edge(frames: Frames) -> Optional[float]:
     except ValueError:
         cell = []
     if not is_cubic(cell):
-        what = f'Lattice="{words[:100]}", which is no cube along the axes'
-        raise ValueError(f"the atoms have {what}: say the edge of the box, edge=..")
+        raise ValueError(f'Lattice must be a cube along the axes, got "{words[:100]}"; use edge=.., the edge of the box')
     return cell[0]
 
 

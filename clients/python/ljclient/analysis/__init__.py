@@ -1,15 +1,25 @@
-"""The physics of a run: what its frames say, each number with its standard error and its unit. It needs numpy, and `plot` matplotlib.
+"""The analysis of a run: results of its frames, each with its standard error and its unit. It needs numpy, and `plot` matplotlib.
 
-rdf               the radial distribution function g(r)
-msd               the mean squared displacement, over many origins
-vacf              the velocity autocorrelation function and its spectrum, over many origins
-diffusion         the diffusion coefficient by both
-structure_factor  S(k)
-stress, pressure  the mean stress and pressure
-viscosity         the shear viscosity, by Green and Kubo
-energy            energies and temperature
-order             bond orders and cubic order
-clusters          atoms that are connected
+`rdf`
+    The radial distribution function g(r).
+`msd`
+    The mean squared displacement, over many origins.
+`vacf`
+    The velocity autocorrelation function and its spectrum, over many origins.
+`diffusion`
+    The diffusion coefficient by both.
+`structure_factor`
+    S(k).
+`stress`, `pressure`
+    The mean stress and pressure.
+`viscosity`
+    The shear viscosity, by Green and Kubo.
+`energy`
+    Energies and temperature.
+`order`
+    Bond orders and cubic order.
+`clusters`
+    Atoms that are connected.
 
 Each of these has a session go on, and looks at frames on the way. `Rdf`, `Msd` and so on look at frames that `add` gives them, of a
 session, of a file or of another program (`Frame.of`), one at a time: their memory does not grow with the run. `analyse` gives frames

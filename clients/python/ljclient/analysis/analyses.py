@@ -1,4 +1,4 @@
-"""What all analyses have in common: they take frames one at a time, and tell a result. `analyse` gives them those of a session."""
+"""The base of all analyses: they take frames one at a time, and give a result. `analyse` gives them the frames of a session."""
 from __future__ import annotations
 
 from typing import TYPE_CHECKING, Any, Dict, Generic, Iterator, List, Sequence, TypeVar
@@ -51,7 +51,18 @@ class Analysis(Generic[Result]):
         self._added += 1
 
     def result(self) -> Result:
-        """What the frames so far say. ValueError if they are too few."""
+        """What the frames so far say.
+
+        Returns
+        -------
+        object
+            The result.
+
+        Raises
+        ------
+        ValueError
+            If the frames are too few.
+        """
         raise NotImplementedError
 
     def _take(self, frame: Frame) -> None:
@@ -60,10 +71,10 @@ class Analysis(Generic[Result]):
 
 
 def checked_count(name: str, number: int, least: int = 1) -> int:
-    """A whole number that is not below another one. Raises TypeError or ValueError, which names it, for what is none."""
+    """A whole number that is not below another one. Raises TypeError or ValueError, with its name, if it is another value."""
     count = whole_of(number, name)
     if count < least:
-        raise ValueError(f"{name} must be {least} at least, got {count}")
+        raise ValueError(f"{name} must be at least {least}, got {count}")
     return count
 
 

@@ -7,7 +7,8 @@ from typing import TYPE_CHECKING, Any, Dict, Optional
 from ..arrays import FloatArray
 from ..neighbours import near_pairs
 from ..sampling import Progress
-from ..units import RING, checked_positive
+from ..scalars import checked_positive
+from ..units import RING
 from .analyses import Analysis, Groups, analyse
 from .estimates import Blocks, Estimate
 from .frames import Frame
@@ -41,7 +42,18 @@ class ClustersResult:
     frames: int
 
     def plot(self, axes: Any = None) -> Any:
-        """Draws how many clusters there are of each size; `axes` as in `RdfResult.plot`."""
+        """Draws how many clusters there are of each size.
+
+        Parameters
+        ----------
+        axes : matplotlib.axes.Axes, optional
+            What is drawn into; else a new figure.
+
+        Returns
+        -------
+        matplotlib.axes.Axes
+            What was drawn into.
+        """
         axes = axes_of(axes)
         for name, each in (self.partial or {"": self}).items():
             sizes = numpy.flatnonzero(each.counts)
@@ -90,8 +102,20 @@ class Clusters(Analysis[ClustersResult]):
             self._blocks[name].add([len(sizes), sizes.max(), *numpy.bincount(sizes, minlength=sizes.sum() + 1)[1:]])
 
     def result(self) -> ClustersResult:
+        """What the frames so far say.
+
+        Returns
+        -------
+        ClustersResult
+            The result.
+
+        Raises
+        ------
+        ValueError
+            If the frames are too few.
+        """
         if self._groups is None:
-            raise ValueError("clusters must have 1 frame at least, got 0: add frames first")
+            raise ValueError("clusters must have at least 1 frame, got 0; add frames first")
         return told_of(self._blocks[""], {name: told_of(self._blocks[name], {}) for name in self._groups.names})
 
 

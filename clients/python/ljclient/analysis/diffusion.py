@@ -46,7 +46,7 @@ class Diffusion(Analysis[DiffusionResult]):
     lags : int
         The longest lag of velocities, in frames that are looked at.
     msd_lags : int, optional
-        The longest lag of displacements; the same if nothing is said.
+        The longest lag of displacements; the same by default.
     fit : tuple of float, optional
         As in `Msd`.
     stride : int
@@ -76,6 +76,18 @@ class Diffusion(Analysis[DiffusionResult]):
         self._moved.add(frame)
 
     def result(self) -> DiffusionResult:
+        """What the frames so far say.
+
+        Returns
+        -------
+        DiffusionResult
+            The result.
+
+        Raises
+        ------
+        ValueError
+            If the frames are too few.
+        """
         moved, speeds = self._moved.result(), self._speeds.result()
         partial = {name: (moved.partial[name].diffusion, each.diffusion) for name, each in speeds.partial.items()}
         return DiffusionResult(moved.diffusion, speeds.diffusion, partial, moved, speeds)
@@ -101,7 +113,7 @@ def diffusion(
     lags : int
         The longest lag of velocities, in frames.
     msd_lags : int, optional
-        The longest lag of displacements, in frames; the same if nothing is said.
+        The longest lag of displacements, in frames; the same by default.
     fit : tuple of float, optional
         Between which times the slope is fitted, in the unit of time, as in `Msd`.
     progress : bool or callable

@@ -1,4 +1,4 @@
-"""Energies and temperature: the mean over frames, with the long-range term if that is asked for."""
+"""Energies and temperature: the mean over frames, with the long-range term on request."""
 from __future__ import annotations
 
 import operator
@@ -63,14 +63,26 @@ class Energy(Analysis[EnergyResult]):
 
     def _take(self, frame: Frame) -> None:
         if not {"kinetic", "potential", "temperature"} <= set(frame.energies):
-            raise ValueError("a frame must have energies, got none: say energies= of Frame.of, or take Session.frames")
+            raise ValueError("a frame must have energies, got none; use energies= of Frame.of, or Session.frames")
         if self._tail and "potential" not in frame.tails:
-            raise ValueError("a frame must say its tails for tail=True, got none: say tails= of Frame.of, or take Session.frames")
+            raise ValueError("a frame must have its tails for tail=True, got none; use tails= of Frame.of, or Session.frames")
         potential = frame.energies["potential"] + (frame.tails["potential"] if self._tail else 0.0)
         self._units = frame.units
         self._blocks.add([frame.energies["kinetic"] / frame.atoms, potential / frame.atoms, frame.energies["temperature"]])
 
     def result(self) -> EnergyResult:
+        """What the frames so far say.
+
+        Returns
+        -------
+        EnergyResult
+            The result.
+
+        Raises
+        ------
+        ValueError
+            If the frames are too few.
+        """
         unit = self._units.energy
         kinetic, potential = (self._blocks.estimate(operator.itemgetter(at), unit) for at in (0, 1))
         total = self._blocks.estimate(lambda row: row[0] + row[1], unit)

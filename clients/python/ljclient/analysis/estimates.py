@@ -63,6 +63,11 @@ class Estimate:
         unit : str
             Its name.
 
+        Returns
+        -------
+        Estimate
+            The value and its error in that unit.
+
         Examples
         --------
         >>> from ljclient.analysis import Estimate
@@ -123,18 +128,41 @@ class Blocks:
             self._length *= 2
 
     def mean(self) -> Any:
-        """The mean of all values, of the shape of one. ValueError if there are none."""
+        """The mean of all values.
+
+        Returns
+        -------
+        float or numpy.ndarray
+            Of the shape of one value.
+
+        Raises
+        ------
+        ValueError
+            If there are none.
+        """
         if not self.count:
-            raise ValueError("a series must have 1 value at least, got 0: add frames first, more of them than the longest lag")
+            raise ValueError("a series must have at least 1 value, got 0; add frames first, more of them than the longest lag")
         return self._total / self.count
 
     def means(self) -> FloatArray:
-        """The means of the blocks in their order: an array of shape (blocks, ..)."""
+        """The means of the blocks in their order.
+
+        Returns
+        -------
+        numpy.ndarray, shape (blocks, ..)
+            One row for each block.
+        """
         means: FloatArray = numpy.array(self._blocks)
         return means
 
     def error(self) -> Any:
-        """The standard error of the mean, of the shape of one value."""
+        """The standard error of the mean.
+
+        Returns
+        -------
+        float or numpy.ndarray
+            Of the shape of one value.
+        """
         return self._error_of(self.means())
 
     def estimate(self, function: Callable[[Any], Any], unit: str = "") -> Estimate:
@@ -146,15 +174,30 @@ class Blocks:
             From an array of the shape of one value to a number.
         unit : str
             Its unit.
+
+        Returns
+        -------
+        Estimate
+            The value and its error.
         """
         value, error = self.derived(function)
         return Estimate(float(value), float(error), unit)
 
     def derived(self, function: Callable[[Any], Any]) -> Tuple[Any, Any]:
-        """What a function says of the mean, with its error: one number or an array.
+        """What a function says of the mean, with its error.
 
-        The error is that of the means of blocks, each put in place of a small part of the mean. So it is exact where the function is
-        linear, and else that of its tangent.
+        The error is that of the means of blocks, each put in place of a small part of the mean. So it is exact where the function
+        is linear, and else that of its tangent.
+
+        Parameters
+        ----------
+        function : callable
+            From an array of the shape of one value to a number or an array.
+
+        Returns
+        -------
+        tuple of float or numpy.ndarray
+            The value and its error.
         """
         mean = self.mean()
         value = numpy.asarray(function(mean))

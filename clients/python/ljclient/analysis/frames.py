@@ -1,10 +1,10 @@
-"""What an analysis looks at: a frame of atoms in a periodic cubic box, of a session or of any other source."""
+"""The input of an analysis: a frame of atoms in a periodic cubic box, of a session or of any other source."""
 from __future__ import annotations
 
 from dataclasses import dataclass, field
 from typing import TYPE_CHECKING, Any, Dict, Optional, Sequence, Union
 
-from .. import units as physical
+from .. import scalars, units as physical
 from ..arrays import FloatArray, IntArray
 from ..pressure import Composition, tensor_of_frames
 from ..snapshots import Snapshot
@@ -147,7 +147,7 @@ class Frame:
         rows = numpy.asarray(positions, dtype=float)
         if rows.ndim != 2 or rows.shape[1] != 3 or not numpy.isfinite(rows).all():
             raise ValueError(f"positions must be finite numbers of shape (atoms, 3), got shape {rows.shape}")
-        size = physical.checked_positive("edge", edge)
+        size = scalars.checked_positive("edge", edge)
         return Frame(numpy.rint(rows / size % 1.0 * RING).astype(numpy.int64) % RING, size, **words)
 
     @property
@@ -173,7 +173,20 @@ def species_of(atoms: Composition) -> Sequence[str]:
 
 
 def frame_of(snapshot: Snapshot, with_stress: bool = True) -> Frame:
-    """The frame of a snapshot of a session, with its stress if this is asked for."""
+    """The frame of a snapshot of a session.
+
+    Parameters
+    ----------
+    snapshot : Snapshot
+        A frame that `Session.frames` gives.
+    with_stress : bool, optional
+        Whether it has its stress.
+
+    Returns
+    -------
+    Frame
+        The frame, in the units of the session.
+    """
     scale, atoms, units = snapshot.scale, snapshot.atoms, units_of(snapshot.scale)
     # Energies are in epsilon of the first class, and the pressure in this over sigma^3.
     unit = 1.0 if scale.dt is None or scale.epsilon is None else scale.epsilon

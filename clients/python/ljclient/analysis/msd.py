@@ -1,4 +1,4 @@
-"""The mean squared displacement of atoms over a time, and the diffusion coefficient that its slope is six times."""
+"""The mean squared displacement of atoms over a time, and the diffusion coefficient, a sixth of its slope."""
 from __future__ import annotations
 
 import math
@@ -54,7 +54,18 @@ class MsdResult:
     units: Dict[str, str] = field(repr=False)
 
     def plot(self, axes: Any = None) -> Any:
-        """Draws the mean squared displacement with its errors; `axes` as in `RdfResult.plot`."""
+        """Draws the mean squared displacement with its errors.
+
+        Parameters
+        ----------
+        axes : matplotlib.axes.Axes, optional
+            What is drawn into; else a new figure.
+
+        Returns
+        -------
+        matplotlib.axes.Axes
+            What was drawn into.
+        """
         axes = axes_of(axes)
         for name, each in (self.partial or {"": self}).items():
             axes.errorbar(each.times, each.msd, each.error, label=" ".join([name, f"D = {each.diffusion}"]).strip(), elinewidth=0.8)
@@ -75,9 +86,9 @@ class Msd(Analysis[MsdResult]):
         The longest lag, in frames that are looked at. An error takes a run that is three times as long at least, and some ten times for
         one that is right to a fifth: origins depend on each other as far as their lags overlap.
     apart : int, optional
-        How many of them there are from one origin to the next; a twentieth of `lags` if nothing is said.
+        How many of them there are from one origin to the next; a twentieth of `lags` by default.
     fit : tuple of float, optional
-        Between which times the slope is fitted, in the unit of time. If nothing is said, from a quarter of the longest lag on.
+        Between which times the slope is fitted, in the unit of time. By default from a quarter of the longest lag on.
     stride : int
         As in `Analysis`.
 
@@ -115,6 +126,18 @@ class Msd(Analysis[MsdResult]):
         return [squares.mean(), *(squares[members].mean() for members in self._groups.members.values())]
 
     def result(self) -> MsdResult:
+        """What the frames so far say.
+
+        Returns
+        -------
+        MsdResult
+            The result.
+
+        Raises
+        ------
+        ValueError
+            If the frames are too few.
+        """
         mean, error = self._origins.blocks.mean(), self._origins.blocks.error()
         assert self._groups is not None
         times = self._origins.times

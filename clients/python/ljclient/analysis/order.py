@@ -1,4 +1,4 @@
-"""Order: that of the directions of bonds (Steinhardt, Nelson and Ronchetti, 1983), and how far these lie along the axes of the box."""
+"""Order: of the directions of bonds (Steinhardt, Nelson and Ronchetti, 1983), and how far these lie along the axes of the box."""
 from __future__ import annotations
 
 import math
@@ -7,7 +7,8 @@ from typing import TYPE_CHECKING, Any, Dict, List, NamedTuple, Optional, Tuple
 
 from ..neighbours import near_pairs
 from ..sampling import Progress
-from ..units import RING, checked_positive
+from ..scalars import checked_positive
+from ..units import RING
 from .analyses import Analysis, Groups, analyse
 from .estimates import Blocks, Estimate
 from .frames import Frame
@@ -99,8 +100,20 @@ class Order(Analysis[OrderResult]):
             self._blocks[name].add(values_of(frame.places[members], (self._reach / frame.edge * RING) ** 2))
 
     def result(self) -> OrderResult:
+        """What the frames so far say.
+
+        Returns
+        -------
+        OrderResult
+            The result.
+
+        Raises
+        ------
+        ValueError
+            If the frames are too few.
+        """
         if self._groups is None:
-            raise ValueError("order must have 1 frame at least, got 0: add frames first")
+            raise ValueError("order must have at least 1 frame, got 0; add frames first")
         return told_of(self._blocks[""], {name: told_of(self._blocks[name], {}) for name in self._groups.names})
 
 

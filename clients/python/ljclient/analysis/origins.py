@@ -42,9 +42,9 @@ class Origins:
         """Raises ValueError unless a frame is as far from the one before as those before."""
         interval = abs(frame.time - self._time)
         if self._seen == 1 and not interval > 0:
-            raise ValueError(f"frames must be at times of their own, got two at {frame.time:g}: say time= of Frame.of")
+            raise ValueError(f"frames must be at different times, got two at {frame.time:g}; use time= of Frame.of")
         if self._seen > 1 and abs(interval - self.interval) > SAME_INTERVAL * self.interval:
-            raise ValueError(f"frames must be equally far apart in time, got {interval:g} after {self.interval:g}: take each so many-th")
+            raise ValueError(f"frames must be equally far apart in time, got {interval:g} after {self.interval:g}; use every n-th frame")
 
     def add(self, frame: Frame, values: Any) -> None:
         """Compares the values of a frame, which was checked, with those of all origins."""
@@ -67,5 +67,5 @@ class Origins:
         """Which lags are in a range of times. ValueError if they are too few for a line."""
         kept = (self.times >= start * (1 - 1e-9)) & (self.times <= stop * (1 + 1e-9))
         if kept.sum() < 2:
-            raise ValueError(f"a range of times must have 2 lags at least, got {start:g} to {stop:g} of {self.times[-1]:g}")
+            raise ValueError(f"a range of times must have at least 2 lags, got {start:g} to {stop:g} of {self.times[-1]:g}")
         return kept

@@ -9,7 +9,8 @@ from typing import TYPE_CHECKING, Any, Dict, List, Optional, Tuple
 from ..arrays import FloatArray
 from ..neighbours import near_pairs
 from ..sampling import Progress
-from ..units import RING, checked_positive
+from ..scalars import checked_positive
+from ..units import RING
 from .analyses import Analysis, Groups, analyse, checked_count
 from .estimates import Blocks
 from .frames import Frame, Units
@@ -34,7 +35,7 @@ class RdfResult:
     r : array of shape (bins,)
         The middle of each bin, in the unit of length.
     g, error : array of shape (bins,)
-        g(r), the mean over each shell, and its standard error. It has no unit.
+        The mean of g(r) over each shell, and its standard error. It has no unit.
     neighbours : array of shape (bins,)
         How many atoms there are within the outer edge of each bin around an atom, in the mean.
     partial : dict of (str, str) to RdfResult
@@ -85,7 +86,7 @@ class Rdf(Analysis[RdfResult]):
     bins : int
         How many bins there are from 0 to `r_max`, of equal width.
     r_max : float, optional
-        The end of the last bin, in the unit of length: at most half the edge, which it is if nothing is said.
+        The end of the last bin, in the unit of length: at most half the edge, which is the default.
     stride : int
         As in `Analysis`.
 
@@ -150,6 +151,18 @@ class Rdf(Analysis[RdfResult]):
         return numpy.bincount(bins, minlength=self._bins * len(kinds)).reshape(len(kinds), self._bins)
 
     def result(self) -> RdfResult:
+        """What the frames so far say.
+
+        Returns
+        -------
+        RdfResult
+            The result.
+
+        Raises
+        ------
+        ValueError
+            If the frames are too few.
+        """
         mean, error = self._blocks.mean(), self._blocks.error()
         assert self._groups is not None
         count, counts = self._groups.count, {name: len(self._groups.members[name]) for name in self._groups.names}

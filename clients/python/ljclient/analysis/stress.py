@@ -1,4 +1,4 @@
-"""The stress and the pressure: the mean over frames, with the long-range term if that is asked for."""
+"""The stress and the pressure: the mean over frames, with the long-range term on request."""
 from __future__ import annotations
 
 from dataclasses import dataclass, field
@@ -14,7 +14,7 @@ from .library import numpy
 if TYPE_CHECKING:
     from ..session import Session
 
-NO_STRESS = "a frame must have a stress, got none: say stress= of Frame.of, or take Session.frames"
+NO_STRESS = "a frame must have a stress, got none; use stress= of Frame.of, or Session.frames"
 
 
 @dataclass(frozen=True)
@@ -70,11 +70,23 @@ class Stress(Analysis[StressResult]):
         if frame.stress is None:
             raise ValueError(NO_STRESS)
         if self._tail and "pressure" not in frame.tails:
-            raise ValueError("a frame must say its tails for tail=True, got none: say tails= of Frame.of, or take Session.frames")
+            raise ValueError("a frame must have its tails for tail=True, got none; use tails= of Frame.of, or Session.frames")
         self._units = frame.units
         self._blocks.add(frame.stress - (frame.tails["pressure"] if self._tail else 0.0) * numpy.eye(3))
 
     def result(self) -> StressResult:
+        """What the frames so far say.
+
+        Returns
+        -------
+        StressResult
+            The result.
+
+        Raises
+        ------
+        ValueError
+            If the frames are too few.
+        """
         mean, unit = self._blocks.mean(), self._units.pressure
         pressure = self._blocks.estimate(pressure_of, unit)
         return StressResult(mean, self._blocks.error(), pressure, {"stress": unit, "error": unit, "pressure": unit})
@@ -116,6 +128,18 @@ class Pressure(Analysis[Estimate]):
         self._stress.add(frame)
 
     def result(self) -> Estimate:
+        """What the frames so far say.
+
+        Returns
+        -------
+        Estimate
+            The result.
+
+        Raises
+        ------
+        ValueError
+            If the frames are too few.
+        """
         return self._stress.result().pressure
 
 

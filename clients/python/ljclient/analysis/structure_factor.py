@@ -8,7 +8,8 @@ from typing import TYPE_CHECKING, Any, Dict, List, Optional, Tuple
 
 from ..arrays import FloatArray
 from ..sampling import Progress
-from ..units import RING, checked_positive
+from ..scalars import checked_positive
+from ..units import RING
 from .analyses import Analysis, Groups, analyse
 from .estimates import Blocks
 from .frames import Frame, Units
@@ -51,7 +52,18 @@ class StructureFactorResult:
     units: Dict[str, str] = field(repr=False)
 
     def plot(self, axes: Any = None) -> Any:
-        """Draws S(k) with its errors, that of each pair of species if there are two; `axes` as in `RdfResult.plot`."""
+        """Draws S(k) with its errors, that of each pair of species if there are two.
+
+        Parameters
+        ----------
+        axes : matplotlib.axes.Axes, optional
+            What is drawn into; else a new figure.
+
+        Returns
+        -------
+        matplotlib.axes.Axes
+            What was drawn into.
+        """
         axes = axes_of(axes)
         drawn = {"-".join(pair): each for pair, each in self.partial.items()} or {"": self}
         for name, each in drawn.items():
@@ -68,7 +80,7 @@ class StructureFactor(Analysis[StructureFactorResult]):
     Parameters
     ----------
     k_max : float, optional
-        The largest wave number, in radians for each unit of length; if nothing is said, that of 16 waves along the edge.
+        The largest wave number, in radians for each unit of length; by default that of 16 waves along the edge.
     stride : int
         As in `Analysis`.
 
@@ -111,6 +123,18 @@ class StructureFactor(Analysis[StructureFactorResult]):
         return [(first, second) for first, second in itertools.combinations_with_replacement(things, 2)]
 
     def result(self) -> StructureFactorResult:
+        """What the frames so far say.
+
+        Returns
+        -------
+        StructureFactorResult
+            The result.
+
+        Raises
+        ------
+        ValueError
+            If the frames are too few.
+        """
         mean, error = self._blocks.mean(), self._blocks.error()
         assert self._groups is not None
         names, total, partial = self._groups.names, self._groups.count, {}
@@ -148,7 +172,7 @@ class Shells:
     def of(longest: float) -> "Shells":
         """Those up to a length. ValueError if there are none."""
         if longest < 1:
-            raise ValueError(f"k_max must be 2 pi / edge at least, got {longest:.3g} times this")
+            raise ValueError(f"k_max must be at least 2 pi / edge, got {longest:.3g} times this")
         most = math.floor(longest)
         x, y, z = numpy.meshgrid(numpy.arange(most + 1), *[numpy.arange(-most, most + 1)] * 2, indexing="ij")
         lengths = numpy.sqrt(x**2 + y**2 + z**2)

@@ -1,4 +1,4 @@
-"""The velocity autocorrelation function: its spectrum, and the diffusion coefficient that a third of its integral is."""
+"""The velocity autocorrelation function: its spectrum, and the diffusion coefficient, a third of its integral."""
 from __future__ import annotations
 
 from dataclasses import dataclass, field
@@ -56,7 +56,18 @@ class VacfResult:
     units: Dict[str, str] = field(repr=False)
 
     def plot(self, axes: Any = None) -> Any:
-        """Draws the function, divided by its value at 0, with its errors; `axes` as in `RdfResult.plot`."""
+        """Draws the function, divided by its value at 0, with its errors.
+
+        Parameters
+        ----------
+        axes : matplotlib.axes.Axes, optional
+            What is drawn into; else a new figure.
+
+        Returns
+        -------
+        matplotlib.axes.Axes
+            What was drawn into.
+        """
         axes = axes_of(axes)
         for name, each in (self.partial or {"": self}).items():
             label = " ".join([name, f"D = {each.diffusion}"]).strip()
@@ -66,7 +77,18 @@ class VacfResult:
         return axes
 
     def plot_spectrum(self, axes: Any = None) -> Any:
-        """Draws the spectrum with its errors; `axes` as in `RdfResult.plot`."""
+        """Draws the spectrum with its errors.
+
+        Parameters
+        ----------
+        axes : matplotlib.axes.Axes, optional
+            What is drawn into; else a new figure.
+
+        Returns
+        -------
+        matplotlib.axes.Axes
+            What was drawn into.
+        """
         axes = axes_of(axes)
         for name, each in (self.partial or {"": self}).items():
             axes.errorbar(each.frequencies, each.spectrum, each.spectrum_error, label=name or None, elinewidth=0.8)
@@ -84,7 +106,7 @@ class Vacf(Analysis[VacfResult]):
     lags : int
         The longest lag, in frames that are looked at. By then the function should have come to 0.
     apart : int, optional
-        How many of them there are from one origin to the next; a twentieth of `lags` if nothing is said.
+        How many of them there are from one origin to the next; a twentieth of `lags` by default.
     stride : int
         As in `Analysis`.
 
@@ -111,7 +133,7 @@ class Vacf(Analysis[VacfResult]):
 
     def _take(self, frame: Frame) -> None:
         if frame.velocities is None:
-            raise ValueError("a frame must have velocities, got none: say velocities= of Frame.of, or take Session.frames")
+            raise ValueError("a frame must have velocities, got none; use velocities= of Frame.of, or Session.frames")
         if self._groups is None:
             self._groups, self._units = Groups(frame), frame.units
         self._groups.check(frame)
@@ -125,6 +147,18 @@ class Vacf(Analysis[VacfResult]):
         return [products.mean(), *(products[members].mean() for members in self._groups.members.values())]
 
     def result(self) -> VacfResult:
+        """What the frames so far say.
+
+        Returns
+        -------
+        VacfResult
+            The result.
+
+        Raises
+        ------
+        ValueError
+            If the frames are too few.
+        """
         mean, error = self._origins.blocks.mean(), self._origins.blocks.error()
         assert self._groups is not None
         partial = {name: self._told(row + 1, mean, error, {}) for row, name in enumerate(self._groups.names)}

@@ -47,7 +47,18 @@ class ViscosityResult:
     units: Dict[str, str] = field(repr=False)
 
     def plot(self, axes: Any = None) -> Any:
-        """Draws the integral up to each lag with its errors; `axes` as in `RdfResult.plot`."""
+        """Draws the integral up to each lag with its errors.
+
+        Parameters
+        ----------
+        axes : matplotlib.axes.Axes, optional
+            What is drawn into; else a new figure.
+
+        Returns
+        -------
+        matplotlib.axes.Axes
+            What was drawn into.
+        """
         axes = axes_of(axes)
         axes.errorbar(self.times, self.integral, self.integral_error, elinewidth=0.8)
         axes.set(xlabel=f"time / {self.units['times']}", ylabel=f"viscosity / ({self.units['viscosity']})")
@@ -55,15 +66,16 @@ class ViscosityResult:
 
 
 class Viscosity(Analysis[ViscosityResult]):
-    """The viscosity of the frames that are added, by the five independent shear stresses of a liquid that is alike in all directions
-    (Daivis and Evans, 1994).
+    """The viscosity of the frames that are added.
+
+    It is by the five independent shear stresses of a liquid that is alike in all directions (Daivis and Evans, 1994).
 
     Parameters
     ----------
     lags : int
         The longest lag, in frames that are looked at. By then the autocorrelation should have come to 0.
     apart : int, optional
-        How many of them there are from one origin to the next; 1 if nothing is said.
+        How many of them there are from one origin to the next; 1 by default.
     stride : int
         As in `Analysis`.
 
@@ -90,7 +102,7 @@ class Viscosity(Analysis[ViscosityResult]):
         if frame.stress is None:
             raise ValueError(NO_STRESS)
         if "temperature" not in frame.energies:
-            raise ValueError("a frame must have a temperature, got none: say energies= of Frame.of, or take Session.frames")
+            raise ValueError("a frame must have a temperature, got none; use energies= of Frame.of, or Session.frames")
         self._origins.check(frame)
         stress = numpy.asarray(frame.stress, dtype=float)
         # Without its trace: the sum over all nine products is then ten times that of one shear stress.
@@ -100,6 +112,18 @@ class Viscosity(Analysis[ViscosityResult]):
         self._temperatures.add(frame.energies["temperature"])
 
     def result(self) -> ViscosityResult:
+        """What the frames so far say.
+
+        Returns
+        -------
+        ViscosityResult
+            The result.
+
+        Raises
+        ------
+        ValueError
+            If the frames are too few.
+        """
         blocks, times, units = self._origins.blocks, self._origins.times, self._units
         size = self._size()
         integral, spread = blocks.derived(lambda rows: size * integral_of(rows[0], self._origins.interval))

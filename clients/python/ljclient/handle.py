@@ -1,0 +1,182 @@
+"""A session by its name: what is known of it, and how it is asked."""
+from __future__ import annotations
+
+import dataclasses
+from typing import TYPE_CHECKING, Any, ContextManager, List, Optional, Sequence, Tuple, Union
+
+from . import arrays, box, frames, reading, sampling, stepping
+from .guards import NO_PLACE, change, turning
+from .measurement import Measurement, known
+from .names import checked_name, count_of, displacement_of
+from .order import Order, Place
+from .replies import Row, number_after, of_session
+from .threads import whole
+from .thermo import Thermo
+from .units import Scale
+from .unwrapping import Path
+
+if TYPE_CHECKING:
+    from .mixture import Mixture
+    from .motion import Motion
+    from .user import User
+
+
+class Handle:
+    """What the package has of a session beside what users call: its name, what is known of it, and commands that are whole."""
+
+    # So that a name that is none, as in `session.temprature = 3`, is an AttributeError.
+    __slots__ = ("name", "mixture", "motion", "sampled", "_lock", "_user", "_given", "_pace", "_path", "__weakref__")
+
+    def __init__(
+        self,
+        user: "User",
+        name: str,
+        scale: Optional[Scale] = None,
+        mixture: Optional[Mixture] = None,
+        motion: Optional[Motion] = None,
+    ):
+        self.name = checked_name(name)
+        self.mixture = mixture
+        self.motion = motion
+        self.sampled: Optional[sampling.Samples] = None
+        self._lock: ContextManager[object] = user.lock
+        self._user = user
+        self._given = scale
+        self._pace = stepping.Pace()
+        self._path = Path(self.name)
+
+    def __repr__(self) -> str:
+        return f"Session({self.name!r})"
+
+    @property
+    def user(self) -> "User":
+        """The user of this session."""
+        return self._user
+
+    @property
+    def scale(self) -> Scale:
+        """What its whole numbers mean; of a mixture, the scale of its first class. ValueError if it is not known."""
+        return known(self._given)
+
+    @property
+    def _is_free(self) -> bool:
+        """Whether it can be asked for something at once: the connection is there, and no command is under way."""
+        return self._user._is_free
+
+    @property
+    def order(self) -> Order:
+        """How the server's numbers of atoms and steps stand to those here: `ask` and other connections see the server's."""
+        return self._user._known_of(self.name).order
+
+    @property
+    def n_atoms(self) -> int:
+        """How many atoms there are. It is known since the session was loaded or taken up."""
+        known = self._user._known_of(self.name)
+        return self._row().atoms if known.n_atoms is None else known.n_atoms
+
+    @property
+    def edge(self) -> float:
+        """The edge of the box in the unit of the file."""
+        return self.scale.edge
+
+    @property
+    def h(self) -> int:
+        """The step factor: `dt^2 epsilon / (m sigma^2)` in units of 2^-32."""
+        return self.scale.h
+
+    @property
+    def dt(self) -> Optional[float]:
+        """The time step in femtoseconds that the whole number h stands for, which is not quite the one that was asked for.
+
+        None if epsilon and mass are not known; `scale.reduced_dt` is the time step in reduced units.
+        """
+        return self.scale.dt
+
+    def _measured(self, words: List[str]) -> Measurement:
+        """The measurement that the words of a reply to MEASURE tell."""
+        told = Measurement.of(of_session(f"MEASURE {self.name}", words)[2:], self._given)
+        return dataclasses.replace(told, step=self.order.step_of(told.step))
+
+    def _look(self, row: Thermo, atoms: int) -> None:
+        """Warns if the energy of a row is far from that of the start."""
+        self._user._known_of(self.name).watch.look(self.name, self.scale, row, atoms)
+
+    def _number_of(self, atom: Any) -> int:
+        """The number by which the server knows an atom. Each number of an atom that goes out is of here."""
+        return self.order.number_of(count_of(atom, "the number of an atom"))
+
+    def _tug(self, atom: Any, displacement: Union[Sequence[int], arrays.IntArray]) -> str:
+        """The command for a tug."""
+        x, y, z = displacement_of(displacement)
+        return f"TUG {self.name} {self._number_of(atom)} {x} {y} {z}"
+
+    @whole
+    def _frame(self) -> reading.Frame:
+        """The frame as the server dumps it, with atoms, step and positions as they are here. Each line of an atom that comes
+        in is of here. Asking may move a session to another box."""
+        box.settle(self._user, self.name)
+        if not self.order.on_ring:
+            frame = frames.dumped(self._user, self.name)
+            if not self.order.on_ring:
+                return frame.for_user(self.order)
+        return frames.dumped_in_box(self._user, self.name, self.scale.edge)
+
+    @whole
+    def _positions_of_frame(self) -> Tuple[int, Any]:
+        """The step and the positions of the frame, with six decimals. They are read without its lines."""
+        box.settle(self._user, self.name)
+        if not self.order.on_ring:
+            step, positions = frames.dumped_positions(self._user, self.name)
+            order = self.order
+            if not order.on_ring:
+                return order.step_of(step), order._for_user(positions)
+        return frames.positions_in_box(self._user, self.name, self.scale.edge)
+
+    @whole
+    def _frames_of_places(self, both: bool = False) -> Tuple[reading.Places, ...]:
+        """The places of all atoms, and if both frames are asked for, those of the step before. All places come in here."""
+        if self.order.on_ring:
+            told = (frames.both_dumped if both else frames.dumped_places)(self._user, self.name)
+        else:
+            told = (frames.both_shown if both else frames.shown)(self._user, self.name, self.n_atoms)
+        order = self.order
+        return tuple(reading.Places(order.step_of(step), order._for_user(places)) for step, places in told)
+
+    def _set_in_motion(self, now: reading.Places, before: reading.Places, wanted: Sequence[Sequence[int]]) -> None:
+        """Gives the atoms of both frames these displacements in place of those of the last step. An interrupt waits until all have
+        theirs, and where the connection is lost between, the next one gives back those that they had."""
+        changes = arrays.listed(arrays.least_images(wanted, arrays.least_images(now.places, before.places)))
+        self._tug_all(changes, arrays.listed(now.places), arrays.listed(before.places))
+
+    def _tug_all(self, changes: Sequence[Sequence[int]], places: Sequence[Place], before: Sequence[Place]) -> None:
+        """Tugs each atom by such a displacement, which has these places now and a step before: all of them or none."""
+        self._user._known_of(self.name).watch.begin_anew()
+        tugs = [self._tug(atom, change) for atom, change in enumerate(changes) if any(change)]
+        for_server = self.order._for_server
+        with change(self._user, self.name, for_server(places), for_server(before)) as end:
+            self._user._ask_rows([*tugs, *end])
+
+    @whole
+    def _step_and_turn(self) -> None:
+        """Goes on by a step and turns the motion back, which leaves the places as they are: both or, at a server, none."""
+        lines = [f"ADVANCE {self.name} 1", f"REVERSE {self.name}"]
+        direction = self._user._known_of(self.name).direction
+        try:
+            with turning(self._user, self.name, len(lines)) as end:
+                self._user.ask_all([*lines, *end])
+        except NO_PLACE:
+            self._user.ask_all(lines)
+        self._user._known_of(self.name).direction = None if direction is None else -direction
+
+    def _row(self) -> "Row":
+        return self._user._row(self.name)
+
+    def _ask(self, line: str) -> List[str]:
+        return of_session(line, self._user.ask(line).words)
+
+    @whole
+    def _number(self, line: str, index: int) -> int:
+        """The step number that stands last in the reply, at this index of its words."""
+        step = number_after(line, self._user.ask(line).words, index)
+        self._user._known_of(self.name).is_started = False
+        return self.order.step_of(step)

@@ -1,0 +1,50 @@
+"""The texts of lessons and of their marking, in each language."""
+from __future__ import annotations
+
+from typing import Dict
+
+TEXTS: Dict[str, Dict[str, str]] = {
+    "en": {
+        "step": "Step {at} of {count}",
+        "help": "`.hint` helps, `.lesson` shows the step again, and `.answer ..` answers a question.",
+        "answer": "Say `.answer NUMBER`.",
+        "choose": "Say `.answer {choices}`.",
+        "right": "That is right.",
+        "done": "That is what was to be seen.",
+        "end": "The lesson is done.",
+        "not yet": "Not yet what the step expects: `.hint` helps.",
+        "wrong": "`{answer}` is not right: look again, or say `.hint`.",
+        "no answer": "`{answer}` is no answer to this question.",
+        "no question": "No question is asked here.",
+        "first": "First do what the step says; then the question is asked.",
+        "marked": "{key}: right",
+        "missing": "{key}: missing: {what}",
+        "marked wrong": "{key}: the answer `{answer}` is wrong",
+        "unanswered": "{key}: the question was not answered",
+        "sum": "{right} of {count} steps are right",
+    },
+    "de": {
+        "step": "Schritt {at} von {count}",
+        "help": "`.hint` hilft, `.lesson` zeigt den Schritt noch einmal, und `.answer ..` beantwortet eine Frage.",
+        "answer": "Sage `.answer ZAHL`.",
+        "choose": "Sage `.answer {choices}`.",
+        "right": "Das ist richtig.",
+        "done": "Das war zu sehen.",
+        "end": "Die Lektion ist zu Ende.",
+        "not yet": "Noch nicht, was der Schritt erwartet: `.hint` hilft.",
+        "wrong": "`{answer}` ist nicht richtig: sieh noch einmal hin, oder sage `.hint`.",
+        "no answer": "`{answer}` ist keine Antwort auf diese Frage.",
+        "no question": "Hier wird nichts gefragt.",
+        "first": "Tu zuerst, was der Schritt sagt; dann wird gefragt.",
+        "marked": "{key}: richtig",
+        "missing": "{key}: fehlt: {what}",
+        "marked wrong": "{key}: die Antwort `{answer}` ist falsch",
+        "unanswered": "{key}: die Frage wurde nicht beantwortet",
+        "sum": "{right} von {count} Schritten sind richtig",
+    },
+}
+
+
+def said(language: str, name: str, **parts: object) -> str:
+    """A text in a language, in English if it has none."""
+    return TEXTS.get(language, TEXTS["en"])[name].format(**parts)

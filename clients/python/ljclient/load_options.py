@@ -1,0 +1,56 @@
+"""What `User.load`, `load_mix` and `load_saved` are told alike of a new session, and the atoms that a source has by it."""
+from __future__ import annotations
+
+from dataclasses import dataclass
+from typing import Any, NamedTuple, Optional
+
+from . import xyz
+from .atom_groups import adapted
+from .files import Path
+from .motion import Motion, motion_of
+from .scalars import Number
+from .species import Symbols
+from .units import Scale
+
+
+class SourceAtoms(NamedTuple):
+    """The atoms of a source.
+
+    source     the source, or what speaks like `Atoms` of ASE for it
+    frames     the mode of the load, and its body
+    edge       the edge of the box
+    has_motion whether the source may say velocities itself, since no frame of one step before does
+    """
+
+    source: Any
+    frames: xyz.Frames
+    edge: Number
+    has_motion: bool
+
+    def motion(self, scale: Scale) -> Optional[Motion]:
+        """The velocities of the source, rounded. None for atoms at rest, and for two frames."""
+        return motion_of(self.source, self.frames[1], scale) if self.has_motion else None
+
+
+@dataclass(frozen=True)
+class LoadOptions:
+    """The words of a load, as `User.load` has them. Here `continues` is the SHA-256 of the record that the new one continues."""
+
+    edge: Optional[Number] = None
+    before: Any = None
+    pair: bool = False
+    symbols: Symbols = None
+    replace: bool = False
+    order: Optional[str] = None
+    watch: bool = True
+    record: Optional[Path] = None
+    continues: str = ""
+
+    def atoms_of(self, source: Any) -> SourceAtoms:
+        """The atoms of a source. ValueError if nothing says the edge of their box."""
+        source, before = adapted(source), adapted(self.before)
+        frames = xyz.frames_of(source, before, self.symbols, self.pair)
+        edge = xyz.edge_of(source, frames) if self.edge is None else self.edge
+        if edge is None:
+            raise ValueError("edge must be given, got None: the atoms have no Lattice; use edge=.., the edge of the box")
+        return SourceAtoms(source, frames, edge, before is None and not self.pair)

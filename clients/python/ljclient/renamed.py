@@ -1,0 +1,35 @@
+"""Names that version 1.1.0 had, and that are no public ones now: they do the same, and a `DeprecationWarning` says what to write."""
+from __future__ import annotations
+
+import warnings
+from typing import Any, Generic, TypeVar
+
+Value = TypeVar("Value")
+
+
+def warn(old: str, use: str = "", level: int = 3) -> None:
+    """Warns at the line that is so many calls above this one."""
+    warnings.warn(f"{old} is deprecated" + (f": use {use}" if use else ""), DeprecationWarning, stacklevel=level)
+
+
+class Renamed(Generic[Value]):
+    """A member of a class under its old name.
+
+    now  the member that does the same. With `()` behind it the old name was a property, and the member is called
+    use  what the warning says to write, if there is something
+    """
+
+    def __init__(self, now: str, use: str = ""):
+        self._now = now
+        self._use = use
+
+    def __set_name__(self, owner: type, name: str) -> None:
+        self._old = f"{owner.__name__}.{name}"
+
+    def __get__(self, one: Any, kind: Any = None) -> Value:
+        value: Value
+        if one is None:
+            return self  # type: ignore[return-value]
+        warn(self._old, self._use)
+        value = getattr(one, self._now.removesuffix("()"))
+        return value() if self._now.endswith("()") else value  # type: ignore[operator,no-any-return]
