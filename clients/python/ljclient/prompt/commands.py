@@ -166,7 +166,48 @@ class Own(Usage):
     example: Tuple[str, ...] = ()
 
 
-OWN = (
+# What is said in the words of physics. Each example begins with a session as `LOAD` in physical units gives it.
+PHYSICS: Tuple[Own, ...] = (
+    Own(
+        "heat s T [SEED]",
+        "Gives the atoms velocities of a temperature, such as 60K, or 0.5 in epsilon / k_B. They are drawn at random, and the same "
+        "SEED (default: 0) gives the same ones.",
+    ),
+    Own("thermo s", "Measures the temperature and the energies at this step. The step that this takes is undone."),
+    Own("distance s", "Tells how far the atoms are from where they were loaded, round the box the nearer way: root mean square."),
+    Own(
+        "go s STRETCH",
+        "Goes on by a stretch of time.",
+        (
+            "> go a 2steps",
+            "  > ADVANCE a 2",
+            "OK ADVANCE a 2",
+            "  2 steps are 0.0110485 sigma sqrt(m / epsilon)",
+            "  in reduced units, since epsilon= and mass= were not given; use LOAD or `scale` with it",
+        ),
+    ),
+    Own(
+        "back s [STRETCH]",
+        "Goes back to where the session was loaded, or by a stretch of time, on the way that it came: tugs and heat are taken back too.",
+        (
+            *("> ADVANCE a 2", "OK ADVANCE a 2", "> back a", "  > REVERSE a", "OK REVERSE a 1", "  > ADVANCE a 2", "OK ADVANCE a -1"),
+            *("  > REVERSE a", "OK REVERSE a 0", "  a is where it was loaded"),
+        ),
+    ),
+    Own(
+        "undo [s]",
+        "Takes back what the last line has done to a session, or to this one, by the inverse commands: steps, turns, tugs, heat and "
+        "RESTORE. No branch is needed. Said again it takes back the line before that.",
+        (*("> TUG a 0 5 0 0", "OK TUG a 0 0", "> undo", "  taking back `TUG a 0 5 0 0`", "  > TUG a 0 -5 0 0"),),
+    ),
+    Own(
+        "scale s [SCALE]",
+        "Tells what the numbers of a session mean, or says it, as in `scale a edge=21.04 dt=2fs argon`, where somebody else has "
+        "loaded it. What was said is remembered for the next connection to a server.",
+    ),
+)
+
+OWN: Tuple[Own, ...] = (
     Own(
         "LOAD s FILE dt=.. SUBSTANCE [rest|pair]",
         "Loads a file in physical units: the substance is argon, or sigma=, epsilon= and mass=. A number without a unit is in "
@@ -202,7 +243,16 @@ OWN = (
             *("> load_saved a.saved b", "  b goes on at step 0, with 2 atoms"),
         ),
     ),
+    *PHYSICS,
     Own(".read FILE", "Does what each line of a file says, up to one that is refused. What follows ` #` is a comment."),
+    Own(
+        ".lesson FILE [RECORD]",
+        "Goes through a lesson step by step, in the language of its ending, such as examples/lessons/two_atoms.de; alone it shows the "
+        "step again. With RECORD the session of the lesson is recorded, with the answers in RECORD.answers, and `python3 -m "
+        "ljclient check FILE RECORD` marks them.",
+    ),
+    Own(".answer ANSWER", "Answers the question of a step."),
+    Own(".hint", "Tells the hint of a step."),
     Own("help [COMMAND]", "Tells of one command; `help 10` and `help NO_SESSION` of a refusal."),
     Own("exit", "Ends the prompt, as BYE and Ctrl-D do."),
 )
@@ -210,9 +260,9 @@ OWN = (
 WORDS: Dict[str, str] = {
     "s": "the name of a session: 1 to 16 letters, digits, `_` or `-`",
     "b": "the name under which a simulation is saved: 1 to 16 letters, digits, `_` or `-`",
-    "n": "how many steps, from 0 to 1000000",
+    "n": "the number of steps, from 0 to 1000000",
     "i": "the number of an atom, from 0",
-    "dx dy dz": "whole numbers of ring units, 2^-32 of the edge, from -2147483648 to 2147483647",
+    "dx dy dz": "a whole number of ring units each, 2^-32 of the edge, from -2147483648 to 2147483647",
     "edge": "the edge of the box in the unit of the file, from 0.001 to 1000000",
     "sigma": "the distance sigma in the unit of the file, below a fifth of the edge",
     "h": "the step factor, dt^2 epsilon / (m sigma^2) in units of 2^-32: a whole number from 1 to 16777216",
@@ -223,9 +273,15 @@ WORDS: Dict[str, str] = {
     "rest": "`rest` starts at rest, at the first frame; `pair` from two frames one step apart, the earlier one first",
     "count": "how many bytes of XYZ text follow the line",
     "FILE": "a file; in quotes if its name has blanks",
+    "RECORD": "a file to write; a record that it has is replaced",
+    "ANSWER": "a number or one of the choices",
     "i..j": "the numbers of the first atom and of the last one, such as 0..9",
     "dt=..": "the time step in fs, such as dt=2fs",
     "SUBSTANCE": "argon, or sigma=, epsilon= and mass=",
+    "T": "a temperature, such as 60K, or 0.5 in epsilon / k_B",
+    "SEED": "a whole number, the seed of the random velocities",
+    "STRETCH": "a time such as 2ps, 500fs or 100steps; without epsilon and mass a number in sigma sqrt(m / epsilon)",
+    "SCALE": "edge=, dt= and a substance such as argon; or edge=, sigma= and h=",
 }
 
 

@@ -1,4 +1,4 @@
-"""What a word may be completed to: commands, names of sessions and of what is saved, and files."""
+"""Completion of a word: commands, names of sessions and of saved states, and files."""
 from __future__ import annotations
 
 import glob

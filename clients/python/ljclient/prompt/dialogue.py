@@ -1,4 +1,4 @@
-"""The lines of an input, one after the other: each is sent, and its reply is written as it came."""
+"""The dialogue: each line of the input is sent, and its reply is written unchanged."""
 from __future__ import annotations
 
 import contextlib
@@ -6,12 +6,13 @@ import os
 import re
 import time
 import warnings
-from typing import Iterator, List, TextIO, Tuple
+from typing import Callable, Iterator, List, Optional, TextIO, Tuple
 
-from ..errors import ClientError, Refused, printable
+from ..errors import ClientError, Refused, printable, reply_of
 from ..stepping import MAX_STEPS
 from ..interrupts import held
 from ..progress import reporter
+from ..refusals import Syntax
 from ..user import User
 from ..wire import Reply
 from . import loading
@@ -25,13 +26,18 @@ from .physical import file_of
 from .reading import PipeInput, TerminalInput
 from .sessions import asked, in_words, session_of
 from .shapes import usage_for, usages, wrong_words
-from .waiting import Waits
+from .teaching import VERBS, Teaching
+from .waiting import SURE, Waits
+from .words import Words
 
 PATIENCE = 0.5
 STEPS = re.compile(r"[A-Za-z0-9_-]{1,16} [0-9]{1,7}\Z")
 # Of a START by more steps than these, so many are waited for at first.
 FEW_STEPS = 1000
 FIRST_STEPS = 16
+# What takes more seconds than these is asked for.
+LONG = 30.0
+ROWS = 24
 
 
 class Talk:
@@ -42,14 +48,13 @@ class Talk:
         self.out = out
 
     def tell(self, *lines: str) -> None:
-        """Writes lines at once. Bytes of a server or of a file that a terminal would heed are shown, as `printable` does."""
+        """Writes lines at once. Bytes of a server or of a file that a terminal would obey are shown, as `printable` does."""
         self.out.write("".join(printable(line) + "\n" for line in lines))
         self.out.flush()
 
     def show_refusal(self, refusal: Refused) -> None:
         """Writes a refusal as it came."""
-        where = "" if refusal.line is None else f" line {refusal.line}"
-        self.tell(f"ERR {refusal.number:02} {refusal.name}{where}")
+        self.tell(reply_of(refusal))
 
     def ask(self, line: str, body: bytes) -> Reply:
         """The reply to a command. Raises Fault where it cannot be sent."""
@@ -89,6 +94,10 @@ class TerminalTalk(Talk):
     def __init__(self, link: Link, out: TextIO):
         super().__init__(link, out)
         self.waits = Waits(self.note)
+        self.words = Words(self)
+        self.lesson: Optional[Teaching] = None
+        self._lines: Optional[TerminalInput] = None
+        self._user: Optional[User] = None
 
     def note(self, *texts: str) -> None:
         """Tells something beside the replies, in lines that fit the terminal."""
@@ -96,7 +105,7 @@ class TerminalTalk(Talk):
 
     def run(self, lines: TerminalInput) -> int:
         """Does what each line says until the end. Interrupts end nothing here, one while another is told included."""
-        goes_on = True
+        goes_on, self._lines = True, lines
         while goes_on:
             with contextlib.suppress(KeyboardInterrupt):
                 goes_on = self.take_line(lines)
@@ -106,6 +115,7 @@ class TerminalTalk(Talk):
         """Does what the next line says. What goes wrong with it is told. Returns whether the prompt goes on."""
         line = None
         try:
+            self.note(*self.link.news())
             line = lines.line()
             return line is not None and self.perform(line, lines)
         except Fault as fault:
@@ -128,35 +138,105 @@ class TerminalTalk(Talk):
         if verb in ("exit", "quit"):
             return False
         if verb == "help":
-            self.tell(*help_on(" ".join(words[1:]), min(WIDTH, columns_of(self.out))))
+            self.page(help_on(" ".join(words[1:]), min(WIDTH, columns_of(self.out))), lines)
         elif verb == ".read":
             lines.read_file(checked(loading.quoted_words(line), ".read FILE")[1])
+        elif verb in VERBS:
+            self.teach(verb, loading.quoted_words(line))
         elif verb:
             self.send(line, lines)
+            self.note(*(self.lesson.after() if self.lesson else []))
         return words != ["BYE"]
+
+    def teach(self, verb: str, words: List[str]) -> None:
+        """Begins a lesson, shows its step, or takes an answer to its question."""
+        if verb == ".lesson" and len(words) > 1:
+            checked(words, ".lesson FILE [RECORD]")
+            self.lesson = Teaching(words[1], words[2] if len(words) > 2 else None, self.link.page)
+            self.words.hears(self.ready(), self.lesson.session, self.lesson)
+        if self.lesson is None:
+            raise Fault("cannot do that: no lesson is begun; use `.lesson FILE`, such as examples/lessons/two_atoms.en")
+        if verb == ".answer":
+            self.note(*self.lesson.answer(" ".join(words[1:])))
+        else:
+            self.note(*(self.lesson.hint() if verb == ".hint" else self.lesson.shown()))
 
     def send(self, line: str, lines: TerminalInput) -> None:
         """Sends a command, and shows what it is answered."""
-        deed, path, body = deed_of(line), "", b""
+        deed, path, body = deed_of(line) or self.words.deed_of(line), "", b""
         sent = line
         if deed is None:
-            sent, body, path = with_file(line)
+            sent, body, path = with_file(line, lambda named: self.lesson.path_of(named) if self.lesson else named)
             if loading.is_load(line) and not path:
                 body = typed_body(line, lines)
-        user = self.link.ready()
-        self.note(*lost(self.link.lost()))
+        user = self.ready()
         with self.warnings_told():
             try:
-                with self.waits.during(user, line, is_one=deed is None):
+                with self.waits.during(user, line, is_one=deed is None), self.followed(user, line):
                     told = deed(user) if deed else self.answer(user, sent, body)
                 for text in told:
                     (self.note if text.startswith("  ") else self.tell)(text)
             except Refused as refusal:
-                self.show_refusal(refusal)
                 if deed:
                     path, body = file_of(line)
-                self.note(*explained(refusal, user, path, body), *lines.stop_files())
+                self.refused(refusal, explained(refusal, user, path, body))
+                self.note(*lines.stop_files())
                 self.tell_end()
+
+    def ready(self) -> User:
+        """The user, over a new connection where the one before has ended: what this prompt knows of its sessions goes on there."""
+        user = self.link.ready()
+        if user is not self._user:
+            self._user = user
+            if self.link.page is not None:
+                self.link.page.renew()
+            self.words.listen(user, self.link.page)
+            if self.lesson is not None:
+                self.words.hears(user, self.lesson.session, self.lesson)
+        self.note(*lost(self.link.lost()))
+        return user
+
+    @contextlib.contextmanager
+    def followed(self, user: User, line: str) -> Iterator[None]:
+        """Follows what a line does to sessions. Of a word that is broken off within, what was sent is told."""
+        self.note(*self.words.begin(user, line))
+        try:
+            yield
+        except BaseException as error:
+            self.words.broken_off(line, error)
+            if not user.unanswered:
+                self.words.end(user, line)
+            raise
+        self.words.end(user, line)
+
+    def refused(self, refusal: Refused, words: List[str]) -> None:
+        """Tells a refusal. What is wrong with a line itself comes first, and the code behind it."""
+        if isinstance(refusal, Syntax):
+            self.note(*words)
+        self.show_refusal(refusal)
+        if not isinstance(refusal, Syntax):
+            self.note(*words)
+
+    def page(self, told: List[str], lines: TerminalInput) -> None:
+        """Tells some lines, as many at a time as the screen has."""
+        rows = max(rows_of(self.out) - 2, 1)
+        pages = [told] if lines.is_script or len(told) <= rows + 1 else [told[at : at + rows] for at in range(0, len(told), rows)]
+        for number, page in enumerate(pages):
+            if number and lines.asked("-- more: Enter goes on, q ends it -- ") in ("q", "quit"):
+                return
+            self.tell(*page)
+
+    def may_take(self, name: str, steps: int) -> bool:
+        """Whether so many steps are made. Somebody at the terminal is asked if they take long, by the rate seen so far."""
+        seconds = self.waits.seconds_of(name, steps)
+        if seconds > LONG and self._lines is not None and not self._lines.is_script:
+            self.note(f"{steps} steps of {name} take about {duration(seconds)}, by the rate seen so far")
+            if self._lines.asked("  go on? (y/n) ") not in ("y", "yes"):
+                self.note("not begun")
+                return False
+        if self._user is not None:
+            self.words.goes(self._user, name, steps)
+        return True
 
     @contextlib.contextmanager
     def warnings_told(self) -> Iterator[None]:
@@ -166,13 +246,13 @@ class TerminalTalk(Talk):
             yield
         self.note(*(f"warning: {warning.message}" for warning in caught))
 
-    def answer(self, user: User, line: str, body: bytes) -> List[str]:
-        """Asks for the reply to a command, and returns its lines."""
+    def answer(self, user: User, line: str, body: bytes, is_plan: bool = False) -> List[str]:
+        """Asks for the reply to a command, and returns its lines. Nobody is asked for a plan of several whether it may take long."""
         words = words_of(line)
         if are_steps("ADVANCE", words):
-            return self.advance(user, *words[1:])
+            return self.advance(user, words[1], words[2], is_plan) if is_plan or self.may_take(words[1], int(words[2])) else []
         if are_steps("START", words):
-            return self.start(user, *words[1:])
+            return self.start(user, *words[1:]) if self.may_take(words[1], int(words[2])) else []
         try:
             reply = asked(user, line, body)
         except ValueError as error:
@@ -185,9 +265,9 @@ class TerminalTalk(Talk):
         if self.link.user.closed:
             self.note(self.link.after_end)
 
-    def advance(self, user: User, name: str, steps: str) -> List[str]:
+    def advance(self, user: User, name: str, steps: str, is_plan: bool = False) -> List[str]:
         """Goes on by some steps, with a bar if it takes a while. An interrupt from the keyboard ends it after a piece, unless
-        steps were started before: these are waited for first."""
+        steps were started before: these are waited for first. It ends a plan of several commands too."""
         before, told = time.monotonic(), []
         try:
             with reporter(True, name, delay=PATIENCE) as report:
@@ -197,21 +277,37 @@ class TerminalTalk(Talk):
             if user.unanswered and self.waits.are_started(name):
                 raise
             told = ["", "  interrupted: this is where it has come to"]
-            step = session_of(user, name).step
+            step = session_of(user, name).get_step()
         self.waits.note_answer(f"ADVANCE {name}")
+        if told and is_plan:
+            self.tell(*told, f"OK ADVANCE {name} {step}")
+            raise KeyboardInterrupt
         return [*told, f"OK ADVANCE {name} {step}"]
 
     def start(self, user: User, name: str, steps: str) -> List[str]:
         """Begins to go on by some steps. The first ones of many are waited for, so that the time of a step is known."""
-        total = left = int(steps)
+        total, made = int(steps), 0
         if total > FEW_STEPS and not self.waits.knows_pace(name):
-            before, known, left = time.monotonic(), user.known(name), 0
-            user.ask_all([f"ADVANCE {name} {FIRST_STEPS}", f"START {name} {total - FIRST_STEPS}"])
-            known.gone, known.watch.gone = known.gone + total, known.watch.gone + total
-            self.waits.note_pace(name, FIRST_STEPS, time.monotonic() - before)
-        target = session_of(user, name).start(left)
-        self.waits.note_start(name, left or total - FIRST_STEPS, target)
+            made = self.tried(user, name, total)
+            if not self.may_take(name, total - made):
+                self.note(f"{made} steps were made to see how long a step takes: `undo` takes them back")
+                return []
+        target = session_of(user, name).start(total - made)
+        self.waits.note_start(name, total - made, target)
         return [f"OK START {name} {target}"]
+
+    def tried(self, user: User, name: str, total: int) -> int:
+        """Makes the first of so many steps, until all take no long time or it is sure how long. Returns how many were made."""
+        made, piece, is_known = 0, FIRST_STEPS, False
+        while not is_known and made + piece < total:
+            before = time.monotonic()
+            session_of(user, name).advance(piece, progress=False)
+            seconds = time.monotonic() - before
+            self.waits.note_pace(name, piece, seconds)
+            made += piece
+            is_known = seconds >= SURE or seconds / piece * (total - made) < LONG
+            piece *= 4
+        return made
 
 
 def lines_of(reply: Reply) -> List[str]:
@@ -229,13 +325,15 @@ def are_steps(verb: str, words: List[str]) -> bool:
     return words[:1] == [verb] and STEPS.match(" ".join(words[1:])) is not None and int(words[-1]) <= MAX_STEPS
 
 
-def with_file(line: str) -> Tuple[str, bytes, str]:
-    """The command of the protocol for a line that loads a file, the body, and the path; any other line without them."""
+def with_file(line: str, path_of: Callable[[str], str] = str) -> Tuple[str, bytes, str]:
+    """The command of the protocol for a line that loads a file, the body, and the path; any other line without them. `path_of` is
+    where a file is that the line names."""
     load = loading.from_file(line)
     if load is None:
         return line, b"", ""
-    body = loading.read_body(load.path)
-    return loading.line_of(load, body), body, load.path
+    path = path_of(load.path)
+    body = loading.read_body(path)
+    return loading.line_of(load, body), body, path
 
 
 def typed_body(line: str, lines: TerminalInput) -> bytes:
@@ -243,8 +341,8 @@ def typed_body(line: str, lines: TerminalInput) -> bytes:
     if not loading.is_whole(line):
         words = loading.quoted_words(line)
         wrong = [str(each) for each in wrong_words(words, usage_for(words))[:1]]
-        said = f"a LOAD is said as {' or as '.join(f'`{usage}`' for usage in usages(words[0]))}"
-        raise Fault("; ".join([said, *wrong]))
+        use = f"use {' or '.join(f'`{usage}`' for usage in usages(words[0]))}"
+        raise Fault("; ".join([*wrong, use]))
     return lines.body(loading.size_of_body(line))
 
 
@@ -254,6 +352,20 @@ def in_capitals(line: str) -> str:
     if not words or words[0].upper() not in names():
         return line
     return line.replace(words[0], words[0].upper(), 1)
+
+
+def duration(seconds: float) -> str:
+    """A time that something takes, in the unit that fits."""
+    unit, name = next((size, name) for size, name in ((3600, "h"), (60, "min"), (1, "s")) if seconds >= 2 * size or size == 1)
+    return f"{seconds / unit:.0f} {name}"
+
+
+def rows_of(out: TextIO) -> int:
+    """How many rows the terminal has."""
+    try:
+        return os.get_terminal_size(out.fileno()).lines or ROWS
+    except (OSError, ValueError):
+        return ROWS
 
 
 def columns_of(out: TextIO) -> int:

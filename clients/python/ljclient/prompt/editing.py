@@ -10,6 +10,7 @@ import sys
 import textwrap
 from typing import Any, AsyncIterator, Callable, Iterator, List, Optional, Tuple
 
+from ..errors import printable
 from ..user import User
 from ..wire import MAX_COMMAND
 from . import hinting
@@ -28,6 +29,7 @@ termios: Any = importlib.import_module("termios") if importlib.util.find_spec("t
 
 STYLE = {"hint": "ansibrightblack", "bottom-toolbar": "noreverse ansibrightblack", "wrong": "ansired underline"}
 MAX_TOLD = 3
+SECONDS_BETWEEN_LOOKS = 0.5
 
 
 class History(history.History):  # type: ignore[misc]
@@ -91,10 +93,10 @@ def marked(text: str, place: int) -> List[Tuple[str, str]]:
 
 
 class Editor:
-    """Reads lines at a terminal."""
+    """Reads lines at a terminal. `line` is a text of the teacher, which is shown below them."""
 
-    def __init__(self, lines: Lines, user: Callable[[], Optional[User]]):
-        self._lines = lines
+    def __init__(self, lines: Lines, user: Callable[[], Optional[User]], line: Optional[Callable[[], str]] = None):
+        self._lines, self._line = lines, line
         hint = processors.AfterInput(lambda: [("class:hint", hinting.words_to_come(self._typed()))])
         at_end = filters.Condition(lambda: self._session.default_buffer.document.is_cursor_at_the_end)
         self._session: Any = shortcuts.PromptSession(
@@ -104,7 +106,8 @@ class Editor:
             complete_style=shortcuts.CompleteStyle.READLINE_LIKE,
             lexer=Lexer(),
             input_processors=[processors.ConditionalProcessor(hint, ~filters.is_done & at_end)],
-            bottom_toolbar=lambda: told(hinting.told(self._typed())),
+            bottom_toolbar=self._below,
+            refresh_interval=0 if line is None else SECONDS_BETWEEN_LOOKS,
             style=styles.Style.from_dict(STYLE),
             enable_suspend=True,
             reserve_space_for_menu=0,
@@ -134,6 +137,11 @@ class Editor:
 
     def remember(self, line: str) -> None:
         self._lines.add(line)
+
+    def _below(self) -> str:
+        """What is shown below the line."""
+        line = "" if self._line is None else printable(self._line())
+        return "\n".join(filter(None, [told(hinting.told(self._typed())), line and told(f"the teacher: {line}")]))
 
     def _typed(self) -> str:
         """The line as far as it is typed; nothing of a text that was pasted, or of what is too long for a command."""

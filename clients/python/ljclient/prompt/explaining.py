@@ -1,4 +1,4 @@
-"""Refusals in words: what each means, and what there is in place of what was asked for."""
+"""Refusals in words: what each means, and what exists instead."""
 from __future__ import annotations
 
 from typing import List
@@ -21,9 +21,10 @@ def explained(refusal: Refused, user: User, path: str = "", body: bytes = b"") -
     lines = [refusal.meaning or "a refusal that this client does not know"]
     words = words_of(refusal.command)
     if isinstance(refusal, OF_A_WORD) and words:
-        lines += [str(wrong) for wrong in wrong_words(words, usage_for(words))[:1]]
+        wrong = [str(each) for each in wrong_words(words, usage_for(words))[:1]]
+        lines = wrong if wrong and isinstance(refusal, Syntax) else lines + wrong
     if isinstance(refusal, Syntax) and words:
-        lines += [f"as it should be: {usage}" for usage in usages(words[0])]
+        lines += [f"use `{usage}`" for usage in usages(words[0])]
     if isinstance(refusal, Command) and words:
         lines += meant(words[0])
     if refusal.line is not None:
@@ -50,7 +51,7 @@ def meant(word: str) -> List[str]:
 
 
 def faulty_line(number: int, path: str, body: bytes) -> str:
-    """The line of an XYZ text that is at fault."""
+    """The line of an XYZ text that is wrong."""
     texts = body.split(b"\n")
     where = f"{path}, line {number}" if path else f"line {number} of the text"
     if number > len(texts) or (number == len(texts) and not texts[-1]):
@@ -65,11 +66,11 @@ def there_is(refusal: Refused, user: User, words: List[str]) -> List[str]:
     if isinstance(refusal, NoSession):
         return [listed("sessions", [row.name for row in user.sessions()])]
     if isinstance(refusal, Exists):
-        return [f"`DROP {words[1]}` gives it up, or say another name"]
+        return [f"use `DROP {words[1]}`, or another name"]
     if isinstance(refusal, (NoBranch, BranchExists)):
         return [listed(f"saved in {words[1]}", [saved.name for saved in user.session(words[1]).saved()])]
     if isinstance(refusal, NoAtom):
-        return [f"{words[1]} has the atoms 0 to {user.row(words[1]).atoms - 1}"]
+        return [f"{words[1]} has the atoms 0 to {user._row(words[1]).atoms - 1}"]
     return []
 
 

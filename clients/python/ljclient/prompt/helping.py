@@ -1,4 +1,4 @@
-"""What `help` tells: of all commands, of one, or of a refusal."""
+"""The text of `help`: of all commands, of one, or of a refusal."""
 from __future__ import annotations
 
 import textwrap
@@ -6,12 +6,13 @@ from typing import List, Optional, Tuple
 
 from .. import refusals  # noqa: F401 (it fills the table of refusals)
 from ..errors import Refused
-from .commands import COMMANDS, OWN, Command, Own, forms_of, own_of, words_of
+from .commands import Command, Own, forms_of, own_of, words_of
 from .explaining import meant
+from .groups import GROUPS
 
 WIDTH = 100
-INDENT = " " * 15
 KEYS = (
+    "`help ADVANCE` tells all of one, with an example.",
     "Tab completes commands, names and files. The arrow keys go through what was typed before.",
     "Ctrl-C ends a long ADVANCE after a piece. Commands may be typed in small letters.",
 )
@@ -30,13 +31,11 @@ def help_on(word: str, width: int = WIDTH) -> List[str]:
 
 
 def overview(width: int) -> List[str]:
-    """A line for each form of each command."""
-    rows = [(command.with_file or command.usage, command.does) for command in COMMANDS]
+    """A line for each that may be said, in groups."""
     lines: List[str] = []
-    for usage, does in [*rows, *((own.usage, own.does) for own in OWN)]:
-        is_short = len(usage) < len(INDENT)
-        lines += [] if is_short else wrapped(usage, "", "  ", width)
-        lines += wrapped(does, usage.ljust(len(INDENT)) if is_short else INDENT, INDENT, width)
+    for title, rows in GROUPS:
+        lines += ["", title] if lines else [title]
+        lines += [line for usage, does in rows for line in wrapped(does, f"  {usage:<25} ", " " * 28, width)]
     return [*lines, "", *(line for text in KEYS for line in wrapped(text, "", "", width))]
 
 

@@ -1,4 +1,4 @@
-"""What is told of a line as it is typed: the words to come, and what the word at its end means or which one is wrong."""
+"""Hints for a line as it is typed: the words to come, what the last word means, and which word is wrong."""
 from __future__ import annotations
 
 from typing import List, Optional

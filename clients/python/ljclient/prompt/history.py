@@ -1,4 +1,4 @@
-"""What was typed before: kept in a file from one time to the next, but for lines that have a token."""
+"""The history of typed lines, kept in a file, without lines that have a token."""
 from __future__ import annotations
 
 import os
@@ -33,7 +33,7 @@ def has_token(line: str) -> bool:
 
 
 def read_lines(path: str) -> List[str]:
-    """The last lines of a file; none if it cannot be read. A file that has grown long is written anew with these."""
+    """The last lines of a file; none if it cannot be read. A file that has grown long is written again with these."""
     try:
         with open_regular(path, os.O_RDONLY) as file:
             text = file.read()
@@ -60,7 +60,7 @@ def open_regular(path: str, flags: int) -> IO[bytes]:
     descriptor = os.open(path, flags | os.O_NONBLOCK, 0o600)
     if not stat.S_ISREG(os.fstat(descriptor).st_mode):
         os.close(descriptor)
-        raise OSError("no regular file")
+        raise OSError("it is not a regular file")
     return open(descriptor, "rb" if flags & os.O_ACCMODE == os.O_RDONLY else "wb")
 
 

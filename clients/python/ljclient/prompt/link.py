@@ -1,18 +1,21 @@
-"""The connection of a prompt, which is made anew where it has ended."""
+"""The connection of a prompt, which is made again if it has ended."""
 from __future__ import annotations
 
-from typing import Callable, List, Optional, Set
+from typing import TYPE_CHECKING, Callable, List, Optional, Set
 
 from ..user import User
 
+if TYPE_CHECKING:
+    from .class_page import ClassPage
+
 
 class Link:
-    """A user's connection to a server, or to a program of its own."""
+    """A user's connection to a server, or to a program of its own; and the page of a class, if the server is that of one."""
 
-    def __init__(self, open_user: Callable[[], User], after_end: str):
+    def __init__(self, open_user: Callable[[], User], after_end: str, page: Optional[ClassPage] = None):
         self._open = open_user
         self.user = open_user()
-        self.after_end = after_end
+        self.after_end, self.page = after_end, page
         self._had: Set[str] = set()
         self._lost: List[str] = []
 
@@ -33,7 +36,15 @@ class Link:
 
     def settled_user(self) -> Optional[User]:
         """The user, where no reply is awaited that nobody came for: it can be asked without a wait."""
-        return self.user if self.user.is_free else None
+        return self.user if self.user._is_free else None
+
+    def news(self) -> List[str]:
+        """What the page of the class has to be told of."""
+        return [] if self.page is None else self.page.news()
+
+    def line(self) -> str:
+        """The text of the teacher that is shown now."""
+        return "" if self.page is None else self.page.line
 
     def close(self) -> None:
         """Takes leave."""

@@ -91,7 +91,7 @@ def read_body(path: str) -> bytes:
     except OSError as error:
         raise Fault(f"cannot read {path}: {error.strerror or error}") from error
     if len(body) > MAX_BYTES:
-        raise Fault(f"{path} has more than {MAX_BYTES} bytes, which is the most that the server takes")
+        raise Fault(f"cannot load {path}: it has more than {MAX_BYTES} bytes, the most that the server takes")
     return body
 
 

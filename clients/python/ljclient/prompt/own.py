@@ -1,4 +1,4 @@
-"""What is said at the prompt alone: many atoms in one SHOW, frames in files, and simulations saved in files."""
+"""Commands of the prompt alone: many atoms in one SHOW, frames in files, and simulations saved in files."""
 from __future__ import annotations
 
 import functools
@@ -18,7 +18,7 @@ Deed = Callable[[User], List[str]]
 
 
 def deed_of(line: str) -> Optional[Deed]:
-    """What a line asks for, if it is said at the prompt alone. Raises Fault if it is not said as it should be."""
+    """What a line asks for, if it is said at the prompt alone. Raises Fault if its words are wrong."""
     words = quoted_words(line)
     if load := load_of(line):
         return load.perform
@@ -37,9 +37,9 @@ def spread(words: List[str]) -> List[str]:
 
 
 def checked(words: List[str], usage: str) -> List[str]:
-    """These words. Raises Fault, which names the word that is wrong, if they are not of this usage."""
+    """These words. Raises Fault, which shows the wrong word, if they do not fit this usage."""
     if wrong := wrong_words(words, usage):
-        raise Fault(f"{wrong[0]}; it is said as `{usage}`")
+        raise Fault(f"{wrong[0]}; use `{usage}`")
     return words
 
 
@@ -67,9 +67,9 @@ def show(user: User, words: List[str]) -> List[str]:
     _, name, atoms = words
     first, last = map(int, atoms.split(".."))
     if first > last:
-        raise Fault(f"`{atoms}`: the first atom is not after the last one")
+        raise Fault(f"the first atom must not be after the last one, got `{atoms}`")
     session = session_of(user, name)
-    if last >= session.atoms:
+    if last >= session.n_atoms:
         raise NoAtom(f"SHOW {name} {last}")
     order = session.order
     replies = user.ask_all([f"SHOW {name} {order.number_of(atom)}" for atom in range(first, last + 1)])
@@ -81,13 +81,13 @@ def save(user: User, words: List[str]) -> List[str]:
     """Writes a whole simulation into a file."""
     checked(words[:3], "save s FILE")
     _, name, path, *said = words
-    row = user.row(name)
+    row = user._row(name)
     try:
         if said:
             user.session(name, **scale_of(said))
-        elif user.known(name).scale is None:
+        elif user._known_of(name).scale is None:
             example = f"`save {name} {path} edge=21.04 dt=2fs argon`"
-            raise Fault(f"the scale of {name} is not known here: say it too, as in {example}, or with edge=, sigma= and h=")
+            raise Fault(f"cannot save {name}: its scale is not known here; use {example}, or edge=, sigma= and h=")
         session_of(user, name).save(os.path.expanduser(path))
     except OSError as error:
         raise Fault(f"cannot write {path}: {error.strerror or error}") from error
@@ -104,7 +104,7 @@ def load_saved(user: User, words: List[str]) -> List[str]:
         session = user.load_saved(os.path.expanduser(words[1]), *words[2:])
     except OSError as error:
         raise Fault(f"cannot read {words[1]}: {error.strerror or error}") from error
-    row = user.row(session.name)
+    row = user._row(session.name)
     return [f"  {row.name} goes on at step {row.step}, with {row.atoms} atoms"]
 
 

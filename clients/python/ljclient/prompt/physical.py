@@ -1,4 +1,4 @@
-"""What is said in physical units: `LOAD a argon.xyz edge=21.04 dt=10fs argon`."""
+"""LOAD in physical units: `LOAD a argon.xyz edge=21.04 dt=10fs argon`."""
 from __future__ import annotations
 
 import os
@@ -26,7 +26,9 @@ TIMES = {"": units.femtosecond, "fs": units.femtosecond, "ps": units.picosecond}
 UNITS = {"edge": LENGTHS, "sigma": LENGTHS, "epsilon": ENERGIES, "mass": MASSES, "dt": TIMES, "h": {"": 1.0}}
 QUANTITY = re.compile(r"([+-]?(?:[0-9]+\.?[0-9]*|\.[0-9]+)(?:[eE][+-]?[0-9]+)?)(.*)\Z")
 SYMBOLS = "symbols="
-WANTED = "say the time step and the substance, as in `dt=2fs argon`, or sigma=, epsilon=, mass= and dt=, or sigma= and h="
+WANTED = (
+    "the time step and the substance must be given; use them as in `dt=2fs argon`, or sigma=, epsilon=, mass= and dt=, or sigma= and h="
+)
 
 
 class PhysicalLoad(NamedTuple):
@@ -45,7 +47,7 @@ class PhysicalLoad(NamedTuple):
             raise Fault(f"cannot read {self.path}: {error.strerror or error}") from error
         except (TypeError, ValueError) as error:
             raise Fault(str(error)) from error
-        return [f"OK LOAD {self.name} 0 {session.atoms}", *about(session)]
+        return [f"OK LOAD {self.name} 0 {session.n_atoms}", *about(session)]
 
 
 def substances() -> Dict[str, Dict[str, Any]]:
@@ -55,7 +57,7 @@ def substances() -> Dict[str, Dict[str, Any]]:
 
 
 def load_of(line: str) -> Optional[PhysicalLoad]:
-    """What a LOAD in physical units says. None of any other line. Raises Fault for a word that is none."""
+    """What a LOAD in physical units says. None of any other line. Raises Fault for another word."""
     words = quoted_words(line)
     if words[:1] != ["LOAD"] or len(words) < 4 or not any(is_physical(word) for word in words[3:]):
         return None
@@ -64,7 +66,7 @@ def load_of(line: str) -> Optional[PhysicalLoad]:
     symbols = [word.partition("=")[2] for word in rest if word.startswith(SYMBOLS)]
     said = scale_of([word for word in rest if not word.startswith(SYMBOLS)])
     if symbols and not SYMBOL.match(symbols[-1]):
-        raise Fault(f"`{SYMBOLS}{symbols[-1]}`: the symbol of all atoms comes behind {SYMBOLS}, 1 to 16 printing characters")
+        raise Fault(f"{SYMBOLS} must be one symbol for all atoms, 1 to 16 printing characters, got `{symbols[-1]}`")
     return PhysicalLoad(words[1], words[2], mode == "pair", {**said, "symbols": symbols[-1]} if symbols else said)
 
 
@@ -80,7 +82,7 @@ def is_physical(word: str) -> bool:
 
 
 def scale_of(words: Sequence[str]) -> Dict[str, Any]:
-    """The words of `User.load` that these say. Raises Fault for one that is none."""
+    """The words of `User.load` that these say. Raises Fault for another word."""
     said: Dict[str, Any] = {}
     for word in words:
         said.update(substances().get(word.lower()) or quantity_of(word))
@@ -94,14 +96,14 @@ def quantity_of(word: str) -> Dict[str, Any]:
     name, has_name, text = word.partition("=")
     if not has_name or name not in UNITS:
         known = ", ".join([*(f"{each}=" for each in UNITS), *substances()])
-        raise Fault(f"`{word}` is none of {known}, `rest` and `pair`")
+        raise Fault(f"a word of the scale must be one of {known}, `rest` and `pair`, got `{word}`")
     found = QUANTITY.match(text)
     if found is None or found[2] not in UNITS[name]:
         known = " or ".join(each for each in UNITS[name] if each)
-        raise Fault(f"`{word}`: a number comes behind {name}=" + (f", and {known} may follow it" if known else ""))
+        raise Fault(f"{name}= must be followed by a number{f', which {known} may follow' if known else ''}, got `{text}`")
     if name == "h":
         if not found[1].isdecimal():
-            raise Fault(f"`{word}`: h is a whole number")
+            raise Fault(f"h must be a whole number, got `{text}`")
         return {name: int(found[1])}
     number, unit = float(found[1]), UNITS[name][found[2]]
     return {name: number if unit == 1 else number * unit}

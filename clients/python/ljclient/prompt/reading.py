@@ -9,6 +9,7 @@ import sys
 from collections import deque
 from typing import BinaryIO, Callable, ContextManager, Deque, List, Optional, Protocol
 
+from ..errors import printable
 from .loading import Fault
 
 MAX_BYTES_OF_LINE = 65_536
@@ -30,13 +31,13 @@ class PipeInput:
         try:
             return (line[:-1] if line.endswith(b"\n") else line).decode()
         except UnicodeDecodeError as error:
-            raise Fault(f"a line is no text: {line[:40]!r}") from error
+            raise Fault(f"a line must be UTF-8 text, got {line[:40]!r}") from error
 
     def body(self, size: int) -> bytes:
         """The bytes that follow the line."""
         body = self._stream.read(size)
         if len(body) < size:
-            raise Fault(f"the input has ended after {len(body)} of {size} bytes of the text")
+            raise Fault(f"the text after a LOAD must have {size} bytes, got {len(body)} before the end of the input")
         return body
 
 
@@ -57,26 +58,30 @@ class Reader(Protocol):
 
 
 class PlainReader:
-    """Lines as the terminal itself has them edited: without hints, completion and history."""
+    """Lines as the terminal itself has them edited: without hints, completion and history. `news` is what is told meanwhile."""
+
+    def __init__(self, news: Callable[[], List[str]] = list):
+        self._news = news
 
     def begun(self) -> ContextManager[None]:
         return contextlib.nullcontext()
 
     def command(self, prompt: str) -> str:
-        return line_at_terminal(prompt)
+        return line_at_terminal(prompt, self._news)
 
     def text(self, prompt: str) -> str:
-        return line_at_terminal(prompt)
+        return line_at_terminal(prompt, list)
 
     def remember(self, line: str) -> None:
         pass
 
 
-def line_at_terminal(prompt: str) -> str:
+def line_at_terminal(prompt: str, news: Callable[[], List[str]]) -> str:
     """The next line of a terminal. `input` alone sees an interrupt that comes just before it reads only behind the line."""
     print(prompt, end="", flush=True)
     while os.name == "posix" and not select.select([sys.stdin], [], [], TICK_SECONDS)[0]:
-        pass
+        if told := news():
+            print("", *(f"  {printable(text)}" for text in told), prompt, sep="\n", end="", flush=True)
     return input()
 
 
@@ -137,15 +142,29 @@ class TerminalInput:
             try:
                 body += self._next(self._reader.text, f"{size - len(body)} bytes more> ").encode() + b"\n"
             except EOFError:
-                raise Fault("the text is not whole") from None
+                raise Fault(f"the text after a LOAD must have {size} bytes, got {len(body)} before the end of the input") from None
         if rest := body[size:].decode(errors="replace").rstrip("\n"):
             self._pasted.appendleft(rest)
         return body[:size]
 
+    @property
+    def is_script(self) -> bool:
+        """Whether the lines come from a file, so that nobody is there to be asked."""
+        return bool(self._files)
+
+    def asked(self, question: str) -> str:
+        """What somebody at the terminal answers, without blanks and in small letters; nothing at the end of the input."""
+        try:
+            return self._reader.text(question).strip().lower()
+        except EOFError:
+            return ""
+
     def read_file(self, path: str) -> None:
         """Takes the next lines from a file. Raises Fault if that cannot be, or if files read one another without an end."""
         if len(self._files) == MAX_FILES:
-            raise Fault(f"{path} would be the {MAX_FILES + 1}th file that is read by another one")
+            raise Fault(
+                f"cannot read {path}: it would be file {MAX_FILES + 1} of files that read one another, of which {MAX_FILES} are the most"
+            )
         self._files.append(FileLines(path))
 
     def stop_files(self) -> List[str]:

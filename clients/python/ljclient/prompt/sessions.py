@@ -1,4 +1,4 @@
-"""What the prompt knows of sessions: the scales that were typed, and numbers of atoms and steps that are not the server's."""
+"""What the prompt knows of sessions: their scales, and numbers of atoms and steps that differ from the server's."""
 from __future__ import annotations
 
 from typing import List
@@ -24,7 +24,7 @@ ATOM_AT = {"SHOW": 3, "TUG": 2}
 
 def session_of(user: User, name: str) -> Session:
     """A session with what is known of it. Whether it is there the server says."""
-    known = user.known(name)
+    known = user._known_of(name)
     return Session(user, name, known.scale, known.mixture)
 
 
@@ -34,7 +34,11 @@ def asked(user: User, line: str, body: bytes = b"") -> Reply:
     verb = words[0] if words else ""
     if verb in ("LOAD", "LOADMIX"):
         reply = user.ask(line, body)
-        note_scale(user, words, body)
+        note_scale(user, words)
+        known = user._known_of(words[1])
+        if known.scale is not None:
+            warn_of_close_atoms((words[-2], body), known.scale, known.mixture)
+            warn_of_large_steps(known.scale, known.mixture)
         return reply
     if verb == "LIST" or not is_whole(words):
         return listed(user, words) if words in (["LIST"], ["LIST", *words[1:2]]) else user.ask(line, body)
@@ -57,7 +61,7 @@ def of_session(user: User, words: List[str]) -> Reply:
     if verb in ATOM_AT and SHAPES["i"](rest[1]):
         rest[1] = str(session.order.number_of(int(rest[1])))
     reply = user.ask(" ".join([verb, *rest]))
-    known = user.known(session.name)
+    known = user._known_of(session.name)
     if verb == "BRANCH":
         known.branches[rest[1]] = known.order
     elif verb == "RESTORE":
@@ -95,9 +99,9 @@ def listed(user: User, words: List[str]) -> Reply:
     return Reply([*words, str(len(rows))], rows)
 
 
-def note_scale(user: User, words: List[str], body: bytes) -> None:
-    """Notes the scale that a LOAD or LOADMIX has said, for `save`, and warns as `User.load` does."""
-    known, mixture = user.known(words[1]), None
+def note_scale(user: User, words: List[str]) -> None:
+    """Notes the scale that a LOAD or LOADMIX has said, for `save`."""
+    known, mixture = user._known_of(words[1]), None
     if words[0] == "LOAD":
         scale = Scale.of(words[2], words[3], int(words[4]))
     else:
@@ -106,13 +110,11 @@ def note_scale(user: User, words: List[str], body: bytes) -> None:
         mixture = Mixture.of(edge, (first, second), classes=classes)
         scale = mixture.scale
     known.scale, known.mixture = scale, mixture
-    warn_of_close_atoms((words[-2], body), scale, mixture)
-    warn_of_large_steps(scale, mixture)
 
 
 def in_words(user: User, reply: Reply) -> List[str]:
     """What a measurement means in physics, if the scale of the session is known."""
-    scale = user.known(reply.words[1]).scale
+    scale = user._known_of(reply.words[1]).scale
     if not can_be_measured(scale):
         return []
     told = Measurement.of(reply.words[2:], scale)

@@ -1,4 +1,4 @@
-"""The shapes of words: which word of a line is wrong, and which form of a command a line has."""
+"""The form of words: which word of a line is wrong, and which form of a command a line has."""
 from __future__ import annotations
 
 import re
@@ -11,6 +11,7 @@ from .commands import MODES, OWN, WORDS, forms_of
 DECIMAL = re.compile(r"(?=.{1,40}\Z)[+-]?([0-9]+\.?[0-9]*|\.[0-9]+)([eEdD][+-]?[0-9]{1,3})?\Z")
 WHOLE = re.compile(r"[0-9]{1,19}\Z")
 DISPLACEMENT = re.compile(r"-?[0-9]{1,19}\Z")
+QUANTITY = re.compile(r"((?:[0-9]{1,18}(?:\.[0-9]*)?|\.[0-9]+)(?:[eE][+-]?[0-9]{1,2})?)([A-Za-z]*)\Z")
 RANGE = re.compile(r"([0-9]{1,19})\.\.([0-9]{1,19})\Z")
 COUNT = re.compile(r"[0-9]{1,7}\Z")
 Fits = Callable[[str], bool]
@@ -30,8 +31,10 @@ class WrongWord(NamedTuple):
     def __str__(self) -> str:
         if not self.kind:
             return f"`{self.word}` is a word too many"
-        what = f"{self.kind}, {meaning}" if (meaning := meaning_of(self.kind)) else self.kind
-        return f"`{self.word}` is not {what}" if self.word else f"missing: {what}"
+        kind, meaning = self.kind.strip("[]"), meaning_of(self.kind)
+        if not self.word:
+            return f"missing: {kind}, {meaning}" if meaning else f"missing: {kind}"
+        return f"{kind} must be {meaning}, got `{self.word}`" if meaning else f"`{kind}` must stand in place of `{self.word}`"
 
 
 def whole(low: int, high: int) -> Fits:
@@ -55,6 +58,12 @@ def is_count(word: str) -> bool:
     return COUNT.match(word) is not None and int(word) <= MAX_BYTES
 
 
+def has_unit(word: str, units: Sequence[str]) -> bool:
+    """Whether a word is a number from 0 on with one of these units."""
+    found = QUANTITY.match(word)
+    return found is not None and found[2] in units
+
+
 SHAPES: Dict[str, Fits] = {
     **dict.fromkeys(("s", "b"), lambda word: NAME.match(word) is not None),
     **dict.fromkeys(("P", "Q"), lambda word: SYMBOL.match(word) is not None),
@@ -69,8 +78,11 @@ SHAPES: Dict[str, Fits] = {
     "edge": is_edge,
     "count": is_count,
     ">": ">".__eq__,
+    "T": lambda word: has_unit(word, ("", "K")),
+    "SEED": whole(0, 10**18),
+    "STRETCH": lambda word: has_unit(word, ("", "fs", "ps", "ns", "step", "steps")),
 }
-SHAPES["[s]"] = SHAPES["s"]
+SHAPES.update({f"[{kind}]": SHAPES[kind] for kind in ("s", "SEED", "STRETCH")})
 
 
 def meaning_of(kind: str) -> str:
@@ -98,6 +110,8 @@ def wrong_words(words: Sequence[str], usage: str, is_whole: bool = True) -> List
     ]
     needed = [kind for kind in kinds[len(said) :] if not kind.startswith("[")]
     found += [WrongWord(len(said) + 1, "", needed[0])] if needed and is_whole else []
+    if kinds[-1:] == ["[SCALE]"]:
+        return found
     return found + [WrongWord(len(kinds) + 1, word, "") for word in said[len(kinds) :][:1] if word]
 
 

@@ -1,4 +1,4 @@
-"""How a prompt begins: the words of the command line, the token, and the connection."""
+"""The start of a prompt: the command line, the token, and the connection."""
 from __future__ import annotations
 
 import argparse
@@ -7,18 +7,22 @@ import importlib.util
 import os
 import sys
 import threading
-from typing import Callable, Iterator, List, NoReturn, Tuple
+from typing import TYPE_CHECKING, Any, Callable, Dict, Iterator, List, NoReturn, Optional, Tuple
 
 from ..errors import ClientError, printable
 from ..refusals import Denied
-from ..tokens import NOT_IN_COMMANDS, forget_variable, stored_token, token_of, typed_token
-from ..user import User, connect, run
+from ..tokens import NOT_IN_COMMANDS, checked_fingerprint, forget_variable, stored_token, token_of, typed_token, without_blanks
+from ..connecting import connect, run
+from ..user import User
 from .dialogue import PipeTalk, TerminalTalk, columns_of
 from .helping import wrapped
 from .history import Lines, history_path
 from .link import Link
 from .loading import Fault
 from .reading import PipeInput, PlainReader, Reader, TerminalInput
+
+if TYPE_CHECKING:
+    from .class_page import ClassPage
 
 SECONDS = 600.0
 SECONDS_OF_A_PROGRAM = 1_000_000.0
@@ -27,60 +31,87 @@ TRIES = 3
 KEYS = "`help` lists the commands, Ctrl-D ends."
 MISSING = "For hints, completion and a history install prompt_toolkit: `pip install prompt_toolkit`, or Debian's " "python3-prompt-toolkit."
 ABOUT = """\
-A prompt for the commands of the protocol. Without HOST:PORT it starts a program of its own, and what is loaded is gone when it
-ends. `help` lists the commands. With an input that is no terminal it writes the replies alone.
+A prompt for the commands of the protocol. Without HOST:PORT it starts a program of its own, whose sessions are gone when it ends.
+`help` lists the commands. If the input is not a terminal, it writes only the replies.
 
-The token is read from the file that --token-file names (the token alone, or a file of users), from the environment variable
-LJSERVE_TOKEN, or is asked for. Blanks in it are left out. `python3 -m ljclient view [FILE.xyz ..]` shows atoms in a browser,
-and `python3 -m ljclient verify FILE` plays a record again.
+The token is read from the file of --token-file (the token alone, or a file of users), from the environment variable LJSERVE_TOKEN,
+or typed. Blanks in it are ignored. `python3 -m ljclient view [FILE.xyz ..]` shows atoms in a browser,
+`python3 -m ljclient verify FILE` plays a record again, `python3 -m ljclient diff A B` compares two records, and
+`python3 -m ljclient check LESSON RECORD` marks the record of a lesson.
 """
 
 
 class Parser(argparse.ArgumentParser):
-    """Words of the command line. What is wrong with them is told without them, since one may be a token."""
+    """Words of the command line. Errors do not show them, since one may be a token."""
 
     def error(self, message: str) -> NoReturn:
         self.print_usage(sys.stderr)
         print(f"ljclient: {message}", file=sys.stderr)
         sys.exit(2)
 
+    def refuse(self, unknown: List[str]) -> None:
+        """Ends with status 2 if there are unknown words. One that is not an option is not shown."""
+        if unknown and unknown[0].startswith("-"):
+            self.error(f"there is no option {unknown[0].partition('=')[0]}; use --help to list the options")
+        if unknown:
+            self.error("there is a word too many; use quotes around the name of a file with blanks")
+
 
 def options_of(words: List[str]) -> argparse.Namespace:
     """The options that the command line says."""
-    usage = "python3 -m ljclient [HOST:PORT NAME] [--token-file FILE] [--timeout SECONDS] [--tls [--ca FILE]]"
+    usage = (
+        "python3 -m ljclient [HOST:PORT NAME] [--token-file FILE] [--timeout SECONDS] [--tls [--ca FILE] | --fingerprint HEX [--page PORT]]"
+    )
     formatter = argparse.RawDescriptionHelpFormatter
     parser = Parser("ljclient", usage, ABOUT, formatter_class=formatter, allow_abbrev=False)
-    parser.add_argument("server", nargs="*", metavar="HOST:PORT NAME", help="where `ljserve serve` listens, and who asks")
+    parser.add_argument("server", nargs="*", metavar="HOST:PORT NAME", help="the address of `ljserve serve`, and the name of a user")
     parser.add_argument("--token-file", metavar="FILE", help="a file with the token")
-    parser.add_argument("--timeout", metavar="SECONDS", type=float, help=f"how long a reply of a server may take: {SECONDS:g}")
+    parser.add_argument("--timeout", metavar="SECONDS", type=float, help=f"how long a reply of a server may take (default: {SECONDS:g})")
     add_tls(parser)
+    parser.add_argument("--page", metavar="PORT", help="the port or HOST:PORT of the pages of a class: answers in a lesson are sent there")
     options, unknown = parser.parse_known_args(words)
-    if unknown:
-        parser.error(f"there is no option {unknown[0].partition('=')[0]}")
+    parser.refuse(unknown)
     if len(options.server) > 2:
         parser.error(NOT_IN_COMMANDS)
     if len(options.server) == 1:
-        parser.error("NAME is missing: who asks, as in the server's file of users")
+        parser.error("HOST:PORT must be followed by NAME, a user in the server's file of users")
     if options.timeout is not None and not 0 < options.timeout < float("inf"):
-        parser.error("SECONDS is a number above 0")
+        parser.error(f"--timeout must be a finite number of seconds above 0, got {options.timeout:g}")
     check_tls(parser, options)
+    if options.page is not None:
+        if options.fingerprint is None:
+            parser.error("--page must come with --fingerprint, that of the class")
+        options.page = options.page if ":" in options.page else f"{options.server[0].rpartition(':')[0]}:{options.page}"
+        if not is_address(options.page):
+            parser.error("--page must be a port or HOST:PORT, such as 4443")
     if options.server and not is_address(options.server[0]):
-        parser.error("the first word is no HOST:PORT")
+        parser.error("the first word must be HOST:PORT, such as 127.0.0.1:4000")
     return options
 
 
 def add_tls(parser: argparse.ArgumentParser) -> None:
     """Adds the options of an encrypted connection."""
-    parser.add_argument("--tls", action="store_true", help="encrypt, and check the certificate of the server")
-    parser.add_argument("--ca", metavar="FILE", help="the certificate of its issuer, if the system does not know that")
+    parser.add_argument("--tls", action="store_true", help="encrypt, and check the server's certificate")
+    parser.add_argument("--ca", metavar="FILE", help="the certificate of its issuer, if the system does not have it")
+    parser.add_argument("--fingerprint", metavar="HEX", help="encrypt, and trust only the certificate with this SHA-256, as on a slip")
 
 
 def check_tls(parser: argparse.ArgumentParser, options: argparse.Namespace) -> None:
     """Ends with status 2 if these options do not fit."""
     if options.tls and not options.server:
-        parser.error("--tls is for a server: say HOST:PORT NAME")
+        parser.error("--tls must come with HOST:PORT NAME")
     if options.ca and not options.tls:
-        parser.error("--ca is for --tls")
+        parser.error("--ca must come with --tls")
+    if options.fingerprint is None:
+        return
+    if not options.server:
+        parser.error("--fingerprint must come with HOST:PORT NAME")
+    if options.ca:
+        parser.error("--ca cannot be used with --fingerprint: a fingerprint names the one certificate that is trusted")
+    try:
+        checked_fingerprint(options.fingerprint)
+    except ValueError as error:
+        parser.error(str(error).replace("a fingerprint", "--fingerprint", 1))
 
 
 def is_address(word: str) -> bool:
@@ -115,13 +146,26 @@ def link_of(options: argparse.Namespace, is_terminal: bool) -> Link:
         def open_user() -> User:
             with word_of_waiting(name):
                 limit = options.timeout or SECONDS
-                return connect(host.strip("[]"), int(port), name, token, timeout=limit, tls=options.tls, ca=options.ca)
+                way: Dict[str, Any] = {"tls": options.tls, "ca": options.ca, "fingerprint": options.fingerprint}
+                return connect(host.strip("[]"), int(port), name, token, timeout=limit, **way)
 
-        return Link(open_user, "The next command begins a new connection. If the server still runs, it still has the sessions.")
+        link = Link(open_user, "The next command begins a new connection. If the server still runs, it still has the sessions.")
+        link.page = page_of(options, name, token) if is_terminal else None
+        return link
 
     if is_terminal and stored_token(name, options.token_file) is None:
         return link_by_typing(name, link_with)
     return link_with(token_of(name, options.token_file, is_terminal))
+
+
+def page_of(options: argparse.Namespace, name: str, token: str) -> Optional["ClassPage"]:
+    """The page of the class, if the command line says one."""
+    if options.page is None:
+        return None
+    from .class_page import ClassPage  # It takes long to import, and is seldom needed.
+
+    host, _, port = options.page.rpartition(":")
+    return ClassPage(host.strip("[]"), int(port), name, without_blanks(token), options.fingerprint)
 
 
 def link_by_typing(name: str, link_with: Callable[[str], Link]) -> Link:
@@ -144,12 +188,12 @@ def welcome(link: Link, where: str) -> str:
 def reader_of(link: Link) -> Tuple[Reader, str]:
     """Who reads what is typed, and what is told of that: prompt_toolkit if it is there and the terminal can do more than lines."""
     if os.environ.get("TERM") == "dumb":
-        return PlainReader(), KEYS
+        return PlainReader(link.news), KEYS
     if importlib.util.find_spec("prompt_toolkit") is None:
-        return PlainReader(), f"{KEYS} {MISSING}"
+        return PlainReader(link.news), f"{KEYS} {MISSING}"
     from .editing import Editor
 
-    return Editor(Lines(history_path()), link.settled_user), ""
+    return Editor(Lines(history_path()), link.settled_user, link.line if link.page else None), ""
 
 
 def at_terminal(link: Link, where: str, prompt: str) -> int:
@@ -158,7 +202,9 @@ def at_terminal(link: Link, where: str, prompt: str) -> int:
     for text in (welcome(link, where), about):
         terminal.tell(*wrapped(text, "", "", columns_of(sys.stdout)))
     with reader.begun():
-        return terminal.run(TerminalInput(prompt, reader, terminal.tell))
+        status = terminal.run(TerminalInput(prompt, reader, terminal.tell))
+    terminal.note(*(link.page.close() if link.page else []))
+    return status
 
 
 def talk(options: argparse.Namespace) -> int:
@@ -175,7 +221,18 @@ def talk(options: argparse.Namespace) -> int:
 
 
 def main(words: List[str]) -> int:
-    """A prompt, or replies to what comes on standard input. Returns the exit status."""
+    """Runs a prompt, or replies to what comes on standard input.
+
+    Parameters
+    ----------
+    words : list of str
+        The words of the command line.
+
+    Returns
+    -------
+    int
+        The exit status.
+    """
     options = options_of(words)
     try:
         return talk(options)

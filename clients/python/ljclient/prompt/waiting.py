@@ -1,4 +1,4 @@
-"""What a prompt waits for, told to whoever sits there: the command, and about how far its session is."""
+"""What a prompt waits for, as it is shown: the command, and about how far its session is."""
 from __future__ import annotations
 
 import contextlib
@@ -15,6 +15,8 @@ from .loading import words_of
 AT_ONCE = ("LIST", "START", "FORGET", "LOAD", "LOADMIX")
 PATIENCE = 0.5
 PATIENCE_BESIDE_A_BAR = 3.0
+# What took fewer seconds does not tell how long a step takes.
+SURE = 0.2
 # A bar that is drawn at once, and says nothing where it cannot be drawn.
 DELAY = 0.001
 Tell = Callable[[str], None]
@@ -39,6 +41,7 @@ class Waits:
         self._tell = tell
         self._runs: Dict[str, Run] = {}
         self._seconds_per_step: Dict[str, float] = {}
+        self._sure: Dict[str, float] = {}
         self._ended_at = 0.0
         self._typed = ""
         # The command, as it was typed, whose reply an interrupt has left.
@@ -91,6 +94,12 @@ class Waits:
         """Notes how long steps of a session have taken."""
         if steps > 0:
             self._seconds_per_step[name] = seconds / steps
+        if steps > 0 and seconds >= SURE:
+            self._sure[name] = seconds / steps
+
+    def seconds_of(self, name: str, steps: int) -> float:
+        """How long so many steps of a session take, by those of it that took long enough to tell. 0 if there were none."""
+        return steps * self._sure.get(name, 0.0)
 
     def knows_pace(self, name: str) -> bool:
         """Whether the time of a step of this session is known, or cannot be measured now, since steps are started."""
@@ -113,6 +122,7 @@ class Waits:
             self._runs.pop(words[0], None)
         if words and verb in ("LOAD", "LOADMIX", "DROP"):
             self._seconds_per_step.pop(words[0], None)
+            self._sure.pop(words[0], None)
 
     def _leave_out(self, seconds: float) -> None:
         """Leaves out a time in which no steps were made."""
