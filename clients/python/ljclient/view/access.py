@@ -1,6 +1,7 @@
-"""Who may ask for the page: those who have its link, which has a secret, on this machine alone or in the network."""
+"""Who may open the page: those who have its secret link, on this machine or in the network."""
 from __future__ import annotations
 
+import dataclasses
 import hmac
 import re
 import secrets
@@ -40,6 +41,10 @@ class Access:
     def is_open(self) -> bool:
         """Whether others than those on this machine may have the page."""
         return not self.hosts
+
+    def without_secret(self) -> "Access":
+        """The same for a page that has nothing to keep: its link has no secret."""
+        return dataclasses.replace(self, prefix="/", url=self.url[: -len(self.prefix)] + "/")
 
     def path_of(self, path: str) -> Optional[str]:
         """What a path says after the secret, if it has it."""
@@ -107,4 +112,4 @@ def seen_by_others(listener: socket.socket) -> str:
             probe.connect((SOMEWHERE[listener.family], 9))
             return str(probe.getsockname()[0])
     except OSError:
-        raise ClientError("this machine is in no network: say the address that others reach by --address HOST") from None
+        raise ClientError("cannot find the address of this machine in the network; use --address HOST, the one that others reach") from None

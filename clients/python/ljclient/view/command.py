@@ -8,7 +8,7 @@ import sys
 import threading
 from pathlib import Path
 from types import ModuleType
-from typing import Any, Callable, List, Optional, Sequence, cast
+from typing import Any, Callable, List, Optional, Sequence, Tuple, cast
 
 from .. import ClientError, Scale, User, run, units
 from ..errors import printable
@@ -16,7 +16,7 @@ from ..names import checked_name
 from ..prompt.starting import add_tls, check_tls
 from ..tokens import forget_variable, stored_token
 from .access import Access, for_others, for_this_machine
-from .addresses import Address, address_in
+from .addresses import Address, address_in, is_origin
 from .links import LinkFile
 from .own import OwnSessions
 from .pages import MAX_PAGES_OF_A_CLASS
@@ -27,36 +27,46 @@ from .users import Account, AtServer, Programs, Users
 H = 131072
 HEAT = 1.5
 PAGES_OF_AN_ADDRESS = 8
-MISSING = "the page is served by aiohttp, which is not installed: `pip install aiohttp`, or Debian's python3-aiohttp"
+MISSING = "cannot serve the page: aiohttp is not installed; use `pip install aiohttp`, or Debian's python3-aiohttp"
+Served = Tuple[Any, Access, Optional[LinkFile]]  # a server with `run`, where its page is, and the file that opens it
 USAGE = "python3 -m ljclient view [HOST:PORT NAME] [FILE.xyz ..] [OPTION ..]"
 TEXT = """Shows atoms in motion on a page of the browser: play, one step, time turned back, tugs, and what they lead to.
 
 The link that it prints has a secret, without which nothing is answered.
 
-Without a file it shows a crystal of 256 atoms that melts. Atoms of a file are argon with a time step of 10 fs, in angstrom,
-if nothing else is said. Atoms begin at rest, or with random velocities of --temperature.
+Without a file it shows a crystal of 256 atoms that melts. By default, the atoms of a file are argon in angstrom, with a time
+step of 10 fs. Atoms begin at rest, or with random velocities of --temperature.
 
-With HOST:PORT NAME it shows the sessions that this user has at a server, beside the crystal or the files. The token is read
-from --token-file or from LJSERVE_TOKEN, or typed into the page. With --tls it goes to the server encrypted. What a session was
-loaded with is said by --edge, --sigma and --h, or typed into the page. The server is left ten seconds after the last page
-stopped playing, so that the user's prompt gets in."""
+With HOST:PORT NAME it also shows the sessions of this user at a server. The token is read from --token-file or from
+LJSERVE_TOKEN, or typed into the page. With --tls or --fingerprint it is sent encrypted. The scale of a session is given by --edge,
+--sigma and --h, or typed into the page. The connection ends ten seconds after the last page stopped playing, so that the user's
+prompt can connect.
+
+With --page FOLDER it serves a page that contains the program; `bin/page FOLDER` of the repository makes it. Each browser computes
+what it shows, so a class (--listen) takes no processor time here. Over http:// from another machine it runs only in Chrome and Edge
+(137 and newer); other browsers need https://, from any web server. Its link has no secret."""
 
 
 def main(arguments: List[str]) -> int:
-    """Serves the page on 127.0.0.1 until it is closed. Returns the status of the process."""
+    """Serves the page until it is closed.
+
+    Parameters
+    ----------
+    arguments : list of str
+        The words of the command line.
+
+    Returns
+    -------
+    int
+        The exit status.
+    """
     options = options_of(arguments)
     try:
-        server_module = imported_server()
-        users, choice = users_of(options), choice_of(options)
-        forget_variable()
-        access = access_of(options)
-        link = LinkFile(access.url) if options.browser else None
+        server, access, link = server_of(options) if options.page is None else static_server_of(options)
     except (ClientError, OSError, ValueError) as error:
         print(f"view: {printable(str(error))}", file=sys.stderr)
         return 1
-    pages = said(options.pages_of_an_address, PAGES_OF_AN_ADDRESS)
-    server = server_module.Server(access, choice, users, pages, link.remove if link else lambda: None)
-    end = "by Ctrl-C" if access.is_open else "when it is closed"
+    end = "by Ctrl-C" if access.is_open or options.page is not None else "when it is closed"
     print(f"The page is at {access.url} and the program ends {end}.", flush=True)
     if link:
         threading.Thread(target=link.open, daemon=True).start()
@@ -70,10 +80,30 @@ def main(arguments: List[str]) -> int:
     return 0
 
 
-def imported_server() -> ModuleType:
-    """The module that serves the page. ClientError, which says what to install, if it cannot be had."""
+def server_of(options: argparse.Namespace) -> Served:
+    """What serves the page of this client. Raises ClientError, OSError or ValueError."""
+    server_module = imported_server()
+    users, choice = users_of(options), choice_of(options)
+    forget_variable()
+    access = access_of(options)
+    link = LinkFile(access.url) if options.browser else None
+    pages = said(options.pages_of_an_address, PAGES_OF_AN_ADDRESS)
+    return server_module.Server(access, choice, users, pages, link.remove if link else lambda: None, options.embed), access, link
+
+
+def static_server_of(options: argparse.Namespace) -> Served:
+    """What serves the page that has the program itself. Raises ClientError or OSError."""
+    module = imported_server("ljclient.view.static_page")
+    files = module.files_of_page(Path(options.page))
+    access = access_of(options).without_secret()
+    link = LinkFile(access.url) if options.browser else None
+    return module.StaticServer(access, files, link.remove if link else lambda: None, options.embed), access, link
+
+
+def imported_server(name: str = "ljclient.view.server") -> ModuleType:
+    """The module that serves a page. ClientError, which says what to install, if it cannot be had."""
     try:
-        return importlib.import_module("ljclient.view.server")
+        return importlib.import_module(name)
     except ModuleNotFoundError as error:
         if (error.name or "").partition(".")[0] != "aiohttp":
             raise
@@ -87,7 +117,7 @@ def options_of(arguments: List[str]) -> argparse.Namespace:
     options.server = None
     if options.files and (address := address_in(options.files[0])) and not Path(options.files[0]).exists():
         if len(options.files) < 2:
-            reader.error("NAME is missing: who asks, as in the server's file of users")
+            reader.error("HOST:PORT must be followed by NAME, a user in the server's file of users")
         options.server, options.files = (address, options.files[1]), options.files[2:]
     if (fault := fault_of(options)) is not None:
         reader.error(fault)
@@ -102,43 +132,59 @@ def reader_of_options() -> argparse.ArgumentParser:
     reader.add_argument("files", metavar="FILE.xyz", nargs="*", help="atoms as XYZ text, a choice of the page for each file")
     reader.add_argument("--token-file", metavar="FILE", help="a file with the user's token")
     add_tls(reader)
-    reader.add_argument("--edge", type=float, help="edge of the cubic box, for files that say no Lattice")
-    reader.add_argument("--temperature", type=float, help="of the first velocities, in kelvin (with --h in epsilon / k_B)")
-    reader.add_argument("--seed", type=int, default=1, help="of the random numbers for them (1)")
-    reader.add_argument("--sigma", type=float, help="the distance sigma (3.4; with --h it is 1)")
-    reader.add_argument("--epsilon", type=float, help="the depth of the potential, in kelvin (119.8)")
-    reader.add_argument("--mass", type=float, help="the mass of an atom, in dalton (39.948)")
-    reader.add_argument("--dt", type=float, help="the time step, in femtoseconds (10)")
-    reader.add_argument("--h", type=int, help=f"the step factor, with which units are reduced ({H} for the crystal)")
-    reader.add_argument("--port", type=int, default=0, help="the port on 127.0.0.1 (one that is free)")
-    reader.add_argument("--listen", metavar="ADDRESS:PORT", help="for a class: let others in the network have the page, by its link")
-    reader.add_argument("--address", metavar="HOST", help="this machine as others reach it, where the one that is found is another")
-    pages = f"of the {MAX_PAGES_OF_A_CLASS} pages that --listen lets be open, how many one address may have ({PAGES_OF_AN_ADDRESS})"
+    reader.add_argument("--edge", type=float, help="edge of the cubic box, for files without a Lattice")
+    reader.add_argument("--temperature", type=float, help="temperature of the first velocities, in kelvin (with --h in epsilon / k_B)")
+    reader.add_argument("--seed", type=int, default=1, help="seed of the random velocities (default: 1)")
+    reader.add_argument("--sigma", type=float, help="the distance sigma (default: 3.4; with --h 1)")
+    reader.add_argument("--epsilon", type=float, help="the depth of the potential, in kelvin (default: 119.8)")
+    reader.add_argument("--mass", type=float, help="the mass of an atom, in dalton (default: 39.948)")
+    reader.add_argument("--dt", type=float, help="the time step, in femtoseconds (default: 10)")
+    reader.add_argument("--h", type=int, help=f"the step factor; units are reduced then (default for the crystal: {H})")
+    reader.add_argument("--port", type=int, default=0, help="the port on 127.0.0.1 (default: any free port)")
+    reader.add_argument("--listen", metavar="ADDRESS:PORT", help="for a class: let others in the network open the page, by its link")
+    reader.add_argument("--address", metavar="HOST", help="the host name or address in the link, if the one found is wrong")
+    pages = f"the most pages of one address, of {MAX_PAGES_OF_A_CLASS} in all (default: {PAGES_OF_AN_ADDRESS})"
     reader.add_argument("--pages-of-an-address", metavar="N", type=int, help=pages)
-    reader.add_argument("--program", help="the program, as ljclient.run takes it")
-    reader.add_argument("--no-browser", dest="browser", action="store_false", help="only say where the page is")
+    reader.add_argument("--embed", metavar="ORIGIN", help="let pages of this origin, such as https://course.example, show it in a frame")
+    reader.add_argument("--page", metavar="FOLDER", help="serve a page that contains the program, made by `bin/page FOLDER`")
+    reader.add_argument("--program", help="the program, as for ljclient.run")
+    reader.add_argument("--no-browser", dest="browser", action="store_false", help="print the link, and open no browser")
     return reader
 
 
 def fault_of(options: argparse.Namespace) -> Optional[str]:
-    """What is wrong with the options of the command, the first if there are several."""
+    """What is wrong with the options of the command; of several faults the first."""
     physical, pages = [options.epsilon, options.mass, options.dt], options.pages_of_an_address
     is_argon_said = [options.edge, options.sigma, *physical] != [None] * 5
     faults = {
-        "--token-file is for HOST:PORT NAME": options.server is None and options.token_file is not None,
-        "--temperature is not below 0": options.temperature is not None and not 0 <= options.temperature < float("inf"),
-        "--port is from 0 to 65535": not 0 <= options.port <= 65535,
-        "--listen is an ADDRESS:PORT, such as 0.0.0.0:8000": options.listen is not None and address_in(options.listen) is None,
-        "--listen says the port: leave --port out": options.listen is not None and options.port,
-        "--address is for --listen": options.listen is None and options.address is not None,
-        "--pages-of-an-address is for --listen": options.listen is None and pages is not None,
-        f"--pages-of-an-address is from 1 to {MAX_PAGES_OF_A_CLASS}": pages is not None and not 1 <= pages <= MAX_PAGES_OF_A_CLASS,
-        "--h stands in place of --epsilon, --mass and --dt": options.h is not None and physical != [None] * 3,
-        "--edge, --sigma, --epsilon, --mass and --dt are for the atoms of a file": (
+        "--token-file must come with HOST:PORT NAME": options.server is None and options.token_file is not None,
+        f"--temperature must be a finite number from 0 on, got {options.temperature}": options.temperature is not None
+        and not 0 <= options.temperature < float("inf"),
+        f"--port must be from 0 to 65535, got {options.port}": not 0 <= options.port <= 65535,
+        f"--listen must be ADDRESS:PORT, such as 0.0.0.0:8000, got {options.listen}": options.listen is not None
+        and address_in(options.listen) is None,
+        "--port cannot be used with --listen: that has a port of its own": options.listen is not None and options.port,
+        "--address must come with --listen": options.listen is None and options.address is not None,
+        "--pages-of-an-address must come with --listen": options.listen is None and pages is not None,
+        f"--pages-of-an-address must be from 1 to {MAX_PAGES_OF_A_CLASS}, got {pages}": (
+            pages is not None and not 1 <= pages <= MAX_PAGES_OF_A_CLASS
+        ),
+        f"--embed must be an origin like https://course.example, got {options.embed}": options.embed is not None
+        and not is_origin(options.embed),
+        "--page must come alone, or with --port, --listen, --address, --embed and --no-browser": options.page is not None
+        and not is_page_alone(options),
+        "--h cannot be used with --epsilon, --mass or --dt: it takes their place": options.h is not None and physical != [None] * 3,
+        "--edge, --sigma, --epsilon, --mass and --dt must come with FILE.xyz or HOST:PORT NAME": (
             is_argon_said and not options.files and options.server is None
         ),
     }
     return next((fault for fault, holds in faults.items() if holds), None)
+
+
+def is_page_alone(options: argparse.Namespace) -> bool:
+    """Whether there are only options that both kinds of page have."""
+    others = "token_file tls ca edge temperature sigma epsilon mass dt h pages_of_an_address program"
+    return not options.files and options.server is None and not any(getattr(options, name) for name in others.split())
 
 
 def access_of(options: argparse.Namespace) -> Access:
@@ -154,7 +200,7 @@ def users_of(options: argparse.Namespace) -> Users:
         return Programs(functools.partial(run, options.program))
     address, name = options.server
     token = stored_token(name, options.token_file)
-    account = Account(address, checked_name(name), token, tls=options.tls, ca=options.ca)
+    account = Account(address, checked_name(name), token, options.tls, options.ca, options.fingerprint)
     account.check()
     return AtServer(account)
 
@@ -170,7 +216,7 @@ def choice_of(options: argparse.Namespace) -> Choice:
 
 
 def scenes_of(options: argparse.Namespace) -> List[Scene]:
-    """What the page can show. Raises ValueError or OSError with the name of the file that is at fault."""
+    """What the page can show. Raises ValueError or OSError with the name of the file that is wrong."""
     if not options.files:
         return [crystal(said(options.h, H), said(options.temperature, HEAT), options.seed)]
     scenes = []

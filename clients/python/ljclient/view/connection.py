@@ -1,11 +1,11 @@
-"""The connection of pages: a user that one thread uses, so that the loop that serves pages never waits for it."""
+"""The connection of pages: one thread uses the user, so that the loop that serves pages never waits for it."""
 from __future__ import annotations
 
 import asyncio
 import contextlib
 import queue
 import threading
-from typing import Any, Callable, Optional, Tuple, TypeVar, cast
+from typing import Any, Callable, ContextManager, Optional, Tuple, TypeVar, cast
 
 from ..user import User
 
@@ -21,13 +21,17 @@ class Connection:
     open_user  begins the connection, and may wait
     patience   how many seconds nobody may ask for anything before the connection is given up. The next one who asks begins
                another. With None sessions are gone with the connection, so it stays until it is closed
+    whole      what each thing is done within, if something is
 
     It is made within a running loop, whose coroutines alone may use it.
     """
 
-    def __init__(self, open_user: OpenUser, patience: Optional[float] = None):
+    def __init__(
+        self, open_user: OpenUser, patience: Optional[float] = None, whole: Callable[[], ContextManager[Any]] = contextlib.nullcontext
+    ):
         self._open_user = open_user
         self._patience = patience
+        self._whole = whole
         self._user: Optional[User] = None
         self._loop = asyncio.get_running_loop()
         self._ended = self._loop.create_future()
@@ -73,7 +77,10 @@ class Connection:
 
     def _do(self, act: Act, future: "asyncio.Future[Any]") -> None:
         try:
-            self._tell(future, act(self._ready()), None)
+            user = self._ready()
+            with self._whole():
+                told = act(user)
+            self._tell(future, told, None)
         except Exception as error:
             self._tell(future, None, error)
 

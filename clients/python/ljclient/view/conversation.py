@@ -9,7 +9,7 @@ from .. import ClientError, User
 from ..refusals import Denied
 from .connection import Connection
 from .talk import Talk
-from .users import AtServer, NoToken, Users
+from .users import AtServer, Beside, NoToken
 
 SECONDS_UNTIL_WORD = 1.0
 
@@ -24,7 +24,7 @@ class Page(Protocol):
         """The next message, or None at the end."""
 
 
-async def converse(page: Page, connection: Connection, talk: Talk, users: Users) -> None:
+async def converse(page: Page, connection: Connection, talk: Talk, users: Beside) -> None:
     """Answers a page until it is gone. If its user cannot be had at all, that is told, and is the end."""
     try:
         first = await begun(page, connection, talk, users)
@@ -38,8 +38,8 @@ async def converse(page: Page, connection: Connection, talk: Talk, users: Users)
         await page.tell(await with_end(told, connection, users))
 
 
-async def begun(page: Page, connection: Connection, talk: Talk, users: Users) -> Optional[str]:
-    """What the page is told first. It is asked for the token if nobody has said one. None if it is gone meanwhile."""
+async def begun(page: Page, connection: Connection, talk: Talk, users: Beside) -> Optional[str]:
+    """What the page is told first. It is asked for the token if there is none yet. None if it is gone meanwhile."""
     while True:
         try:
             return await done(page, connection, users, talk.begin)
@@ -70,7 +70,7 @@ def token_in(message: str) -> Any:
     return wish.get("token") if isinstance(wish, dict) else None
 
 
-async def answered(page: Page, connection: Connection, users: Users, act: Callable[[User], str]) -> str:
+async def answered(page: Page, connection: Connection, users: Beside, act: Callable[[User], str]) -> str:
     """The answer to a message. That the user cannot be had is one, too."""
     try:
         return await done(page, connection, users, act)
@@ -78,18 +78,16 @@ async def answered(page: Page, connection: Connection, users: Users, act: Callab
         return json.dumps({"error": str(error)})
 
 
-async def with_end(told: str, connection: Connection, users: Users) -> str:
+async def with_end(told: str, connection: Connection, users: Beside) -> str:
     """An answer. If it is an error with which the server or the program has ended, it says so."""
     if connection.is_open or "error" not in (answer := json.loads(told)) or (end := await users.end()) is None:
         return told
     return json.dumps({**answer, "error": f"{end} ({answer['error']}).", "ended": True})
 
 
-async def done(page: Page, connection: Connection, users: Users, act: Callable[[User], str]) -> str:
-    """What is returned by something that is done with the user. If that has to get in first, and it takes long, the page is told
-    what it waits for."""
-    if connection.is_open:
-        return await connection.do(act)
+async def done(page: Page, connection: Connection, users: Beside, act: Callable[[User], str]) -> str:
+    """What is returned by something that is done with the user. If that has to get in first, or others come before, and it takes
+    long, the page is told what it waits for."""
     task = asyncio.ensure_future(connection.do(act))
     try:
         await tell_waits(page, task, users)
@@ -98,7 +96,7 @@ async def done(page: Page, connection: Connection, users: Users, act: Callable[[
         task.cancel()
 
 
-async def tell_waits(page: Page, task: "asyncio.Future[str]", users: Users) -> None:
+async def tell_waits(page: Page, task: "asyncio.Future[str]", users: Beside) -> None:
     """Tells a page what it waits for until this is done: after a moment, and again if it waits for something else."""
     told: Optional[str] = None
     while not (await asyncio.wait([task], timeout=SECONDS_UNTIL_WORD))[0]:

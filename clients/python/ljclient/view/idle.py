@@ -1,4 +1,4 @@
-"""Connections that ask for nothing: each is let go after a while, so that they do not use up the view's descriptors."""
+"""Idle connections, which are closed after a while, so that they do not use up the view's descriptors."""
 from __future__ import annotations
 
 import asyncio
@@ -24,7 +24,7 @@ class Impatient:
         self._timers[protocol] = asyncio.get_running_loop().call_later(self._seconds, self._let_go, protocol)
         return protocol
 
-    def has_asked(self, protocol: Any) -> None:
+    def keep(self, protocol: Any) -> None:
         """Has a connection stay, since a whole request has come from it."""
         if (timer := self._timers.pop(protocol, None)) is not None:
             timer.cancel()

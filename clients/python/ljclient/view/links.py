@@ -1,4 +1,4 @@
-"""Hands the link of the page to a browser by a file, since all accounts of a machine can read the words of its processes."""
+"""Gives the link of the page to a browser by a file, since all accounts of a machine can read the command lines of its processes."""
 from __future__ import annotations
 
 import html

@@ -1,4 +1,4 @@
-"""The sessions that a user has at a server, whoever loaded them. All pages of the user share them."""
+"""The sessions of a user at a server, from any connection. All pages of the user share them."""
 from __future__ import annotations
 
 import contextlib
@@ -14,7 +14,7 @@ from .wishes import Answer, Wish
 
 # Sessions that the view has loaded itself.
 PREFIX = "view-"
-FAULT = f"edge and sigma are numbers, sigma is below a fifth of the edge, and h is a whole number from 1 to {MAX_STEP_FACTOR}"
+FAULT = f"edge and sigma must be numbers, sigma below a fifth of the edge, and h a whole number from 1 to {MAX_STEP_FACTOR}"
 
 
 class Unknown(Exception):
@@ -54,14 +54,14 @@ class OwnSessions:
         return [name for name in names if not name.startswith(PREFIX)]
 
     def stage(self, user: User, name: str, wish: Wish) -> Stage:
-        """The session of this name, for a page more. Raises `Unknown` if nobody has said its scale, or a wrong one."""
+        """The session of this name, for a page more. Raises `Unknown` if its scale is not known, or is wrong."""
         if name not in self._stages or self._stages[name].is_lost:
             seen = box.seen_atom(user, name)
             is_exact = seen.fits(RING_EDGE)
             edge = RING_EDGE if is_exact else seen.edge()
             scale = self._said(name, edge, wish)
             if not seen.fits(scale.edge):
-                raise Unknown(name, edge, f"{name} is in a box whose edge is about {edge}")
+                raise Unknown(name, edge, f"edge must be that of the box of {name}, about {edge}, got {scale.edge:.10g}")
             stage = Stage(user, name, scale, is_exact, f"{PREFIX}own-{next(self._numbers)}", is_own=True)
             self._left = [stage, *(other for other in self._left if other.name != name)]  # until a page shows it
             stage.begin()

@@ -1,4 +1,4 @@
-"""The pages that are open: how many there may be, and when the last of them is gone."""
+"""The open pages: how many there may be, and when the last one is closed."""
 from __future__ import annotations
 
 import asyncio
@@ -10,7 +10,7 @@ MAX_PAGES_OF_A_CLASS = 40
 GOING_AWAY = 1001  # of a WebSocket whose server ends
 GRACE_SECONDS = 2.0
 END_SECONDS = 5.0
-ADVICE = "Close one, and load this page anew."
+ADVICE = "Close one, and load this page again."
 
 
 def counted(pages: int) -> str:

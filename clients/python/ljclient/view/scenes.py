@@ -1,4 +1,4 @@
-"""What a page can show: the atoms of a file, or a crystal, with the scale and the heat that they begin with."""
+"""What a page can show: the atoms of a file, or a crystal, with their scale and first temperature."""
 from __future__ import annotations
 
 import dataclasses
@@ -12,7 +12,7 @@ from typing import Callable, List, Optional
 from .. import Scale, Session, User, heating, xyz
 from ..columns import without_columns
 from ..units import MAX_STEP_FACTOR, RING
-from .wishes import Answer, Wish, real_in
+from .wishes import Answer, Wish, real_in, shown
 
 # With this edge a ring unit is a millionth, which is the last digit of what DUMP tells: a frame has the places themselves.
 EXACT_EDGE = "4294.967296"
@@ -54,7 +54,7 @@ class Scene:
         return self.scale.reduced_dt if self.scale.dt is None else self.scale.dt
 
     def settings(self) -> Answer:
-        """What a page can begin it anew with, as it is now, and of how many atoms there may be a crystal."""
+        """What a page can begin it again with, as it is now, and the numbers of atoms of a crystal."""
         sizes = [len(FACES) * cells**3 for cells in range(FEWEST_CELLS, MOST_CELLS + 1)] if self.is_crystal else [self.atoms]
         return {"temperature": self.temperature, "dt": self.dt, "atoms": self.atoms, "sizes": sizes}
 
@@ -68,7 +68,9 @@ class Scene:
         if self.is_crystal and "atoms" in wish and wish["atoms"] != self.atoms:
             cells = round((real_in(wish, "atoms") / len(FACES)) ** (1 / 3))
             if not FEWEST_CELLS <= cells <= MOST_CELLS or len(FACES) * cells**3 != wish["atoms"]:
-                raise ValueError(f"there is no crystal of {wish['atoms']} atoms")
+                raise ValueError(
+                    f"atoms must be 4 n^3 for a crystal, with n from {FEWEST_CELLS} to {MOST_CELLS}, got {shown(wish['atoms'])}"
+                )
             scene = crystal(self.scale.h, self.temperature, self.seed, cells)
         if "dt" in wish:
             scene = dataclasses.replace(scene, scale=scale_at(scene.scale, real_in(wish, "dt")))
@@ -106,12 +108,12 @@ def scale_at(scale: Scale, dt: float) -> Scale:
     h = round((dt / unit) ** 2 * RING) if 0 < dt < math.inf else 0
     if not 1 <= h <= MAX_STEP_FACTOR:
         shortest, longest = (unit * math.sqrt(limit / RING) for limit in (1, MAX_STEP_FACTOR))
-        raise ValueError(f"a step is from {shortest:.2g} to {longest:.3g}{'' if scale.dt is None else ' fs'}, not {dt:g}")
+        raise ValueError(f"dt must be from {shortest:.2g} to {longest:.3g}{'' if scale.dt is None else ' fs'}, got {dt:g}")
     return dataclasses.replace(scale, h=h)
 
 
 def crystal(h: int, temperature: float, seed: int, cells: int = CELLS) -> Scene:
-    """A face-centred cubic crystal, as dense as liquid argon, in reduced units: of 256 atoms if nothing else is said."""
+    """A face-centred cubic crystal, as dense as liquid argon, in reduced units: of 256 atoms by default."""
     atoms = len(FACES) * cells**3
     edge = round((atoms / DENSITY) ** (1 / 3), 6)
     corners = itertools.product(range(cells), repeat=3)
@@ -129,7 +131,7 @@ def of_file(path: str, edge: Optional[float], scale_of: Callable[[float], Scale]
     except ValueError:
         found = edge
     if found is None:
-        raise ValueError("the file says no cubic Lattice: say the edge of the box by --edge, in the unit of the file")
+        raise ValueError("edge must be given for a file without a cubic Lattice, got none; use --edge, in the unit of the file")
     return Scene(os.path.basename(path), body, scale_of(found), temperature, seed)
 
 

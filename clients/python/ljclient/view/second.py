@@ -1,4 +1,4 @@
-"""A second run beside a session: the same simulation, but for one atom that goes one ring unit further in each step."""
+"""A second run beside a session: the same simulation, except that one atom goes one ring unit further in each step."""
 from __future__ import annotations
 
 import contextlib
@@ -34,7 +34,7 @@ class SecondRun:
         self.end(user)
         self.is_there = True  # also where no reply comes
         try:
-            user.ask_commands([state.command(Order()), (f"TUG {self.name} {ATOM} 1 0 0", b"")])
+            user._ask_commands([state.command(Order()), (f"TUG {self.name} {ATOM} 1 0 0", b"")])
         except Refused:
             self.is_there = False
             raise

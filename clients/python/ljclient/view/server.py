@@ -36,10 +36,10 @@ MAX_MESSAGE = 1 << 16
 NONE = "'none'"
 FAREWELL_SECONDS = 2.0
 SIGNALS = [getattr(signal, name) for name in ("SIGINT", "SIGTERM", "SIGHUP") if hasattr(signal, name)]
-# A page may load the files of this server, and nothing else; nothing may frame it.
+# A page may load the files of this server, and nothing else.
 POLICY = "; ".join(
     [f"{kind}-src 'self'" for kind in ("script", "style", "img")]
-    + [f"{kind} 'none'" for kind in ("default-src", "base-uri", "form-action", "frame-ancestors")]
+    + [f"{kind} 'none'" for kind in ("default-src", "base-uri", "form-action")]
 )
 
 
@@ -48,14 +48,24 @@ class Server:
 
     pages_of_an_address  how many pages one address may have
     has_come             is called whenever a browser has come by the link
+    framed_by            the origin whose pages may show it in a frame, if any may
     """
 
-    def __init__(self, access: Access, choice: Choice, users: Users, pages_of_an_address: int, has_come: Callable[[], None]):
+    def __init__(
+        self,
+        access: Access,
+        choice: Choice,
+        users: Users,
+        pages_of_an_address: int,
+        has_come: Callable[[], None],
+        framed_by: Optional[str] = None,
+    ):
         self._access = access
         self._choice = choice
         self._users = users
         self._pages_of_an_address = pages_of_an_address
         self._has_come = has_come
+        self._framed_by = framed_by
         self._numbers = itertools.count(1)
         self._pages: Pages
         self._protocols: Impatient
@@ -81,7 +91,7 @@ class Server:
 
     async def _answer(self, request: Any) -> Any:
         """A file of the page, or the page's session."""
-        self._protocols.has_asked(request.protocol)
+        self._protocols.keep(request.protocol)
         path, host = self._access.path_of(request.path), request.headers.get("Host", "")
         if (refused := self._access.refusal(host, request.headers.get("Origin"), path == SESSION)) is not None:
             return said(403, refused)
@@ -91,7 +101,7 @@ class Server:
             return said(404, "there is no such page: the link to the live view stands at the terminal where it was begun")
         self._has_come()
         name, kind = FILES[path]
-        return told(200, kind, (FOLDER / name).read_bytes(), self._access.sockets(host))
+        return told(200, kind, (FOLDER / name).read_bytes(), self._access.sockets(host), self._framed_by)
 
     async def _begun(self, request: Any) -> Any:
         """Agrees to a WebSocket, and answers the page until it is gone."""
@@ -130,11 +140,11 @@ def said(status: int, text: str) -> Any:
     return told(status, "text/plain", text.encode(), ())
 
 
-def told(status: int, kind: str, body: bytes, sockets: Sequence[str]) -> Any:
-    """A file, and where it may ask for a session."""
+def told(status: int, kind: str, body: bytes, sockets: Sequence[str], framed_by: Optional[str] = None) -> Any:
+    """A file, where it may ask for a session, and the origin whose pages may frame it, if any may."""
     headers = {
         "Content-Type": f"{kind}; charset=utf-8",
-        "Content-Security-Policy": f"{POLICY}; connect-src {' '.join(sockets) or NONE}",
+        "Content-Security-Policy": f"{POLICY}; frame-ancestors {framed_by or NONE}; connect-src {' '.join(sockets) or NONE}",
         "X-Content-Type-Options": "nosniff",
         "Referrer-Policy": "no-referrer",
         "Cache-Control": "no-store",

@@ -1,4 +1,4 @@
-"""One session that pages show: what they may ask of it, and what they are told.
+"""One session as pages show it: what they may ask, and what is answered.
 
 Each answer has the frame as it then is. Steps are those of the server, and the direction is that in which they count.
 """
@@ -13,7 +13,7 @@ from ..replies import whole_number, whole_numbers
 from ..units import RING
 from .scenes import edge_in_sigma
 from .second import SecondRun
-from .wishes import Answer, Wish, is_whole, number_in
+from .wishes import Answer, Wish, is_whole, number_in, shown
 
 MAX_STEPS = 1000
 MAX_TUG = (1 << 31) - 1
@@ -79,6 +79,11 @@ class Stage:
             "second": lambda wish: self.begin_second() if wish.get("on") is True else self.end_second(),
         }
 
+    @property
+    def is_renumbered(self) -> bool:
+        """Whether somebody else has loaded it in the box in which the client numbers atoms by itself, as by `order="space"`."""
+        return self._is_own and self._is_exact
+
     def begin(self) -> None:
         """Finds the session, and saves where pages begin."""
         self._now = self._found(self._user)
@@ -88,7 +93,7 @@ class Stage:
         """The answer to what a page wishes. What cannot be done changes nothing, and raises ClientError or ValueError."""
         act = self._acts.get(str(wish.get("do")))
         if act is None:
-            raise ValueError("that is nothing that can be done")
+            raise ValueError(f"do must be one of {', '.join(self._acts)}, got {shown(wish.get('do'))}")
         jumped = self._take_up(user)
         return {**act(wish), **jumped}
 
@@ -116,7 +121,7 @@ class Stage:
     def tug(self, atom: int, by: Any) -> Answer:
         """Gives an atom so many ring units more for each step, along x, y and z."""
         if not (isinstance(by, list) and len(by) == 3 and all(is_whole(part, -MAX_TUG, MAX_TUG) for part in by)):
-            raise ValueError("a tug is by three whole numbers of ring units")
+            raise ValueError(f"by must be three whole numbers of ring units, up to {MAX_TUG} either way, got {shown(by)}")
         x, y, z = by
         return {**self._frame(f"TUG {self.name} {atom} {x} {y} {z}"), **self._when(self._now.direction)}
 
@@ -131,7 +136,7 @@ class Stage:
     def restore(self, name: str) -> Answer:
         """Goes back to what was saved. A second run ends."""
         if name not in self._saved:
-            raise ValueError("nothing is saved yet")
+            raise ValueError("cannot restore: nothing is saved yet; use Save first")
         self._second.end(self._user)
         frame = self._frame(f"RESTORE {self.name} {name}")
         return {**frame, **self._when(self._saved[name].direction), "jumped": True}
@@ -158,7 +163,7 @@ class Stage:
         """Begins a second run beside this one, in place of one that is there."""
         symbols = [line.split(" ")[0] for line in self._user.ask(f"DUMP {self.name}").lines[2:]]
         if self._is_own and len(set(symbols)) > 1:
-            raise ValueError("a second run is for atoms of one species: of two the server does not tell how they interact")
+            raise ValueError("cannot begin a second run: the atoms are of two species, and the server does not tell how these interact")
         self._second.begin(self._user, self.scale, symbols, self._is_exact)
         return self.advance(0)
 
@@ -174,7 +179,7 @@ class Stage:
     def _motion(self, is_turned: bool = False) -> Motion:
         """The motion to the bit, or what it is when it is turned back: then the step before is the one that comes next now."""
         user, name = self._user, self.name
-        atoms = None if self._is_exact else user.row(name).atoms
+        atoms = None if self._is_exact else user._row(name).atoms
         if is_turned:
             told = frames.three_dumped(user, name) if atoms is None else frames.three_shown(user, name, atoms)
             _, now, before = told
@@ -215,7 +220,7 @@ class Stage:
         self._now = self._found(user)
         left = self._left()
         if START not in left:
-            raise Lost(f"{self.name} was loaded anew: choose it again")
+            raise Lost(f"cannot go on with {self.name}: it was loaded again; choose it again")
         self._saved = {name: moment for name, moment in self._saved.items() if name in left}
         self._motions = {name: motion for name, motion in self._motions.items() if name in left}
         self.is_lost = False
@@ -228,7 +233,7 @@ class Stage:
                 turned, back, *_ = user.ask_all([f"REVERSE {self.name}", *way.turned, *way.end])
             before, now = whole_number(turned.words[-1]), whole_number(back.words[-1])
         except NoSession:
-            raise Lost(f"the server no longer has {self.name}: choose other atoms") from None
+            raise Lost(f"cannot go on with {self.name}: the server no longer has it; choose other atoms") from None
         return Moment(now, now - before)
 
     def _left(self) -> List[str]:

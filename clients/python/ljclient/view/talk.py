@@ -1,16 +1,17 @@
-"""What one page asks for, and what it is answered: which atoms it shows, and what is done with them."""
+"""The requests of one page and their answers: which atoms it shows, and what is done with them."""
 from __future__ import annotations
 
 import contextlib
 import json
 from dataclasses import dataclass
-from typing import List, Optional, Sequence
+from typing import Any, List, Optional, Sequence
 
 from .. import ClientError, User
 from ..refusals import NoSession
 from .own import OwnSessions, Unknown
 from .scenes import Scene
 from .stage import KEPT, START, Lost, Stage
+from .typed import replied, typed
 from .wishes import Answer, Wish, number_in
 
 
@@ -62,6 +63,15 @@ class Talk:
         if self._choice.own is not None:
             self._choice.own.give_up(user)
 
+    def lose(self) -> None:
+        """Has the session be found again: somebody else may have gone on with it."""
+        if self._stage is not None:
+            self._stage.is_lost = True
+
+    def typed(self, user: User, commands: Any) -> List[List[str]]:
+        """The lines of the replies to commands that were typed."""
+        return typed(commands, lambda line, body: replied(user, line, body.encode()))
+
     def left(self) -> List[str]:
         """What there may be at the server still of what was to be given up, in words."""
         sessions = [self._shared] if self._shared else []
@@ -73,8 +83,11 @@ class Talk:
         try:
             if wish.get("do") == "load":
                 return json.dumps(self._load(user, wish))
+            if wish.get("do") == "commands":
+                self.lose()
+                return json.dumps({"told": self.typed(user, wish.get("commands")), **self._choices(user)})
             if self._stage is None:
-                raise ValueError("there are no atoms yet")
+                raise ValueError("cannot answer: no atoms are loaded yet; choose some first")
             return json.dumps(self._stage.answer(user, wish))
         except Unknown as unknown:
             return json.dumps({**unknown.asks(), "choice": self._choices(user)})
@@ -95,14 +108,15 @@ class Talk:
         else:
             name = str(session)
             if self._choice.own is None or name not in self._own_names(user):
-                raise ValueError(f"there is no session {name}")
+                raise ValueError(f"cannot show {name}: there is no session of this name; choose another")
             stage = self._choice.own.stage(user, name, wish)
             self._leave(user)
             self._stage, self._shared = stage, name
             chosen = {"number": None, "session": name, "title": name, "settings": None}
         assert self._stage is not None
         first = self._stage.shown(user)
-        return {**first, "scene": {**chosen, **self._choices(user), **first.pop("likeness")}}
+        likeness = first.pop("likeness")
+        return {**first, "scene": {**chosen, **self._choices(user), **likeness}}
 
     def _staged(self, user: User, scene: Scene) -> Stage:
         """A scene, loaded for this page."""

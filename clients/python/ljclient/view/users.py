@@ -1,4 +1,4 @@
-"""Whose sessions pages show: those of a program of its own for each page, or those of one user at a server for all."""
+"""Whose sessions pages show: of a program for each page, or of one user at a server for all pages."""
 from __future__ import annotations
 
 import asyncio
@@ -13,7 +13,7 @@ from ..transport import Transport
 from ..errors import TimedOut
 from ..files import Path
 from ..tokens import fault_of, without_blanks
-from ..user import transport_opener, joined
+from ..connecting import joined, transport_opener
 from .addresses import Address
 from .connection import PATIENCE, Connection, OpenUser
 from .talk import Talk
@@ -25,10 +25,20 @@ SECONDS_OF_A_CONNECTION = 15.0
 
 
 class NoToken(ClientError):
-    """Nobody has said the user's token yet."""
+    """The user's token is not known yet."""
 
 
-class Users(Protocol):
+class Beside(Protocol):
+    """What is known beside the connection of a page."""
+
+    def waits(self) -> Optional[str]:
+        """What a page is told for which nothing was heard for a while, if there is anything."""
+
+    async def end(self) -> Optional[str]:
+        """What has ended together with the connection, so that no button of a page can do anything any more, if it has."""
+
+
+class Users(Beside, Protocol):
     """Where the sessions of pages are."""
 
     def enter(self) -> Connection:
@@ -39,12 +49,6 @@ class Users(Protocol):
 
     async def close(self) -> None:
         """Has all pages be gone."""
-
-    def waits(self) -> Optional[str]:
-        """What a page is told for which nothing was heard for a while, if there is anything."""
-
-    async def end(self) -> Optional[str]:
-        """What has ended together with the connection, so that no button of a page can do anything any more, if it has."""
 
 
 class Programs:
@@ -66,7 +70,7 @@ class Programs:
         return None
 
     async def end(self) -> Optional[str]:
-        return "The program has ended. Load this page anew to begin again"
+        return "The program has ended. Load this page again"
 
 
 @dataclass
@@ -76,7 +80,7 @@ class Account:
     address     where the server listens
     name        of the user
     token       if it is known
-    tls, ca     as `ljclient.connect` takes them
+    tls, ca     as `ljclient.connect` takes them, and so is `fingerprint`
     is_reached  whether the server was reached, over TLS if that was said, and has not let the user in yet
     """
 
@@ -85,20 +89,21 @@ class Account:
     token: Optional[str] = None
     tls: bool = False
     ca: Optional[Path] = None
+    fingerprint: Optional[str] = None
     is_reached: bool = False
 
     def open(self, seconds: float = SECONDS) -> User:
         """The user's connection. It waits for so long if another one is open."""
         if self.token is None:
-            raise NoToken(f"the token of {self.name} was not said")
+            raise NoToken(f"cannot connect: the token of {self.name} is missing; use --token-file FILE, or type it into the page")
         try:
-            return joined(self._transport, self.name, self.token, seconds, str(self.address))
+            return joined(lambda _: self._transport(), self.name, self.token, seconds, str(self.address))
         finally:
             self.is_reached = False
 
     def _transport(self) -> Transport:
         """A connection to the server. Raises ClientError, which says what to do, if there is none or it is not trusted."""
-        transport = transport_opener(self.tls, self.ca)(*self.address, SECONDS_OF_A_CONNECTION)
+        transport = transport_opener(self.tls, self.ca, self.fingerprint)(*self.address, SECONDS_OF_A_CONNECTION)
         self.is_reached = True
         return transport
 
@@ -111,14 +116,14 @@ class Account:
         return True
 
     def take(self, token: object) -> Optional[str]:
-        """Takes a token that was typed. Returns what is wrong with it, if it is none."""
+        """Takes a token that was typed. Returns what is wrong with it, if it is not one."""
         typed = without_blanks(token) if isinstance(token, str) else ""
         if (fault := fault_of(typed)) is None:
             self.token = typed
         return fault
 
     def asks(self, why: str) -> Answer:
-        """What a page is asked if the token is not known, or is none."""
+        """What a page is asked if the token is not known, or has another form."""
         return {"asks": "token", "name": self.name, "why": why}
 
     def check(self) -> None:
@@ -167,7 +172,7 @@ class AtServer:
         await within(SECONDS_OF_A_TRY, self._connection.close())
         left = sorted({what for talk in self._gone for what in talk.left()})
         if left and await self.end() is None:
-            print(f"view: {self._address} could not be asked to give up {', '.join(left)}", file=sys.stderr)
+            print(f"view: cannot give up {', '.join(left)}: {self._address} does not answer", file=sys.stderr)
 
     def waits(self) -> Optional[str]:
         if self._connection is None or self._connection.is_open:
@@ -180,7 +185,7 @@ class AtServer:
     async def end(self) -> Optional[str]:
         if await asyncio.to_thread(self.account.is_served):
             return None
-        return f"The server at {self._address} has ended. Load this page anew when it is there again"
+        return f"The server at {self._address} has ended. Load this page again when it is back"
 
     @property
     def _address(self) -> str:

@@ -1,5 +1,7 @@
 // Whether the simulation has burst: whether steps have led the energy of an atom far from what it was at the start.
 
+import { text } from "./texts.js";
+
 const FAR = 10; // in epsilon an atom
 // So many frames in a row, since kinetic energies are half a step old: in a hard collision of few atoms the total is off for a moment.
 const FRAMES = 3;
@@ -25,6 +27,5 @@ export class BurstWatch {
 // What is said of it, and what helps.
 export function burstText({ dt, reduced_dt, settings }) {
   const step = dt === null ? `${Number(reduced_dt.toPrecision(4))} τ` : `${Number(dt.toPrecision(4))} fs`;
-  const help = settings ? `Begin anew with a smaller step than ${step}.` : `Load it with a smaller step than ${step}.`;
-  return `The simulation has burst: the energy of an atom is more than ${FAR} ε off its start, tugs aside. ${help}`;
+  return `${text("burst", { far: FAR })} ${text(settings ? "burstBegin" : "burstLoad", { step })}`;
 }

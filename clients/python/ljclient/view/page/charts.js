@@ -6,6 +6,7 @@ import { stepText } from "./clock.js";
 export { label, ticks };
 
 const MOST_POINTS = 4000;
+const BY_KEY = { ArrowLeft: -1, ArrowDown: -1, ArrowRight: 1, ArrowUp: 1, PageDown: -20, PageUp: 20 }; // rows
 
 // What was seen: a row for each frame, with the step, the direction, whether it follows the row before, and the values.
 // Of a long history only some rows are kept, all equally many frames apart, and those at which a line begins, turns or ends.
@@ -44,10 +45,12 @@ export class Chart extends Axes {
   // `least` is a range of values that is shown in any case. With `isLog` values are drawn by their powers of ten.
   constructor(canvas, lines, least, isLog = false) {
     super(canvas);
-    Object.assign(this, { lines, least, drawsPowers: isLog, pointed: null, moved: () => {} });
+    Object.assign(this, { lines, least, drawsPowers: isLog, pointed: null, rows: [], moved: () => {} });
     this.output = canvas.parentElement?.querySelector(".at"); // where the row at the pointer is told
     canvas.addEventListener("pointermove", ({ offsetX, offsetY }) => this.point({ left: offsetX, top: offsetY }));
-    for (const type of ["pointerleave", "pointercancel"]) canvas.addEventListener(type, () => this.point(null));
+    for (const type of ["pointerleave", "pointercancel", "blur"]) canvas.addEventListener(type, () => this.point(null));
+    canvas.addEventListener("focus", () => this.name(this.rows.length - 1));
+    canvas.addEventListener("keydown", (event) => this.press(event));
   }
 
   // Takes in where the pointer is.
@@ -56,17 +59,39 @@ export class Chart extends Axes {
     this.moved();
   }
 
+  // Goes from row to row by the keyboard.
+  press(event) {
+    const by = BY_KEY[event.key];
+    if (!by || !this.rows.length) return;
+    event.preventDefault();
+    const found = this.rows.indexOf(this.pointed?.row);
+    const last = this.rows.length - 1;
+    const place = Math.max(0, Math.min(last, (found < 0 ? last : found) + by));
+    this.point({ row: this.rows[place] });
+    this.name(place);
+  }
+
+  // Tells a screen reader the values of a row. While it plays they change too often to be told.
+  name(place) {
+    const row = this.rows[place];
+    if (!row) return;
+    const values = { "aria-valuemin": 0, "aria-valuemax": this.rows.length - 1, "aria-valuenow": place, "aria-valuetext": this.rowText(row) };
+    for (const [name, value] of Object.entries(values)) this.canvas.setAttribute(name, value);
+  }
+
   // Draws all rows, over the steps or, with `inTime`, over the time of a clock.
   draw(history, clock = null, inTime = false) {
     const rows = history.rows;
     if (!rows.length || !this.canvas.clientWidth) return;
+    Object.assign(this, { rows, clock });
+    if (document.activeElement !== this.canvas) this.name(rows.length - 1);
     this.per = clock && inTime ? clock.per : 1;
     this.begin(this.stepsOf(rows), this.valuesOf(rows), this.drawsPowers);
     for (const { value, colour } of this.lines) {
       this.line(rows, value, (direction) => this.style.getPropertyValue(colour(direction)));
       if (this.has(history.last, value)) this.dot(history.last, value, this.style.getPropertyValue(colour(history.last.direction)));
     }
-    if (this.output) this.tell(this.pointed && this.nearest(rows), clock);
+    if (this.output) this.tell(this.pointed && (this.pointed.row ?? this.nearest(rows)));
   }
 
   // The row nearest to the pointer: along the bottom, and where several are as near, along the side.
@@ -84,14 +109,18 @@ export class Chart extends Axes {
   }
 
   // Tells the step and the values of a row, and marks it.
-  tell(row, clock) {
-    this.output.textContent = row ? `${stepText(row.step, clock)}: ${this.valuesText(row)}` : "";
+  tell(row) {
+    this.output.textContent = row ? this.rowText(row) : "";
     if (!row) return;
     const across = this.x(row.step * this.per);
     this.pen.strokeStyle = this.style.getPropertyValue("--soft");
     this.pen.lineWidth = 1;
     this.rule(across, this.top, across, this.bottom);
     for (const { value } of this.lines) if (this.has(row, value)) this.dot(row, value, this.style.getPropertyValue("--ink"));
+  }
+
+  rowText(row) {
+    return `${stepText(row.step, this.clock)}: ${this.valuesText(row)}`;
   }
 
   valuesText(row) {

@@ -1,6 +1,7 @@
 // The time of a step: in picoseconds if the unit of time is known, else in units of sigma (m / epsilon)^0.5, which is τ.
 
 import { label } from "./axes.js";
+import { text } from "./texts.js";
 
 export class Clock {
   constructor({ dt, reduced_dt }) {
@@ -13,4 +14,7 @@ export class Clock {
 }
 
 // A step as it is told: with its time.
-export const stepText = (step, clock) => `step ${step.toLocaleString("en").replace("-", "−")}${clock ? ` · ${clock.text(step)}` : ""}`;
+export function stepText(step, clock) {
+  const told = text("atStep", { step: step.toLocaleString("en").replace("-", "−") });
+  return clock ? `${told} · ${clock.text(step)}` : told;
+}

@@ -10,12 +10,21 @@ export class Message {
     return this.element.textContent !== "";
   }
 
-  // `names` are those of the values that a message is said of. One without a name stays until another is said.
-  say(text, names, kind = "") {
+  // `tell` returns the text in the language that is chosen; a text alone is the program's own, which is English. `names` are those of the
+  // values that a message is said of. One without a name stays until another is said.
+  say(tell, names, kind = "") {
     const now = this.present();
     this.said = names.map((name) => [name, now[name]]);
-    this.element.textContent = text;
+    this.tell = typeof tell === "function" ? tell : null;
+    if (tell && !this.tell) this.element.lang = "en";
+    else this.element.removeAttribute("lang");
+    this.element.textContent = this.tell ? tell() : tell;
     this.element.className = `message ${kind}`;
+  }
+
+  // Says it again, when another language is chosen.
+  again() {
+    if (this.tell) this.element.textContent = this.tell();
   }
 
   // Takes the message away if a value that it was said of has changed.

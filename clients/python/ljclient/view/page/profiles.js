@@ -1,7 +1,8 @@
 // Charts of what the atoms of a frame tell: the distribution of their speeds, and of their distances.
 
-import { Axes } from "./axes.js";
+import { Axes, label } from "./axes.js";
 import { maxwell, radial, shares, speeds } from "./measures.js";
+import { text } from "./texts.js";
 
 const OLD = 0.8; // the share that earlier frames keep while time goes on
 const BINS_OF_SPEEDS = 30;
@@ -54,6 +55,13 @@ class Profile extends Axes {
     if (curve) this.curve(curve, bins.length * width);
   }
 
+  // Tells a screen reader where the bars are highest, by a text that has the place in the middle of a bin, and its value.
+  describe(bins, width, key, values) {
+    const highest = bins.reduce((found, value, k) => (value > bins[found] ? k : found), 0);
+    const short = (number) => label(Number(number.toPrecision(3)));
+    this.canvas.setAttribute("aria-description", text(key, values(short((highest + 0.5) * width), short(bins[highest]))));
+  }
+
   curve(of, most) {
     this.pen.beginPath();
     this.pen.strokeStyle = this.style.getPropertyValue("--ink");
@@ -77,6 +85,7 @@ export class Speeds extends Profile {
     const { unit, widthOfBin, temperature } = this;
     const bins = this.mean.bins.map((share) => share / unit);
     this.bars(bins, widthOfBin * unit, "--speeds", (speed) => maxwell(speed / unit, temperature) / unit, 0);
+    this.describe(bins, widthOfBin * unit, "speedsPeak", (speed) => ({ speed, unit: unit === 1 ? "σ/τ" : "m/s" }));
   }
 }
 
@@ -89,6 +98,7 @@ export class Radial extends Profile {
   draw() {
     if (!this.mean.bins || !this.isShown) return;
     this.bars(this.mean.bins, WIDTH_OF_RADIAL, "--radial", null, 2);
+    this.describe(this.mean.bins, WIDTH_OF_RADIAL, "radialPeak", (distance, value) => ({ distance, value }));
     this.pen.strokeStyle = this.style.getPropertyValue("--ink");
     this.pen.lineWidth = 1;
     this.rule(this.left, this.y(1), this.right, this.y(1));

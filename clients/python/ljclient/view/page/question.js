@@ -1,15 +1,36 @@
 // What has to be said before there are atoms: the user's token, or what a session was loaded with.
 
+import { text } from "./texts.js";
+
+const TOKEN = { name: "token", label: "token", type: "password" };
 const SCALE = [
-  { name: "edge", label: "Edge of the box" },
-  { name: "sigma", label: "sigma, in the same unit" },
-  { name: "h", label: "h, the step factor" },
+  { name: "edge", label: "edge" },
+  { name: "sigma", label: "sigma" },
+  { name: "h", label: "stepFactor" },
 ];
+const FILE = [
+  { name: "edge", label: "edgeOfFile" },
+  { name: "sigma", label: "sigmaOfFile" },
+  { name: "epsilon", label: "epsilonOfFile" },
+  { name: "mass", label: "massOfFile" },
+  { name: "dt", label: "stepOfFile" },
+  { name: "temperature", label: "temperatureOfFile" },
+];
+// What each question says, its fields, and what its answer asks of the program.
+const QUESTIONS = {
+  token: { key: "tokenAsked", fields: [TOKEN], wish: () => ({ do: "token" }) },
+  slip: { key: "slipAsked", fields: [{ name: "name", label: "name" }, TOKEN], wish: () => ({ do: "enter" }) },
+  file: { key: "fileAsked", fields: FILE, wish: ({ name }) => ({ do: "load", file: name }) },
+  scale: { key: "scaleAsked", fields: SCALE, wish: ({ session }) => ({ do: "load", session }) },
+};
 
 export class Question {
   // `say` is told what is to be asked of the program.
   constructor(form, say) {
     Object.assign(this, { form, say, fields: form.querySelector(".fields"), text: form.querySelector("p"), why: form.querySelector(".message") });
+    this.why.lang = "en"; // what is wrong is the program's own word
+    this.leave = form.querySelector(".leave"); // where there are atoms already
+    this.leave.addEventListener("click", () => this.hide());
     form.addEventListener("submit", (event) => {
       event.preventDefault();
       if (this.asked) this.say({ ...this.asked, ...Object.fromEntries(new FormData(form)) });
@@ -17,19 +38,23 @@ export class Question {
   }
 
   // Shows what an answer of the program asks for.
-  show({ asks, name, session, edge, why }) {
+  show(answer) {
     this.form.hidden = false;
-    this.why.textContent = why;
-    if (asks === "token") {
-      this.text.textContent = `The token of ${name}, as on the slip. Blanks in it count for nothing.`;
-      this.fill([{ name: "token", label: "Token", type: "password" }], {});
-      this.asked = { do: "token" };
-    } else {
-      this.text.textContent = `What was ${session} loaded with? The server does not tell it: it stands in the LOAD of the prompt, or below its reply.`;
-      this.fill(SCALE, { edge });
-      this.asked = { do: "load", session };
-    }
+    this.why.textContent = answer.why;
+    this.leave.hidden = answer.asks !== "file";
+    const { fields, wish } = QUESTIONS[answer.asks];
+    this.answer = answer;
+    this.asked = wish(answer);
+    this.fill(fields, answer.known ?? { edge: answer.edge });
+    this.again();
     this.fields.querySelector("input").focus();
+  }
+
+  // Asks in the language that is chosen.
+  again() {
+    if (!this.asked) return;
+    this.text.textContent = text(QUESTIONS[this.answer.asks].key, this.answer);
+    for (const label of this.fields.children) label.firstChild.textContent = `${text(label.dataset.key)} `;
   }
 
   // The fields, with what is known already. What was typed last is left where only the reason has changed.
@@ -39,7 +64,8 @@ export class Question {
       const [box, input] = [document.createElement("label"), document.createElement("input")];
       Object.assign(input, { name, type, required: true, autocomplete: "off", spellcheck: false });
       input.value = type === "password" ? "" : typed[name] ?? known[name] ?? "";
-      box.append(`${label} `, input);
+      box.dataset.key = label;
+      box.append("", input);
       return box;
     }));
   }

@@ -15,6 +15,17 @@ export class ShownCharts {
     for (const [name, input] of this.boxes) document.getElementById(name).hidden = !input.checked;
   }
 
+  // The charts that are shown, by their names.
+  get names() {
+    return [...this.boxes].filter(([, input]) => input.checked).map(([name]) => name.replace("of-", ""));
+  }
+
+  // Shows these charts, and no others.
+  show(names) {
+    for (const [name, input] of this.boxes) input.checked = names.includes(name.replace("of-", ""));
+    this.apply();
+  }
+
   // Shows a chart, or hides it.
   set(name, on) {
     this.boxes.get(name).checked = on;
