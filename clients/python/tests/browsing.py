@@ -17,12 +17,12 @@ CHROMIUM = shutil.which("chromium") or shutil.which("chromium-browser") or shuti
 
 
 class Browser:
-    """A browser with one page, which is as large as said."""
+    """A browser with one page, which is as large as said, and with more words of its command line."""
 
-    def __init__(self, width: int = 1320, height: int = 860) -> None:
+    def __init__(self, width: int = 1320, height: int = 860, *more: str) -> None:
         self._folder = pathlib.Path(tempfile.mkdtemp())
-        words = ["--headless", "--remote-debugging-port=0", f"--user-data-dir={self._folder}", "--disable-gpu"]
-        words += ["--no-first-run", "--hide-scrollbars", f"--window-size={width},{height}", "--force-device-scale-factor=1"]
+        words = ["--headless", "--remote-debugging-port=0", f"--user-data-dir={self._folder}", "--disable-gpu", "--accept-lang=en"]
+        words += ["--no-first-run", "--hide-scrollbars", f"--window-size={width},{height}", "--force-device-scale-factor=1", *more]
         words += ["--no-sandbox"] if os.geteuid() == 0 else []
         self._child = subprocess.Popen(
             [present(CHROMIUM), *words, "about:blank"],

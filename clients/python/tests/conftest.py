@@ -1,6 +1,5 @@
 """What the tests of the client share: the package on the path, a program, a server, a relay that speaks TLS in front of it, and a
 browser."""
-import contextlib
 import pathlib
 import sys
 from typing import Any, Iterator
@@ -10,7 +9,6 @@ import pytest
 sys.path.insert(0, str(pathlib.Path(__file__).resolve().parents[1]))
 from browsing import Browser  # noqa: E402
 from cuts import Where, served  # noqa: E402
-from keepers import Cluster, missing  # noqa: E402
 from ljclient import run  # noqa: E402
 from relays import Relay, certificate  # noqa: E402
 from support import PROGRAM, Server  # noqa: E402
@@ -35,15 +33,6 @@ def where(request: Any, tmp_path_factory: pytest.TempPathFactory) -> Iterator[Wh
     """A server over each pool, and one behind `tools/keep`, for connections that are cut."""
     with served(request.param, tmp_path_factory.mktemp("kept")) as where:
         yield where
-
-
-@pytest.fixture(scope="session")
-def cluster() -> Iterator[Any]:
-    """A PostgreSQL of its own."""
-    if why := missing():
-        pytest.skip(why)
-    with contextlib.closing(Cluster()) as one:
-        yield one
 
 
 @pytest.fixture

@@ -22,7 +22,7 @@ def begin(tug: Any, user: Any) -> Any:
 
 
 def look(session: Any) -> Tuple[Any, Any]:
-    return session.step, tuple(map(int, session.place(0)))
+    return session.get_step(), tuple(map(int, session.place(0)))
 
 
 def begin_two(user: Any) -> List[Any]:
@@ -36,7 +36,7 @@ def begin_named(user: Any) -> Any:
 
 
 def look_at_two(first: Any, second: Any) -> Tuple[Any, Any, Any]:
-    return first.step, second.step, int(second.place(1)[0]) - int(first.place(1)[0])
+    return first.get_step(), second.get_step(), int(second.place(1)[0]) - int(first.place(1)[0])
 
 
 def noted_begin(file: Any, tug: Any, user: Any) -> Any:
@@ -48,14 +48,14 @@ def noted_begin(file: Any, tug: Any, user: Any) -> Any:
 
 def look_and_die(marker: Any, step: Any, session: Any) -> Any:
     """Looks, and the first time that a session is at this step kills the process without a word."""
-    if session.step == step and not os.path.exists(marker):
+    if session.get_step() == step and not os.path.exists(marker):
         pathlib.Path(marker).touch()
         os.kill(os.getpid(), signal.SIGKILL)
     return look(session)
 
 
 def look_and_fail(session: Any) -> Any:
-    if session.step == 20:
+    if session.get_step() == 20:
         raise ValueError("nothing to see here")
     return look(session)
 

@@ -4,14 +4,17 @@ import subprocess
 import sys
 from typing import Any, Dict, List, Tuple
 
+import ljclient
 from support import DIMER, PROGRAM
 from terminals import environment
 
+# The line of a record that names the client.
+CLIENT = f"client ljclient {ljclient.__version__}"
 FRAME = "2\nstep 2\nAr 0.000105 0.000000 0.000000\nAr 1.499894 0.000000 0.000000\n"
 # Two steps of the dimer, which are worked by hand in PROTOCOL. The head of a record of `run` has more lines.
 DIMER_TEXT = f"""\
 ljserve record 2
-client ljclient 1.1.0
+{CLIENT}
 quota sessions 1 atoms 2 branches 0
 > LOAD a 256 1 131072 rest 28
 : 2

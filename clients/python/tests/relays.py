@@ -1,4 +1,4 @@
-"""A relay that speaks TLS in front of a server, with certificates that openssl makes."""
+"""A relay in front of a server, which speaks TLS with certificates that openssl makes, or plainly."""
 import asyncio
 import socket
 import ssl
@@ -11,14 +11,14 @@ from support import SECONDS
 HERE = "DNS:localhost,IP:127.0.0.1"
 
 # What clients say of a server whose issuer is not known, of one without TLS, and of one that ends the connection.
-UNKNOWN = "the issuer of its certificate is not known here: say ca=FILE or --ca FILE, a file with that of the issuer, from its operator"
-NO_TLS = "it does not speak TLS there: say the port that does, or leave TLS out if the network may see the token"
+UNKNOWN = "the issuer of its certificate is not known here; use ca=FILE or --ca FILE, the issuer's certificate from its operator"
+NO_TLS = "it does not speak TLS there; use the port that does, or leave TLS out if the network may see the token"
 ENDED = "it has ended the connection before it was encrypted: does it speak TLS at this port?"
 
 
 def of_another_issuer(file: Any) -> str:
     """What clients say of a server whose certificate is of another issuer than the one in a file."""
-    return f"its certificate is of another issuer than that in {file}: ask its operator for the right file"
+    return f"its certificate is of another issuer than the one in {file}; ask its operator for the right file"
 
 
 def denies(connection: Any, stop: Any) -> None:
@@ -68,16 +68,18 @@ def expired(folder: Any) -> Tuple[Any, Any]:
 
 
 class Relay:
-    """Speaks TLS on a loopback port, and hands what it decrypts to a server on another. `heard` is what clients said."""
+    """Speaks TLS on a loopback port, or plainly without a certificate, and hands what it hears to a server on another. `heard` is what
+    clients said."""
 
-    def __init__(self, port: Any, certificate: Any, listener: Any = None) -> None:
+    def __init__(self, port: Any, certificate: Any = None, listener: Any = None) -> None:
         listener = listener or socket.create_server(("127.0.0.1", 0))
         self.heard = b""
         self.port = listener.getsockname()[1]
-        self._to = port
+        self.to = port
         self._writers: List[Any] = []
-        context = ssl.SSLContext(ssl.PROTOCOL_TLS_SERVER)
-        context.load_cert_chain(*certificate)
+        context = None if certificate is None else ssl.SSLContext(ssl.PROTOCOL_TLS_SERVER)
+        if context is not None:
+            context.load_cert_chain(*certificate)
         self._loop = asyncio.new_event_loop()
         self._loop.set_exception_handler(lambda loop, context: None)
         starting = asyncio.start_server(self._relay, sock=listener, ssl=context)
@@ -86,7 +88,11 @@ class Relay:
         self._thread.start()
 
     async def _relay(self, reader: Any, writer: Any) -> None:
-        from_server, to_server = await asyncio.open_connection("127.0.0.1", self._to)
+        try:
+            from_server, to_server = await asyncio.open_connection("127.0.0.1", self.to)
+        except OSError:
+            writer.close()
+            return
         self._writers += [writer, to_server]
         await asyncio.gather(self._pump(reader, to_server, True), self._pump(from_server, writer), return_exceptions=True)
 

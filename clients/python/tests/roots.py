@@ -86,3 +86,79 @@ def root_of_its_own(folder: Any) -> Iterator[Any]:
             yield Root(process)
         finally:
             process.kill()
+
+
+# What begins systemd as the first process of a root, again and again, since an end of it is a loss of power. Services that this
+# machine has are not begun there. The folder of nspawn is below /run.
+BOOT = """
+mount -t proc proc /proc
+mount -t tmpfs tmpfs /run
+mount -t tmpfs tmpfs "$1"
+mkdir "$1/upper" "$1/work" "$1/root"
+mount -t overlay overlay -o "lowerdir=/,upperdir=$1/upper,workdir=$1/work" "$1/root"
+rm -rf "$1"/root/etc/systemd/system/*.wants
+od -An -N16 -tx1 /dev/urandom | tr -d ' \\n' >"$1/root/etc/machine-id"
+begin() { systemd-nspawn --quiet --register=no --keep-unit --private-network --console=pipe --directory="$1/root" "$2"; }
+begin "$1" /bin/true
+while :; do
+    mount -t tmpfs tmpfs "$1/root/run"
+    mount -t tmpfs tmpfs "$1/root/tmp"
+    begin "$1" --boot || echo "ended: $?"
+    umount "$1/root/run" "$1/root/tmp"
+done
+"""
+
+
+class Machine(Root):
+    """A root whose first process is systemd."""
+
+    def __init__(self, process: Any) -> None:
+        self.process = process
+        self.boot()
+
+    def boot(self) -> None:
+        """Waits until systemd has begun all services."""
+        end = time.monotonic() + 4 * SECONDS
+        while not (number := first_process(str(self.process.pid))) or not self.has_begun(number):
+            if time.monotonic() > end or self.process.poll() is not None:
+                raise NoRoot("systemd does not begin")
+            time.sleep(0.2)
+
+    def has_begun(self, number: str) -> bool:
+        self.number, self.path = number, pathlib.Path(f"/proc/{number}/root")
+        asked = subprocess.run(self.command("systemctl", "is-active", "multi-user.target"), capture_output=True, text=True)
+        return asked.stdout == "active\n"
+
+    def lose_power(self) -> None:
+        """Ends all that runs there at once, and waits until it has begun again."""
+        ended = self.number
+        subprocess.run(["kill", "-KILL", ended], check=True)
+        while pathlib.Path(f"/proc/{ended}").exists():
+            time.sleep(0.05)
+        self.boot()
+
+
+def first_process(parent: str) -> str:
+    """Of what a process has begun, the first process of a namespace that is systemd; nothing where there is none yet."""
+    below = [parent]
+    for number in below:
+        try:
+            status = pathlib.Path(f"/proc/{number}/status").read_text()
+            below += pathlib.Path(f"/proc/{number}/task/{number}/children").read_text().split()
+        except OSError:  # it has just ended
+            continue
+        if status.startswith("Name:\tsystemd\n") and re.search(r"^NSpid:.*\t1$", status, re.M):
+            return number
+    return ""
+
+
+@contextlib.contextmanager
+def machine_of_its_own(folder: Any) -> Iterator[Machine]:
+    """A machine that is gone at the end. Raises NoRoot if none can be had here."""
+    words = ["unshare", "--mount", "--pid", "--fork", "--kill-child", "sh", "-ec", BOOT, "sh", str(folder)]
+    with open(folder.with_suffix(".log"), "wb") as log:
+        with subprocess.Popen(words, stdin=subprocess.DEVNULL, stdout=log, stderr=log) as process:
+            try:
+                yield Machine(process)
+            finally:
+                process.kill()

@@ -377,8 +377,8 @@ FRAME = Frame.of([(0, 0, 0)], EDGE)
 @pytest.mark.parametrize(
     "ask, text",
     [
-        (lambda: analysis.Rdf(bins=0), "bins must be 1 at least, got 0"),
-        (lambda: analysis.Rdf(r_max=-1), "r_max is a number above 0"),
+        (lambda: analysis.Rdf(bins=0), "bins must be at least 1, got 0"),
+        (lambda: analysis.Rdf(r_max=-1), "r_max must be a finite number above 0"),
         (lambda: analysis.Rdf(r_max=6).add(FRAME), "r_max must be at most half the edge"),
         (lambda: analysis.Order(6).add(FRAME), "reach must be at most half the edge, got 6 in a box of 10"),
         (lambda: analysis.Clusters(6).add(FRAME), "reach must be at most half the edge, got 6 in a box of 10"),
@@ -386,9 +386,9 @@ FRAME = Frame.of([(0, 0, 0)], EDGE)
         (lambda: analysis.Stress().add(FRAME), "a frame must have a stress, got none"),
         (lambda: analysis.Viscosity(3).add(FRAME), "a frame must have a stress, got none"),
         (lambda: analysis.Energy().add(FRAME), "a frame must have energies, got none"),
-        (lambda: analysis.Msd(lags=0), "lags must be 1 at least, got 0"),
-        (lambda: analysis.Msd(lags=3).result(), "a series must have 1 value at least, got 0"),
-        (lambda: analysis.StructureFactor(k_max=0.1).add(FRAME), "k_max must be 2 pi / edge at least"),
+        (lambda: analysis.Msd(lags=0), "lags must be at least 1, got 0"),
+        (lambda: analysis.Msd(lags=3).result(), "a series must have at least 1 value, got 0"),
+        (lambda: analysis.StructureFactor(k_max=0.1).add(FRAME), "k_max must be at least 2 pi / edge"),
         (lambda: analysis.Blocks(3), "most must be a power of 2, got 3"),
         (lambda: Frame.of([(0, 0)], EDGE), r"positions must be finite numbers of shape \(atoms, 3\), got shape \(1, 2\)"),
         (lambda: told(analysis.Msd(3), gas(2, 1, species=["A"])), "species must be one symbol for each of 2 atoms, got 1"),

@@ -23,7 +23,7 @@ from ljclient import analysis, units  # noqa: E402
 from ljclient.analysis import Frame, frame_of  # noqa: E402
 from test_types import WITHOUT_TYPES, told  # noqa: E402
 
-MODULES = ["ljclient.session", *(f"ljclient.analysis.{each.name}" for each in pkgutil.iter_modules(analysis.__path__))]
+MODULES = ["ljclient.looks", *(f"ljclient.analysis.{each.name}" for each in pkgutil.iter_modules(analysis.__path__))]
 DROPLET = [(4 + 1.2 * (number % 2), 4 + 1.1 * (number // 2 % 2), 4 + 1.15 * (number // 4)) for number in range(8)]
 
 
@@ -39,10 +39,10 @@ def test_a_session_goes_on_by_the_steps_that_were_said(user: Any) -> None:
     drop, seen = droplet(user), []
     g, energy = analysis.Rdf(bins=10), analysis.Energy()
     analysis.analyse(drop, 25, 10, [g, energy], lambda done, total: seen.append((done, total)))
-    assert drop.step == 25 and g.result().frames == 3
+    assert drop.get_step() == 25 and g.result().frames == 3
     assert seen[-1] == (20, 25) and seen == sorted(seen)
     analysis.rdf(drop, steps=10, every=5, bins=10)
-    assert drop.step == 35
+    assert drop.get_step() == 35
 
 
 def test_frames_with_positions_alone_say_the_same(user: Any) -> None:
@@ -103,12 +103,12 @@ def test_a_motion_turned_back_is_looked_at_as_well(user: Any) -> None:
     assert back.times.tolist() == there.times.tolist() and back.msd[-1] == pytest.approx(there.msd[-1], rel=0.1)
 
 
-@pytest.mark.parametrize("steps, every, text", [(0, 1, "steps is 1 at least"), (10, 0, "every is 1 at least")])
+@pytest.mark.parametrize("steps, every, text", [(0, 1, "steps must be at least 1, got 0"), (10, 0, "every must be at least 1, got 0")])
 def test_numbers_of_steps_are_above_zero(user: Any, steps: int, every: int, text: str) -> None:
     a = dimer(user)
     with pytest.raises(ValueError, match=text):
         analysis.rdf(a, steps, every)
-    assert a.step == 0
+    assert a.get_step() == 0
 
 
 def test_a_tail_by_hand(user: Any) -> None:

@@ -23,18 +23,18 @@ def names(message: Any) -> Any:
 @pytest.mark.parametrize("name", ["edge", "sigma", "epsilon", "mass", "dt"])
 @pytest.mark.parametrize("value", [(1, 2), [2]])
 def test_what_is_no_number_is_named(name: Any, value: Any) -> None:
-    with names(f"{name} is one number, not {value!r}"):
+    with names(f"{name} must be one number, got {value!r}"):
         Scale.of(**{**ARGON, name: value})
 
 
 def test_a_mass_is_one_number_beside_h_too(user: Any) -> None:
-    with names("mass is one number, not (1, 2)"):
+    with names("mass must be one number, got (1, 2)"):
         dimer(user, epsilon=0.01, mass=(1, 2))
     assert user.sessions() == []
 
 
 def test_a_mixture_has_one_mass() -> None:
-    with names("mass is one number, not (40, 84): both species have one mass here"):
+    with names("mass must be one number, got (40, 84): both species have one mass here"):
         words: Dict[str, Any] = {**PAIRS, "mass": (40, 84)}
         Mixture.of(**words)
 
@@ -42,10 +42,10 @@ def test_a_mixture_has_one_mass() -> None:
 @pytest.mark.parametrize(
     "said, told",
     [
-        ({"first": 3.4}, "first= is (sigma, epsilon), not 3.4"),
-        ({"second": (3.6, 0.012, 84)}, "second= is (sigma, epsilon), not (3.6, 0.012, 84)"),
-        ({"mixed": (3.5,)}, "mixed= is (sigma, epsilon), not (3.5,)"),
-        ({"first": (3.4, "deep")}, "epsilon is one number, not 'deep'"),
+        ({"first": 3.4}, "first must be (sigma, epsilon), got 3.4"),
+        ({"second": (3.6, 0.012, 84)}, "second must be (sigma, epsilon), got (3.6, 0.012, 84)"),
+        ({"mixed": (3.5,)}, "mixed must be (sigma, epsilon), got (3.5,)"),
+        ({"first": (3.4, "deep")}, "epsilon must be one number, got 'deep'"),
     ],
 )
 def test_a_pair_is_sigma_and_epsilon(said: Any, told: Any) -> None:
@@ -55,53 +55,57 @@ def test_a_pair_is_sigma_and_epsilon(said: Any, told: Any) -> None:
 
 @pytest.mark.parametrize("classes", [[(1, 4096)] * 3, [1, 2, 3], [(1, 4096, 256)] * 2])
 def test_a_class_is_sigma_and_h_and_weight(classes: Any) -> None:
-    with names(f"three classes of (sigma, h, weight), not {classes!r}"):
+    with names(f"three classes of (sigma, h, weight), got {classes!r}"):
         Mixture.of(21, ("Ar", "Kr"), classes=classes)
 
 
 @pytest.mark.parametrize(
     "act, told",
     [
-        (lambda a: a.advance(2.5), "a number of steps is a whole number (int), not 2.5"),
-        (lambda a: a.advance(2, piece="x"), "a piece is a whole number (int), not 'x'"),
-        (lambda a: a.place("1"), "an atom number is a whole number (int), not '1'"),
-        (lambda a: a.tug(1, (1, 2)), "a displacement is three whole numbers (int), in ring units along x, y and z, not (1, 2)"),
-        (lambda a: a.tug(1, (1.5, 2, 3)), "a displacement is three whole numbers (int)"),
-        (lambda a: a.tug(1, 5), "a displacement is three whole numbers (int)"),
-        (lambda a: a.heat("hot"), "a temperature is one number, not 'hot'"),
-        (lambda a: a.sample("x", 2), "every is a whole number (int), not 'x'"),
-        (lambda a: a.thermo(1, 2.0), "rows is a whole number (int), not 2.0"),
+        (lambda a: a.advance(2.5), "the number of steps must be a whole number (int), got 2.5"),
+        (lambda a: a.advance(2, piece="x"), "piece must be a whole number (int), got 'x'"),
+        (lambda a: a.place("1"), "the number of an atom must be a whole number (int), got '1'"),
+        (lambda a: a.tug(1, (1, 2)), "a displacement must be three whole numbers (int), in ring units along x, y and z, got (1, 2)"),
+        (lambda a: a.tug(1, (1.5, 2, 3)), "a displacement must be three whole numbers (int)"),
+        (lambda a: a.tug(1, 5), "a displacement must be three whole numbers (int)"),
+        (lambda a: a.heat("hot"), "temperature must be one number, got 'hot'"),
+        (lambda a: a.sample("x", 2), "every must be a whole number (int), got 'x'"),
+        (lambda a: a.thermo(1, 2.0), "rows must be a whole number (int), got 2.0"),
     ],
 )
 def test_what_is_no_number_of_a_session_is_named(user: Any, act: Any, told: Any) -> None:
     a = dimer(user)
     with names(told):
         act(a)
-    assert (a.step, listed(a.places())) == (0, [(0, 0, 0), (25165824, 0, 0)])
+    assert (a.get_step(), listed(a.places())) == (0, [(0, 0, 0), (25165824, 0, 0)])
 
 
-@pytest.mark.parametrize("name", ["temprature", "positions", "step", "dt"])
+@pytest.mark.parametrize("name", ["temprature", "positions", "step", "n_atoms", "dt"])
 def test_what_is_no_attribute_of_a_session_cannot_be_set(user: Any, name: Any) -> None:
     with pytest.raises(AttributeError):
         setattr(dimer(user), name, 3)
 
 
 def test_h_is_a_whole_number() -> None:
-    with names("the step factor h is a whole number (int), not '131072'"):
+    with names("the step factor h must be a whole number (int), got '131072'"):
         Scale.of(256, 1, "131072")  # type: ignore[arg-type]
 
 
 @pytest.mark.parametrize(
     "source, symbols, told",
     [
-        (TWO, 18, "symbols= is a string, or a list of one for each atom, not 18"),
-        (TWO, ["Ar", 18], "a symbol is a word such as 'Ar', and that of atom 1 is 18"),
-        (TWO, [None, 18], "a symbol is a word such as 'Ar', and that of atom 0 is None"),
-        ([(18, 0, 0, 0), (18, 1, 0, 0)], None, "positions need symbols='Ar', or rows of (symbol, x, y, z), whose symbols are strings"),
-        ([1, 2], None, "positions need symbols='Ar', or rows of (symbol, x, y, z)"),
-        ([[0, 0, 0], [1, 0]], "Ar", "a position is three numbers, and that of atom 1 is [1, 0]"),
-        ([["x", 0, 0]], "Ar", "a position is three numbers, and that of atom 0 is ['x', 0, 0]"),
-        (5, None, "the atoms are a path, a file, a text, `Atoms` of ASE or a list, not 5"),
+        (TWO, 18, "symbols must be a string, or a list of one for each atom, got 18"),
+        (TWO, ["Ar", 18], "the symbol of atom 1 must be a word such as 'Ar', got 18"),
+        (TWO, [None, 18], "the symbol of atom 0 must be a word such as 'Ar', got None"),
+        (
+            [(18, 0, 0, 0), (18, 1, 0, 0)],
+            None,
+            "positions must come with symbols, got None; use symbols='Ar', or rows of (symbol, x, y, z)",
+        ),
+        ([1, 2], None, "positions must come with symbols, got None; use symbols='Ar'"),
+        ([[0, 0, 0], [1, 0]], "Ar", "the position of atom 1 must be three numbers, got [1, 0]"),
+        ([["x", 0, 0]], "Ar", "the position of atom 0 must be three numbers, got ['x', 0, 0]"),
+        (5, None, "the atoms must be a path, a file, a text, `Atoms` of ASE or a list, got 5"),
     ],
 )
 def test_what_is_no_atom_is_named(user: Any, source: Any, symbols: Any, told: Any) -> None:

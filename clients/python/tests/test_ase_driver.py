@@ -75,7 +75,7 @@ def test_the_atoms_move_as_the_definition_says(pair: Any, dimer: Any) -> None:
         force = (WAY[step + 1] - 2 * WAY[step] + WAY[step - 1]) * UNIT / DT**2
         assert pair.get_forces()[:, 0] == pytest.approx([force, -force], rel=1e-9)
         assert pair.get_potential_energy() == -5399727 / 2**24
-    assert (dimer.nsteps, dimer.session.step, dimer.get_time()) == (2, 2, pytest.approx(2 * DT))
+    assert (dimer.nsteps, dimer.session.get_step(), dimer.get_time()) == (2, 2, pytest.approx(2 * DT))
 
 
 def test_positions_and_momenta_come_back_to_the_bit(user: Any, liquid: Any) -> None:
@@ -140,7 +140,7 @@ def test_an_interrupt_leaves_atoms_and_steps_as_they_are(dimer: Any, pair: Any) 
 
     with mock.patch.object(type(dimer.session), "advance", broken_off), pytest.raises(KeyboardInterrupt):
         dimer.run(5)
-    assert (dimer.nsteps, dimer.session.step, pair.positions[0][0]) == (1, 1, 589 * UNIT)
+    assert (dimer.nsteps, dimer.session.get_step(), pair.positions[0][0]) == (1, 1, 589 * UNIT)
     dimer.run(1)
     assert (dimer.nsteps, pair.positions[0][0]) == (2, 1774 * UNIT)
 
@@ -189,7 +189,7 @@ def test_atoms_go_on_where_they_leave_the_cell(user: Any) -> None:
     assert atoms.positions[0][0] == pytest.approx(255.99 + 300 * DT, abs=1e-5)
     atoms.wrap()
     dynamics.run(300)
-    assert dynamics.session.step == 600
+    assert dynamics.session.get_step() == 600
     assert atoms.positions[0][0] == pytest.approx(600 * DT - 0.01, abs=1e-5)
 
 
@@ -207,7 +207,7 @@ def test_momenta_that_are_changed_count_from_then_on(dimer: Any, pair: Any) -> N
     here = pair.get_positions()
     dimer.run(1)
     assert (pair.get_positions() - here)[:, 1] == pytest.approx([DT, DT], rel=1e-5)
-    assert (dimer.nsteps, dimer.session.step) == (3, 1)
+    assert (dimer.nsteps, dimer.session.get_step()) == (3, 1)
 
 
 def test_two_species(user: Any) -> None:
@@ -231,9 +231,9 @@ def test_a_constraint_on_the_way_is_an_error(dimer: Any, pair: Any, go: Any) -> 
     dimer.run(2)
     before = of(pair)
     pair.set_constraint(FixAtoms([0]))
-    with pytest.raises(ValueError, match="constraints, which are not kept here: take them away"):
+    with pytest.raises(ValueError, match="must have no constraints, since they are not kept here; use atoms.set_constraint"):
         go(dimer)
-    assert (of(pair), dimer.nsteps, dimer.session.step) == (before, 2, 2)
+    assert (of(pair), dimer.nsteps, dimer.session.get_step()) == (before, 2, 2)
     pair.set_constraint()
     dimer.run(1)
     assert pair.positions[0][0] == WAY[3] * UNIT
@@ -241,9 +241,9 @@ def test_a_constraint_on_the_way_is_an_error(dimer: Any, pair: Any, go: Any) -> 
 
 def test_a_constraint_that_is_set_by_what_is_attached_is_an_error(dimer: Any, pair: Any) -> None:
     dimer.attach(lambda: pair.set_constraint(FixAtoms([0])), -2)
-    with pytest.raises(ValueError, match="constraints, which are not kept here"):
+    with pytest.raises(ValueError, match="must have no constraints, since they are not kept here"):
         dimer.run(5)
-    assert (dimer.nsteps, dimer.session.step, pair.positions[0][0]) == (2, 2, WAY[2] * UNIT)
+    assert (dimer.nsteps, dimer.session.get_step(), pair.positions[0][0]) == (2, 2, WAY[2] * UNIT)
 
 
 def test_atoms_of_another_kind(user: Any, pair: Any) -> None:
@@ -254,14 +254,19 @@ def test_atoms_of_another_kind(user: Any, pair: Any) -> None:
         with pytest.raises(ValueError, match=match):
             ReversibleVerlet(atoms, DT, user=user, **(words or ONE))
 
-    told("constraints, which are not kept", lambda atoms: atoms.set_constraint(FixAtoms([0])))
-    told("not periodic along each axis", lambda atoms: atoms.set_pbc([True, True, False]))
-    told("cell of the atoms is not cubic", lambda atoms: atoms.set_cell([256, 256, 250]))
-    told("symbols Ar, Kr, and one sigma and epsilon: say of two species", lambda atoms: atoms.set_chemical_symbols("ArKr"), mass=1, **ONE)
-    told("2 masses, and here all have one: say mass=", lambda atoms: atoms.set_masses([1, 2]))
+    told("must have no constraints", lambda atoms: atoms.set_constraint(FixAtoms([0])))
+    told("must be periodic along each axis", lambda atoms: atoms.set_pbc([True, True, False]))
+    told("cell of the atoms must be cubic", lambda atoms: atoms.set_cell([256, 256, 250]))
+    told(
+        "the atoms must have one symbol for one sigma and epsilon, got Ar, Kr; use of two species",
+        lambda atoms: atoms.set_chemical_symbols("ArKr"),
+        mass=1,
+        **ONE,
+    )
+    told("the atoms must all have one mass, got 2 masses; use mass=", lambda atoms: atoms.set_masses([1, 2]))
     wrong: List[Dict[str, Any]] = [{"sigma": 1}, {"species": ("A", "B"), "first": (1, 1)}, {**ONE, "species": ("A", "B")}]
     for words in wrong:
-        told("say sigma= and epsilon=, or of two species", **words)
+        told("sigma and epsilon must be given together, got .*; use sigma= and epsilon=, or of two species", **words)
     assert user.sessions() == []
 
 
@@ -284,7 +289,7 @@ def test_a_program_of_its_own_ends_with_it(pair: Any) -> None:
 def test_a_user_that_is_said_stays(user: Any, pair: Any) -> None:
     with ReversibleVerlet(pair, DT, user=user, name="mine", **ONE) as dynamics:
         dynamics.run(2)
-    assert (user.closed, user.session("mine").step) == (False, 2)
+    assert (user.closed, user.session("mine").get_step()) == (False, 2)
 
 
 def test_without_ase_it_says_what_to_install(tmp_path: pathlib.Path) -> None:

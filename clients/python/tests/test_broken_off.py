@@ -23,7 +23,7 @@ def a(user: Any) -> Any:
 
 def stands_at(a: Any, step: Any) -> Any:
     """Whether a session stands at a step, and goes on from there as one that was never broken off."""
-    if (a.step, listed(a.places())) != (step, WAY[step]):
+    if (a.get_step(), listed(a.places())) != (step, WAY[step]):
         return False
     other = a._user.load("other", "2\ndimer\nAr 0 0 0\nAr 1.5 0 0\n", edge=256, sigma=1, h=131072, replace=True)
     other.advance(step)
@@ -80,7 +80,7 @@ def test_backward_too(a: Any) -> None:
     rows = a.thermo(every=1, rows=3)
     assert next(rows).step == 2
     rows.close()
-    assert (a.step, listed(a.places())) == (2, WAY[2])
+    assert (a.get_step(), listed(a.places())) == (2, WAY[2])
     assert (a.advance(1), listed(a.places())) == (1, WAY[1])
 
 
@@ -89,14 +89,14 @@ def test_a_session_that_has_gone_elsewhere_stays_there(a: Any) -> None:
     next(rows)
     a.advance(1)
     rows.close()
-    assert (a.step, listed(a.places())) == (2, WAY[2])
+    assert (a.get_step(), listed(a.places())) == (2, WAY[2])
 
 
 def test_nothing_is_sent_to_a_connection_that_is_gone(user: Any, a: Any) -> None:
     rows = a.thermo(every=2, rows=5)
     next(rows)
     user.close()
-    with mock.patch.object(user, "ask_commands") as asked:
+    with mock.patch.object(user, "_ask_commands") as asked:
         rows.close()
     asked.assert_not_called()
 

@@ -27,9 +27,9 @@ REPLIES: Dict[str, Asked] = {
     "first line": (lambda user: user.ask("MEASURE a"), b"OK MEASURE a 0@\n"),
     "row of a list": (lambda user: user.sessions(), b"OK LIST 1\na@ 0 2 0\n"),
     "atom": (lambda user: user.ask("SHOW a 0"), SHOWN.replace(b" 0\n", b" 0@\n")),
-    "rows of atoms": (lambda user: user.ask_rows(["SHOW a 0"] * 3), SHOWN * 2 + SHOWN.replace(b" 0\n", b" 0@\n")),
+    "rows of atoms": (lambda user: user._ask_rows(["SHOW a 0"] * 3), SHOWN * 2 + SHOWN.replace(b" 0\n", b" 0@\n")),
     "frame": (lambda user: user.ask("DUMP a"), FRAME.replace(b"Ar 1", b"A@ 1")),
-    "text of a frame": (lambda user: user.ask_text("DUMP a"), FRAME.replace(b"Ar 1", b"A@ 1")),
+    "text of a frame": (lambda user: user._ask_text("DUMP a"), FRAME.replace(b"Ar 1", b"A@ 1")),
     "refusal": (lambda user: user.ask("SHOW a 0"), b"ERR 10 NO@SESSION\n"),
 }
 OTHERS = [b"\x1b[31m", b"\x07", b"\x00", b"\t", b"\r", b"\x7f", b"\x9b31m", "é".encode()]
@@ -40,7 +40,7 @@ OTHERS = [b"\x1b[31m", b"\x07", b"\x00", b"\t", b"\r", b"\x7f", b"\x9b31m", "é"
 def test_a_reply_with_other_bytes_is_none(what: str, other: bytes) -> None:
     ask, reply = REPLIES[what]
     with peer(says(reply.replace(b"@", other), then=stays)) as port, joined(port) as user:
-        with pytest.raises(BadReply, match="is no text of the protocol") as caught:
+        with pytest.raises(BadReply, match="is not text of the protocol") as caught:
             ask(user)
         assert str(caught.value).isprintable() and repr(other)[2:-1] in str(caught.value)
         with pytest.raises(Closed) as closed:
@@ -77,7 +77,7 @@ def test_other_bytes_in_pieces() -> None:
         stays(connection, stop)
 
     with peer(says(then=slowly)) as port, joined(port) as user:
-        with pytest.raises(BadReply, match="no text of the protocol"):
+        with pytest.raises(BadReply, match="not text of the protocol"):
             user.sessions()
 
 
@@ -113,7 +113,7 @@ def test_a_prompt_prints_no_byte_that_a_terminal_heeds(typed: str) -> None:
         terminal.until("ann> ")
         terminal.type(typed + "\r")
         told = terminal.until("ann> ")
-        assert "no text of the protocol" in " ".join(told.split()) and r"\x1b" in told
+        assert "not text of the protocol" in " ".join(told.split()) and r"\x1b" in told
         assert TITLE.decode() not in terminal.written and "\x07" not in terminal.written
 
 

@@ -156,7 +156,7 @@ def test_two_species(user: Any) -> None:
         other = atoms.copy()
         atoms.calc, other.calc = calc, LennardJones(sigma=sigma, epsilon=epsilon, rc=2.5 * sigma)
         assert atoms.get_forces() == pytest.approx(other.get_forces(), rel=0.06, abs=1e-5)
-    with pytest.raises(ValueError, match="say sigma= and epsilon=, or of two species"):
+    with pytest.raises(ValueError, match="sigma and epsilon must be given together, got .*; use sigma= and epsilon=, or of two species"):
         Ljserve(sigma=3.4, user=user, species=("Ar", "Kr"))
 
 
@@ -169,11 +169,11 @@ def test_what_cannot_be_calculated(calc: Any) -> None:
     atoms.pbc = True
     energy = atoms.get_potential_energy()
     atoms.set_cell([20, 20, 21])
-    with pytest.raises(ValueError, match="not cubic"):
+    with pytest.raises(ValueError, match="must be cubic"):
         atoms.get_forces()
     atoms.set_cell([20, 20, 20])
     assert atoms.get_potential_energy() == energy
-    with pytest.raises(ValueError, match="not cubic"):
+    with pytest.raises(ValueError, match="must be cubic"):
         StrainFilter(atoms).set_positions(numpy.array([[0.01, 0, 0], [0, 0, 0]])), atoms.get_stress()
 
 

@@ -61,7 +61,7 @@ class Files(Saves):
     def test_a_file_from_elsewhere(self) -> None:
         self.path.write_text(with_checks(DIMER_FILE))
         a = self.user.load_saved(self.path)
-        self.assertEqual((a.step, a.atoms, a.symbols()), (1, 2, ["Ar", "Ar"]))
+        self.assertEqual((a.get_step(), a.n_atoms, a.symbols()), (1, 2, ["Ar", "Ar"]))
         self.assertEqual(listed(a.places()), [(589, 0, 0), (25165235, 0, 0)])
         self.assertEqual((a.advance(1), a.place(0)), (2, (1774, 0, 0)))
         self.assertEqual((a.edge, a.h, a.scale.sigma, a.dt), (256, 131072, 1, None))
@@ -76,7 +76,7 @@ class Files(Saves):
         self.user.load_saved(self.path, "b").advance(1)
         self.user.load_saved(self.path, "b", replace=True)
         self.assertEqual(self.user.sessions(), [("a", 1, 2, 0), ("b", 1, 2, 0)])
-        with self.assertRaisesRegex(ValueError, "a name is"):
+        with self.assertRaisesRegex(ValueError, "a name must be"):
             self.user.load_saved(self.path, "a b")
 
     def test_each_damaged_byte_is_found_in_its_line(self) -> None:
@@ -164,7 +164,7 @@ class Runs(Saves):
         direct.save(self.path)
         with run(PROGRAM) as other:
             back = other.load_saved(self.path)
-            self.assertEqual((back.step, back.dt, back.scale), (300, direct.dt, direct.scale))
+            self.assertEqual((back.get_step(), back.dt, back.scale), (300, direct.dt, direct.scale))
             self.same(direct, back)
             back.advance(200)
             direct.advance(200)
@@ -236,14 +236,14 @@ class Runs(Saves):
         a = self.user.load_saved(self.path, "back")
         for each in (a, direct):
             self.assertEqual(each.tug(7, (1000, 0, -1000)), 50)
-            self.assertEqual((each.branch("k"), each.start(5), each.target, each.restore("k")), (50, 55, 55, 50))
+            self.assertEqual((each.branch("k"), each.start(5), each.get_target(), each.restore("k")), (50, 55, 55, 50))
             self.assertEqual(each.saved(), [("k", 50)])
         self.assertEqual([row[1:] for row in self.user.sessions()[1:]], [(50, 256, 1)] * 2)
         self.same(a, direct)
 
     def test_too_little_is_known(self) -> None:
         self.user.ask(f"LOAD a 256 1 131072 rest {len(DIMER)}", DIMER.encode())
-        with self.assertRaisesRegex(ValueError, "scale of a is not known"):
+        with self.assertRaisesRegex(ValueError, "scale of a must be known"):
             self.user.session("a").save(self.path)
         with self.assertRaisesRegex(ValueError, "two species"):
             self.user.session("a", edge=256, sigma=1, h=131072, weight=300).save(self.path)

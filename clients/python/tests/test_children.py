@@ -127,6 +127,24 @@ def test_the_server_that_is_kept(program: Program, tmp_path: pathlib.Path) -> No
     assert program.has_no_token()
 
 
+def test_a_version_that_is_not_waited_for(tmp_path: pathlib.Path, capfd: pytest.CaptureFixture[str]) -> None:
+    """Who ends while a program is asked for its version ends it first, so that nothing of it comes after the loop."""
+    slow = tmp_path / "slow"
+    slow.write_text(f"#!/bin/sh\necho $$ > {slow}.number\nexec sleep 600\n")
+    slow.chmod(0o755)
+
+    async def interrupted() -> None:
+        asking = asyncio.create_task(server.version_of(str(slow)))
+        while not (told := pathlib.Path(f"{slow}.number")).exists() or not told.read_text():
+            await asyncio.sleep(0.01)
+        asking.cancel()
+        await asyncio.gather(asking, return_exceptions=True)
+        assert not is_there(int(told.read_text()))
+
+    asyncio.run(interrupted())
+    assert "".join(capfd.readouterr()) == ""
+
+
 def test_other_programs_of_the_tools(monkeypatch: pytest.MonkeyPatch) -> None:
     monkeypatch.setenv("LJSERVE_TOKEN", TOKEN)
     assert children.environment() == {name: value for name, value in os.environ.items() if name != "LJSERVE_TOKEN"}

@@ -20,14 +20,14 @@ class Commands(Alone):
         self.assertEqual(12876994 * 3 // 2 >> 15, 589)
         self.assertEqual(13028153 * 25164646 >> 39, 596)
         a = dimer(self.user)
-        self.assertEqual((a.name, a.step, a.atoms), ("a", 0, 2))
+        self.assertEqual((a.name, a.get_step(), a.n_atoms), ("a", 0, 2))
         self.assertEqual(listed(a.places()), [(0, 0, 0), (25165824, 0, 0)])
         self.assertEqual(a.advance(1), 1)
         self.assertEqual(listed(a.places()), [(589, 0, 0), (25165824 - 589, 0, 0)])
         self.assertEqual(a.advance(1), 2)
         self.assertEqual(a.place(0), (1774, 0, 0))
         self.assertEqual(a.place(1), (25164050, 0, 0))
-        self.assertEqual(a.step, 2)
+        self.assertEqual(a.get_step(), 2)
 
     def test_measure(self) -> None:
         a = dimer(self.user)
@@ -108,7 +108,7 @@ class Commands(Alone):
         self.assertEqual(self.user.session("b").scale, b.scale)
         a.drop()
         self.assertEqual([row.name for row in self.user.sessions()], ["b"])
-        for gone in (a.reverse, a.measure, a.places, lambda: a.step, lambda: self.user.session("a")):
+        for gone in (a.reverse, a.measure, a.places, lambda: a.get_step(), lambda: self.user.session("a")):
             with self.assertRaises(refusals.NoSession):
                 gone()
 
@@ -116,8 +116,8 @@ class Commands(Alone):
         dimer(self.user).advance(5)
         with self.assertRaises(refusals.Exists):
             dimer(self.user)
-        self.assertEqual(dimer(self.user, replace=True).step, 0)
-        self.assertEqual(dimer(self.user, "b", replace=True).step, 0)
+        self.assertEqual(dimer(self.user, replace=True).get_step(), 0)
+        self.assertEqual(dimer(self.user, "b", replace=True).get_step(), 0)
         self.assertEqual(len(self.user.sessions()), 2)
 
     def test_before_gives_the_motion(self) -> None:
@@ -129,10 +129,10 @@ class Commands(Alone):
 
     def test_a_scale_that_is_not_known(self) -> None:
         dimer(self.user)
-        self.user.has_dropped("a")
+        self.user._forget("a")
         a = self.user.session("a")
         self.assertEqual(a.place(1), (25165824, 0, 0))
-        with self.assertRaisesRegex(ValueError, "scale is not known"):
+        with self.assertRaisesRegex(ValueError, "scale of the session must be known"):
             a.positions()
         with self.assertRaises(ValueError):
             self.user.session("a", edge=256)
@@ -168,7 +168,7 @@ class ThereAndBack(Alone):
         argon.reverse()
         argon.advance(300)
         argon.reverse()
-        self.assertEqual((argon.step, listed(argon.places()), argon.measure()), (0, start, measured))
+        self.assertEqual((argon.get_step(), listed(argon.places()), argon.measure()), (0, start, measured))
 
     def test_pieces_change_nothing(self) -> None:
         a, b = (self.user.load(name, EXAMPLES / "argon_256.xyz", edge=21.04, sigma=3.4, h=131072) for name in "ab")
@@ -193,18 +193,18 @@ class SideBySide(Alone):
 
     def test_a_start_is_answered_at_once(self) -> None:
         self.assertEqual([self.a.start(2), self.b.start(1), self.a.start(1), self.a.start(0)], [2, 1, 3, 3])
-        self.assertEqual([self.a.target, self.b.target, self.c.target], [3, 1, 0])
+        self.assertEqual([self.a.get_target(), self.b.get_target(), self.c.get_target()], [3, 1, 0])
         self.assertEqual([row.step for row in self.user.sessions()], [3, 1, 0])
 
     def test_what_is_of_a_session_waits_until_it_is_there(self) -> None:
         self.assertEqual((self.a.start(2), self.b.start(1)), (2, 1))
         self.assertEqual((self.b.place(0), self.c.place(0), self.a.place(0)), ((589, 0, 0), (0, 0, 0), (1774, 0, 0)))
         self.a.start(1)
-        self.assertEqual((self.a.step, self.a.target), (3, 3))
+        self.assertEqual((self.a.get_step(), self.a.get_target()), (3, 3))
         self.b.start(1)
         self.assertEqual(self.b.measure(), Measurement(2, 2, (0, 0, 0), 2808450, -5399727))
         self.c.start(2)
-        self.assertEqual((self.c.branch("k"), self.c.reverse(), self.c.start(1), self.c.step), (2, 1, 0, 0))
+        self.assertEqual((self.c.branch("k"), self.c.reverse(), self.c.start(1), self.c.get_step()), (2, 1, 0, 0))
 
     def test_more_steps_than_one_command_takes(self) -> None:
         self.assertEqual(self.a.start(2_000_005), 2_000_005)
@@ -236,12 +236,16 @@ class SideBySide(Alone):
         with self.assertRaises(TypeError):
             self.a.start(1.5)
         self.c.drop()
-        acts: List[Callable[[], object]] = [lambda: self.c.start(1), lambda: self.c.target, lambda: self.user.advance([self.a, self.c], 1)]
+        acts: List[Callable[[], object]] = [
+            lambda: self.c.start(1),
+            lambda: self.c.get_target(),
+            lambda: self.user.advance([self.a, self.c], 1),
+        ]
         for gone in acts:
             with self.assertRaises(refusals.NoSession):
                 gone()
         # The other session has made its step all the same.
-        self.assertEqual(self.a.step, 1)
+        self.assertEqual(self.a.get_step(), 1)
 
 
 class Interrupts(Alone):
@@ -250,7 +254,7 @@ class Interrupts(Alone):
         told: List[Any] = []
         with interrupted_when(lambda: any(told)):
             a.advance(10**7, progress=lambda done, total: told.append(done))
-        step = a.step
+        step = a.get_step()
         self.assertGreater(step, 0)
         self.assertLess(step, 10**7)
         a.reverse()
@@ -280,7 +284,7 @@ class ManyShows(Alone):
         self.assertEqual({reply.words[4] for reply in replies[::2]}, {"0"})
         self.assertEqual({reply.words[4] for reply in replies[1::2]}, {"25165824"})
         self.assertEqual(len(replies), 30_000)
-        self.assertEqual(a.step, 0)
+        self.assertEqual(a.get_step(), 0)
 
 
 class Places(unittest.TestCase):

@@ -38,7 +38,7 @@ def test_a_copy_is_the_same_to_the_bit(user: Any, order: Any) -> None:
     a.reverse()
     a.branch("here")
     copied = a.copy("twin")
-    assert (copied.name, copied.scale, copied.step, copied.symbols()) == ("twin", a.scale, a.step, a.symbols())
+    assert (copied.name, copied.scale, copied.get_step(), copied.symbols()) == ("twin", a.scale, a.get_step(), a.symbols())
     assert (copied.saved(), [name for name, _ in a.saved()]) == ([], ["here"])
     go_on_alike(Holds, a, copied)
     copied.tug(0, (5, 0, 0))
@@ -63,22 +63,22 @@ def test_names_that_are_taken(user: Any) -> None:
         a.copy("a", replace=True)
     with pytest.raises(refusals.Exists):
         a.copy("b")
-    assert b.step == 3
-    assert a.copy("b", replace=True).step == 0
+    assert b.get_step() == 3
+    assert a.copy("b", replace=True).get_step() == 0
     a.copy("c")
     with pytest.raises(refusals.QuotaSessions):
         a.copy("d")
-    with pytest.raises(ValueError, match="a name is"):
+    with pytest.raises(ValueError, match="a name must be"):
         a.copy("no name")
     assert [row.name for row in user.sessions()] == ["a", "b", "c"]
 
 
 def test_a_copy_is_watched_as_the_session_was(user: Any) -> None:
     a = dimer(user, watch=False)
-    user.known("a").watch.start = (0, 99.0)
-    assert user.known(a.copy("b").name).watch == user.known("a").watch
-    user.known("a").watch.gone += 1
-    assert user.known("b").watch.gone != user.known("a").watch.gone
+    user._known_of("a").watch.start = (0, 99.0)
+    assert user._known_of(a.copy("b").name).watch == user._known_of("a").watch
+    user._known_of("a").watch.gone += 1
+    assert user._known_of("b").watch.gone != user._known_of("a").watch.gone
     with pytest.warns(EnergyWarning):
         user.load("hot", EXAMPLES / "argon_256.xyz", edge=21.04, sigma=3.4, h=300000)
 
@@ -112,11 +112,11 @@ def test_a_run_that_is_lost_goes_on_from_the_file(user: Any, tmp_path: pathlib.P
         a.advance(50, progress=stops, piece=10, save=path, seconds=0)
     with run(PROGRAM) as other:
         again = other.load_saved(path)
-        assert again.step == 40
+        assert again.get_step() == 40
         a.reverse()
         a.advance(10)
         a.reverse()
-        assert a.step == again.step
+        assert a.get_step() == again.get_step()
         go_on_alike(Holds, again, a)
 
 
@@ -124,14 +124,14 @@ def test_the_path_is_looked_at_before_a_step_is_made(user: Any, tmp_path: pathli
     a = argon(user)
     os.mkfifo(tmp_path / "fifo")
     for path in (tmp_path, tmp_path / "fifo"):
-        with pytest.raises(ValueError, match="say the name of a file"):
+        with pytest.raises(ValueError, match="use the name of a file"):
             a.advance(10, save=path)
     with pytest.raises(FileNotFoundError):
         a.advance(10, save=tmp_path / "none" / "a.saved")
     for wrong in (-1, float("nan"), "long"):
-        with pytest.raises(ValueError, match="seconds is"):
+        with pytest.raises(ValueError, match="seconds must be"):
             a.advance(10, save=tmp_path / "a.saved", seconds=wrong)
-    assert (a.step, sorted(path.name for path in tmp_path.iterdir())) == (30, ["fifo"])
+    assert (a.get_step(), sorted(path.name for path in tmp_path.iterdir())) == (30, ["fifo"])
     user._known.clear()
-    with pytest.raises(ValueError, match="the scale of argon is not known"):
+    with pytest.raises(ValueError, match="the scale of argon must be known"):
         user.session("argon").advance(10, save=tmp_path / "a.saved")

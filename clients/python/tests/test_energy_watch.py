@@ -47,6 +47,8 @@ class StandIn:
             self.measured.append(step)
             energies = round(self.kinetic(step) * 2**34), round(self.potential(step) * 2**24)
             told += [str(number) for number in (self.atoms, 0, 0, 0, *energies)]
+        if verb == "LOAD":
+            told.append(str(self.atoms))
         return Reply(told, [])
 
     def close(self) -> None:
@@ -128,7 +130,7 @@ def test_start_is_sent_alone_and_its_steps_count() -> None:
 
 
 WAITS: List[Callable[[Any], object]] = [
-    lambda a: a.step,
+    lambda a: a.get_step(),
     lambda a: a.measure(),
     lambda a: a.reverse(),
     lambda a: a.branch("k"),
@@ -162,7 +164,7 @@ def test_after_a_start_one_measurement_is_made_if_it_is_due() -> None:
     for steps, measured in [(400, 0), (200, 0), (500, 0), (5000, 1), (100, 0), (9000, 1)]:
         a.start(steps)
         before = len(wire.lines)
-        assert (a.step, a.step) == (wire.steps["a"],) * 2
+        assert (a.get_step(), a.get_step()) == (wire.steps["a"],) * 2
         assert wire.lines[before:] == ["MEASURE a"] * measured + ["ADVANCE a 0"] * 2
     assert wire.lines[1:8] == ["START a 400", "ADVANCE a 0", "ADVANCE a 0", "MEASURE a", "ADVANCE a 1", "MEASURE a", "START a 199"]
 
@@ -174,7 +176,7 @@ def test_what_was_started_before_is_not_waited_for_by_a_start() -> None:
     a.start(300)
     a.start(20_000)
     assert wire.lines[before:] == ["START a 300", "START a 20000"]
-    assert (a.step, wire.measured) == (20_600, [20_600])
+    assert (a.get_step(), wire.measured) == (20_600, [20_600])
     a.start(30_000)
     with told() as texts:
         a.advance(1)
@@ -197,7 +199,7 @@ def test_no_start_of_a_session_that_is_not_watched_is_measured() -> None:
     wire = StandIn(rising, nothing)
     a = user_over(wire).load("a", ATOM, edge=256, sigma=1, h=131072, watch=False)
     a.start(30_000)
-    assert (a.step, wire.measured) == (30_000, [])
+    assert (a.get_step(), wire.measured) == (30_000, [])
 
 
 def test_pieces_that_are_given_stay_whole() -> None:
@@ -408,7 +410,7 @@ def test_heat_sets_the_start_anew() -> None:
     assert texts == []
 
 
-@pytest.mark.parametrize("keep", [lambda a: a.reverse(), lambda a: a.branch("k"), lambda a: a.measure(), lambda a: a.step])
+@pytest.mark.parametrize("keep", [lambda a: a.reverse(), lambda a: a.branch("k"), lambda a: a.measure(), lambda a: a.get_step()])
 def test_what_keeps_the_start(keep: Any) -> None:
     texts, _ = told_of_another_energy(keep, 20_000)
     assert len(texts) == 1 and "risen by 7 epsilon" in texts[0]
@@ -420,12 +422,12 @@ def test_atoms_that_are_sorted_on_the_way_keep_their_start() -> None:
     rows = [("Ar", *(1.1 * part for part in sites[number * 32 % 125])) for number in range(125)]
     with run(PROGRAM) as user:
         a = user.load("a", rows, edge=20, sigma=1, h=4096)
-        user.known("a").is_sorted = True
+        user._known_of("a").is_sorted = True
         with spied(user, asked):
             a.advance(1100)
         assert a.order.numbers is not None
         assert sum(line.startswith("MEASURE") for line in asked) == 4
-        assert present(user.known("a").watch.start)[0] == 0
+        assert present(user._known_of("a").watch.start)[0] == 0
 
 
 @contextlib.contextmanager
@@ -447,10 +449,10 @@ def test_a_move_to_another_program_keeps_the_start() -> None:
         a.advance(10)
         a.branch("k")
         a.advance(600)
-        watch, wire = dataclasses.replace(user.known("a").watch), user._wire
+        watch, wire = dataclasses.replace(user._known_of("a").watch), user._wire
         user.ask_all(["LIST"] * 500)
         assert user._wire is not wire
-        assert user.known("a").watch == watch and present(watch.start)[0] == 10
+        assert user._known_of("a").watch == watch and present(watch.start)[0] == 10
 
 
 # Sessions that are not watched.
@@ -564,5 +566,5 @@ def test_there_and_back_from_a_hot_crystal_is_not_told_of() -> None:
 def test_a_start_by_no_step_makes_none() -> None:
     with run(PROGRAM) as user:
         a = dimer(user)
-        a._user.known("a").watch.gone = 1000
-        assert (a.start(0), a.target, a.step) == (0, 0, 0)
+        a._user._known_of("a").watch.gone = 1000
+        assert (a.start(0), a.get_target(), a.get_step()) == (0, 0, 0)

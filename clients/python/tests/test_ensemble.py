@@ -82,7 +82,7 @@ class Results(Ensembles):
         self.assertEqual(text.getvalue(), "")
 
     def test_functions_that_cannot_be_sent(self) -> None:
-        made = [Job(lambda user: begin(0, user), lambda session: session.step, 2, 1)]  # type: ignore[no-any-return]
+        made = [Job(lambda user: begin(0, user), lambda session: session.get_step(), 2, 1)]  # type: ignore[no-any-return]
         self.assertEqual(self.ensemble(made), [[0, 1, 2]])
         self.assertEqual(self.ensemble(made, ThreadPoolExecutor), [[0, 1, 2]])
         with self.assertRaisesRegex(Exception, "pickle"):

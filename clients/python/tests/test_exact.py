@@ -4,7 +4,7 @@ from typing import Any, List
 
 import pytest
 
-from ljclient import Refused, units
+from ljclient import Refused, scalars
 from ljclient.exact import exact_frames, text_in_box
 from support import listed
 
@@ -13,7 +13,7 @@ BAD = [".", "+", "1e", "1e+", "1.2.3", "NaN", "0x1", "1e1000", "1e7", "1000000.0
 
 
 def exact_of(mode: str, text: str, edge: Any) -> Any:
-    return exact_frames(mode, text.encode(), units.nano(edge))
+    return exact_frames(mode, text.encode(), scalars.nano(edge))
 
 
 def loaded(user: Any, mode: str, text: str, edge: Any) -> Any:
@@ -79,6 +79,6 @@ def test_text_of_places(user: Any, edge: str) -> None:
     drawn = random.Random(edge)
     places: List[Any] = [(0, 1, 2**32 - 1), *(tuple(drawn.randrange(2**32) for _ in range(3)) for _ in range(200))]
     symbols = ["Ar"] * len(places)
-    text = text_in_box("c", symbols, places, units.nano(edge)).decode()
+    text = text_in_box("c", symbols, places, scalars.nano(edge)).decode()
     assert loaded(user, "rest", text, edge) == (places, places)
     assert exact_of("rest", text, edge).places == tuple(places)

@@ -30,7 +30,7 @@ def is_fifo(path: Any) -> Any:
 
 
 def test_a_session_is_not_saved_in_place_of_a_fifo(a: Any, fifo: Any) -> None:
-    with pytest.raises(ValueError, match="fifo is a FIFO, and stays as it is"):
+    with pytest.raises(ValueError, match="fifo: it is a FIFO"):
         a.save(fifo)
     assert is_fifo(fifo) and os.listdir(fifo.parent) == ["fifo"]
     assert a.advance(1) == 1
@@ -39,13 +39,13 @@ def test_a_session_is_not_saved_in_place_of_a_fifo(a: Any, fifo: Any) -> None:
 def test_a_link_to_a_fifo_stays_and_so_does_the_fifo(a: Any, fifo: Any) -> None:
     link = fifo.parent / "link"
     link.symlink_to("fifo")
-    with pytest.raises(ValueError, match="link is a FIFO"):
+    with pytest.raises(ValueError, match="link: it is a FIFO"):
         a.save(link)
     assert os.readlink(link) == "fifo" and is_fifo(fifo)
 
 
 def test_a_folder_is_named(a: Any, tmp_path: pathlib.Path) -> None:
-    with pytest.raises(ValueError, match="is a directory"):
+    with pytest.raises(ValueError, match="it is a directory"):
         a.save(tmp_path)
     assert os.listdir(tmp_path) == []
 
@@ -141,9 +141,9 @@ def test_a_session_is_not_saved_in_place_of_something_else(a: Any, tmp_path: pat
     path.write_bytes(data)
     ways: List[Callable[[], object]] = [lambda: a.save(path), lambda: a.advance(5, save=path)]
     for way in ways:
-        with pytest.raises(ValueError, match="a.saved is no saved session, and stays as it is: say another name"):
+        with pytest.raises(ValueError, match="cannot write .*a.saved: it exists and is not a saved session; use another name"):
             way()
-    assert path.read_bytes() == data and os.listdir(tmp_path) == ["a.saved"] and a.step == 0
+    assert path.read_bytes() == data and os.listdir(tmp_path) == ["a.saved"] and a.get_step() == 0
 
 
 OWN = [b"", b"ljserve checkpoint 1\n", b"ljserve checkpoint 2\nof a later version\n"]
@@ -163,7 +163,7 @@ def test_an_interrupt_saves_what_was_come_to(a: Any, tmp_path: pathlib.Path) -> 
     with interrupted_when(lambda: seen[-1] > 0):
         a.advance(100_000_000, progress=lambda done, _: seen.append(done), save=path, seconds=3600)
     back = a._user.load_saved(path, "back")
-    assert back.step == a.step > 0
+    assert back.get_step() == a.get_step() > 0
     assert listed(back.places()) == listed(a.places())
 
 
@@ -181,7 +181,7 @@ def test_an_interrupt_of_the_interrupt_leaves_the_older_one(a: Any, tmp_path: pa
 
     with pytest.raises(KeyboardInterrupt):
         a.advance(5, progress=lambda done, total: tell(done, total) if done else None, save=path)
-    assert (path.read_bytes(), os.listdir(tmp_path), a.step) == (whole, ["a.saved"], 5)
+    assert (path.read_bytes(), os.listdir(tmp_path), a.get_step()) == (whole, ["a.saved"], 5)
 
 
 def users(*words: Any) -> Any:
@@ -191,7 +191,7 @@ def users(*words: Any) -> Any:
 def test_users_leaves_a_fifo_as_it_is(fifo: Any) -> None:
     told = users("--out", str(fifo.parent / "users"), "--slips", str(fifo), "--replace")
     assert (told.returncode, is_fifo(fifo), os.listdir(fifo.parent)) == (1, True, ["fifo"])
-    assert "fifo is no regular file, and stays as it is: choose another name" in told.stderr
+    assert "fifo: it is not a regular file (nothing was changed); use another name" in told.stderr
 
 
 def test_users_writes_the_file_behind_a_link(tmp_path: pathlib.Path) -> None:

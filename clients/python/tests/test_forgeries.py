@@ -243,7 +243,7 @@ def test_text_below_the_end(folder: pathlib.Path, tmp_path: pathlib.Path, kind: 
     for tail in (with_checks(text + BELOW[kind]), with_checks(text) + BELOW[kind]):
         path.write_text(tail)
         status, told, faults = verified("--partial", path)
-        why = f"line {text.count(chr(10)) + 1}: the record goes on below its end"
+        why = f"line {text.count(chr(10)) + 1}: a record must not go on below its end"
         assert (status, told, faults) == (2, [], [f"ljclient: {path}, {why}"])
         with pytest.raises(Damaged, match=why):
             sum_of_continued(path, tmp_path / "other.lj")
@@ -255,7 +255,7 @@ def test_text_that_is_put_below_the_end_while_it_is_played(folder: pathlib.Path,
     with mock.patch.object(verify, "heading", lambda *_: str(path.write_text(with_checks(text) + "x"))):
         with contextlib.redirect_stdout(io.StringIO()), contextlib.redirect_stderr(told):
             status = verify.main(["--quiet", str(path), "--program", PROGRAM])
-    assert (status, "the record goes on below its end" in told.getvalue()) == (2, True)
+    assert (status, "a record must not go on below its end" in told.getvalue()) == (2, True)
 
 
 def test_how_many_kinds_there_are() -> None:

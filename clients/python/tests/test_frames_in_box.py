@@ -74,7 +74,7 @@ def test_lines_of_any_symbols_and_numbers(most: Any) -> None:
         for each in (Order(), order):
             rows = digits.rows(text.encode(), len(head), count)
             lines = decimals.lines(text.encode(), present(rows), arrays.of_places(numbers).T, each)
-            wanted = each.for_user([row(*pair) for pair in zip(symbols, numbers)])
+            wanted = each._for_user([row(*pair) for pair in zip(symbols, numbers)])
             assert present(lines).decode() == "".join(line + "\n" for line in wanted)
 
 
@@ -151,7 +151,7 @@ def test_each_way_tells_what_the_server_would_dump(tmp_path: pathlib.Path, kind:
     with run(PROGRAM) as user, by(kind):
         session = way(user, tmp_path)
         assert session.order.on_ring
-        places = session.order.for_user([tuple(map(int, user.ask(f"SHOW a {atom}").words[4:])) for atom in range(256)])
+        places = session.order._for_user([tuple(map(int, user.ask(f"SHOW a {atom}").words[4:])) for atom in range(256)])
         wanted = told(places, 21_040_000_000)
         rows = [row("Ar", parts) for parts in wanted]
         assert session.dump() == "\n".join(["256", "step 300", *rows, ""])
@@ -177,18 +177,18 @@ def sampled(session: Any) -> Any:
 @pytest.mark.parametrize("kind", KINDS)
 def test_a_peer_that_dumps_no_such_frame(kind: Any) -> None:
     for line, fault in [
-        (b"Ar 4294.967296 0.000000 0.000000", "a place that is not below the edge of the box"),
-        (b"Ar 0.000000 0.000000", "is no atom of a frame"),
-        (b"\xb2r 0.000000 0.000000 0.000000", "is no (text of the protocol|atom of a frame)"),
+        (b"Ar 4294.967296 0.000000 0.000000", "a place of a frame must be below the edge of the box"),
+        (b"Ar 0.000000 0.000000", "is not an atom of a frame"),
+        (b"\xb2r 0.000000 0.000000 0.000000", "is not (text of the protocol|an atom of a frame)"),
     ]:
         for ask in (dumped, sampled):
             if line.startswith(b"\xb2") and "dump" not in ask.__code__.co_names:
                 continue
             reply = b"OK DUMP a 7 3\n1\nstep 7\n" + line + b"\n"
             with peer(says(reply)) as port, connect("127.0.0.1", port, "ann", TOKEN, timeout=SECONDS) as user, by(kind):
-                with mock.patch.object(user, "ask"), mock.patch("ljclient.user.take_up"):
+                with mock.patch.multiple(user, ask=mock.DEFAULT, _row=mock.DEFAULT), mock.patch("ljclient.user.take_up"):
                     session = user.session("a", **SCALE)
-                known = user.known("a")
+                known = user._known_of("a")
                 known.scale = units.Scale.of(21.04, 3.4, 131072)
                 known.set_box(True)
                 session._given = known.scale

@@ -68,15 +68,15 @@ class Heating(Alone):
     def test_what_is_no_temperature(self) -> None:
         a = dimer(self.user)
         for wrong, told in [
-            (-1, "a number from 0 on"),
-            (math.nan, "a number from 0 on"),
-            (math.inf, "a number from 0 on"),
-            (1e12, "moves by half the box"),
+            (-1, "a finite number from 0 on"),
+            (math.nan, "a finite number from 0 on"),
+            (math.inf, "a finite number from 0 on"),
+            (1e12, "an atom would move by half the box or more in a step"),
         ]:
             with self.assertRaisesRegex(ValueError, told):
                 a.heat(wrong)
         alone = self.user.load("b", "1\n\nAr 0 0 0\n", **DIMER_SCALE)
-        with self.assertRaisesRegex(ValueError, "an atom alone"):
+        with self.assertRaisesRegex(ValueError, "cannot heat a single atom"):
             alone.heat(1)
         self.assertEqual((alone.heat(0), a.measure().kinetic), (0, 0))
 

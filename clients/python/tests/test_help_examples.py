@@ -112,15 +112,15 @@ def test_what_the_help_says_of_reverse(n: Any) -> None:
     assert "n steps, REVERSE, n steps and REVERSE give back the start exactly." in told
     with run(PROGRAM) as user:
         session = moving(user)
-        start = user.state_of("a")
+        start = user._state_of("a")
         session.advance(n)
         session.reverse()
         session.advance(n - 1)
-        assert (session.step, listed(session.places())) == (start.step, listed(start.places))
+        assert (session.get_step(), listed(session.places())) == (start.step, listed(start.places))
         session.advance(1)
         assert listed(session.places()) != listed(start.places)
         session.reverse()
-        assert user.state_of("a") == start
+        assert user._state_of("a") == start
 
 
 def test_of_two_faults_in_a_text_the_first_is_answered() -> None:

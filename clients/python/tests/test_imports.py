@@ -35,7 +35,7 @@ def imported(text: Any) -> Any:
 OF_PYTHON = {"dataclasses", "hashlib", "inspect", "ipaddress", "json", "pathlib", "re", "secrets", "shutil", "socket", "tempfile", "typing"}
 FOR_SOME_THINGS = {
     *("centred", "checkpoint", "ensemble", "equilibrating", "heating", "leftovers", "migrate", "notes", "pressure", "saving"),
-    *("snapshots", "trajectories", "verify"),
+    *("record_diff", "record_parts", "snapshots", "study", "study_manifest", "study_verifying", "trajectories", "verify"),
 }
 
 

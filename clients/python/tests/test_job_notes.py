@@ -103,7 +103,7 @@ OTHERS = [b"bytes", {1, 2}, len, Order(), numpy.array([None]), numpy.array([b"x"
 
 @pytest.mark.parametrize("thing", OTHERS, ids=repr)
 def test_other_kinds_are_told(thing: Any) -> None:
-    with pytest.raises(TypeError, match="was noted, which no file of notes has: have `look` return None, numbers, strings, and lists"):
+    with pytest.raises(TypeError, match="`look` must return None, numbers, strings, and lists.*, got "):
         kept(thing)
 
 
@@ -143,11 +143,11 @@ def measured(session: Any) -> Measurement:
 
 
 def in_arrays(session: Any) -> Any:
-    return {"step": session.step, "places": session.places(), "kinetic": numpy.float64(session.measure().kinetic)}
+    return {"step": session.get_step(), "places": session.places(), "kinetic": numpy.float64(session.measure().kinetic)}
 
 
 def in_arrays_and_fails_once(marker: Any, session: Any) -> Any:
-    if session.step == 20 and not os.path.exists(marker):
+    if session.get_step() == 20 and not os.path.exists(marker):
         pathlib.Path(marker).touch()
         raise ValueError("nothing to see here")
     return in_arrays(session)
@@ -179,7 +179,7 @@ def test_a_job_that_goes_on_returns_the_same(tmp_path: pathlib.Path) -> None:
 
 
 def test_another_kind_is_told_at_the_first_look(tmp_path: pathlib.Path) -> None:
-    with pytest.raises(TypeError, match="a Measurement was noted, which no file of notes has"):
+    with pytest.raises(TypeError, match="`look` must return .*, got Measurement"):
         told_by(measured, tmp_path)
     assert list(tmp_path.glob("*")) == []
 
@@ -202,7 +202,9 @@ def test_a_pickle_is_not_read(tmp_path: pathlib.Path) -> None:
     told_by(look, tmp_path)
     path = notes_in(tmp_path)
     path.write_bytes(pickle.dumps(Runs(str(tmp_path / "made"))))
-    with pytest.raises(ValueError, match=f"{path} is a pickle of an earlier ljclient. .*: delete it, and its job is computed"):
+    with pytest.raises(
+        ValueError, match=f"cannot read {path}: it is a pickle of an earlier ljclient, .*; delete it, so that its job is computed"
+    ):
         told_by(look, tmp_path)
     assert not (tmp_path / "made").exists() and path.exists()
     path.unlink()

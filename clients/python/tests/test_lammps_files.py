@@ -75,7 +75,7 @@ def test_reduced_units(user: Any, tmp_path: pathlib.Path) -> None:
     "symbols, words, told",
     [
         ("Ar", {}, "symbols must have one for each type of the file, got 1 and type 2"),
-        (["Ar", "X1"], {}, "knows no element 'X1'"),
+        (["Ar", "X1"], {}, "a symbol must be an element of ASE, got 'X1'"),
         ("Ar", {"units": "SI"}, "units must be one of lj, metal"),
     ],
 )

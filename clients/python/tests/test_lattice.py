@@ -80,15 +80,15 @@ def test_what_is_said_goes_before_it(user: Any) -> None:
 
 @pytest.mark.parametrize("cell", NO_CUBES)
 def test_another_box_is_an_error_that_says_what_is_there(user: Any, cell: Any) -> None:
-    with pytest.raises(ValueError, match="say the edge of the box, edge=") as caught:
+    with pytest.raises(ValueError, match="Lattice must be a cube along the axes") as caught:
         load(user, ATOM.format(f'Lattice="{cell}"'))
-    assert f'Lattice="{cell}", which is no cube' in str(caught.value)
+    assert f'along the axes, got "{cell}"; use edge=' in str(caught.value)
     assert user.sessions() == []
 
 
 @pytest.mark.parametrize("source", [ATOM.format("of lattice 256"), [("Ar", 1, 2, 3)], "none\nhere\n", "\n"])
 def test_without_a_lattice_the_edge_is_asked_for(user: Any, source: Any) -> None:
-    with pytest.raises(ValueError, match="say the edge of the box, edge=.*no Lattice"):
+    with pytest.raises(ValueError, match="edge must be given, got None: the atoms have no Lattice; use edge="):
         load(user, source)
 
 
@@ -113,5 +113,5 @@ def test_the_view_takes_it_too(tmp_path: pathlib.Path, cell: Any, edge: Any, wan
 
     assert scenes.of_file(str(tmp_path / "a.xyz"), edge, scale_of, 0.0, 1).scale.edge == wanted
     if wanted == edge:
-        with pytest.raises(ValueError, match="the file says no cubic Lattice"):
+        with pytest.raises(ValueError, match="edge must be given for a file without a cubic Lattice"):
             scenes.of_file(str(tmp_path / "a.xyz"), None, scale_of, 0.0, 1)

@@ -8,8 +8,8 @@ from unittest import mock
 
 import pytest
 
-from cuts import Talk, Where, cuttable, joined, seen, transport_of
-from ljclient import ClientError, LeftWarning, NotRecorded, user as users
+from cuts import Cut, Talk, Where, cuttable, joined, seen, transport_of
+from ljclient import ClientError, LeftWarning, NotRecorded, transport, user as users
 from support import Server, interruptible, listed
 from test_cut_replacements import LIQUID, liquid
 from test_cuts import OTHERS, ROWS, SCALE, prepared
@@ -96,6 +96,23 @@ def test_all_is_put_right_before_any_is_told(where: Where) -> None:
     raw(where, "FORGET a ljclient-look")
 
 
+class Dropped(Cut):
+    """A connection of whose sessions another one of the same user drops `b` when it has been listed, as the page of a class may do."""
+
+    def write(self, data: bytes) -> int:
+        return super().write(data.replace(b"LIST b\n", b"LIST z\n"))
+
+
+def test_a_session_that_is_dropped_meanwhile_is_passed_over(where: Where) -> None:
+    with joined(where) as user:
+        prepared(user)
+        user.load("b", OTHERS, watch=False, **SCALE)
+        user.ask_all(["BRANCH b other", "BRANCH a ljclient-look", "REVERSE a"])
+    with mock.patch.object(transport, "SocketTransport", Dropped), pytest.warns(LeftWarning, match="while it looked at it: a was"):
+        joined(where).close()
+    assert (seen(where).direction, seen(where).saved, seen(where, "b").saved) == (1, [], ["other 0"])
+
+
 def test_what_is_left_keeps_atoms_in_their_order(where: Where) -> None:
     with joined(where) as user:
         session = liquid(user)
@@ -103,7 +120,7 @@ def test_what_is_left_keeps_atoms_in_their_order(where: Where) -> None:
     with warnings.catch_warnings(), joined(where) as user:
         warnings.simplefilter("ignore")
         session = user.session("a", **LIQUID)
-        with pytest.raises(ValueError, match="cannot be sorted anew, since what is saved by branch would be lost: ljclient-change"):
+        with pytest.raises(ValueError, match="cannot sort .* again: what is saved by `branch` would be lost .ljclient-change"):
             session.resort()
 
 
@@ -160,7 +177,7 @@ def seen_while(user: Any) -> int:
 def test_an_interrupt_that_comes_with_a_load_loses_nothing_of_it(where: Where) -> None:
     with joined(where) as user:
         prepared(user)
-        ask = user.ask_commands
+        ask = user._ask_commands
 
         def interrupted(commands: Any) -> Any:
             replies = ask(commands)
@@ -168,9 +185,9 @@ def test_an_interrupt_that_comes_with_a_load_loses_nothing_of_it(where: Where) -
                 signal.raise_signal(signal.SIGINT)
             return replies
 
-        with mock.patch.object(user, "ask_commands", interrupted), interruptible(), pytest.raises(KeyboardInterrupt):
+        with mock.patch.object(user, "_ask_commands", interrupted), interruptible(), pytest.raises(KeyboardInterrupt):
             user.load("a", ROWS, replace=True, order="space", watch=False, **SCALE)
-        assert user.known("a").scale is not None and user.known("a").order.on_ring
+        assert user._known_of("a").scale is not None and user._known_of("a").order.on_ring
 
 
 def test_a_driver_of_ase_turns_back_as_a_whole(where: Where) -> None:
@@ -183,7 +200,7 @@ def test_a_driver_of_ase_turns_back_as_a_whole(where: Where) -> None:
             atoms = ase.Atoms("Ar8", positions=[row[1:] for row in ROWS], cell=[8.0] * 3, pbc=True)
             driver = ReversibleVerlet(atoms, 0.1, sigma=1.0, epsilon=0.01, user=user, name="a")
             driver.run(3)
-            step = driver.session.step
+            step = driver.session.get_step()
             transport_of(user).cut_after(count)
             with pytest.raises(ClientError):
                 driver.reverse()
@@ -200,10 +217,10 @@ def test_a_direction_stays_known_by_a_look(where: Where) -> None:
         session = user.load("a", ROWS, watch=False, order="space", **SCALE)
         session.advance(3)
         session._frames_of_places(both=True)
-        assert user.known("a").direction == 1
+        assert user._known_of("a").direction == 1
         session.reverse()
         session._frames_of_places(both=True)
-        assert user.known("a").direction == -1
+        assert user._known_of("a").direction == -1
 
 
 def test_a_session_of_several_symbols_is_not_written_as_one_species() -> None:
@@ -216,7 +233,7 @@ def test_a_session_of_several_symbols_is_not_written_as_one_species() -> None:
         before = seen(where)
         with joined(where) as user:
             user.session("a", **SCALE)
-            with pytest.raises(ValueError, match="how its atoms of several symbols interact is not known: drop it first"):
+            with pytest.raises(ValueError, match="how its species interact is not known; use drop first"):
                 user.load("a", OTHERS, replace=True, watch=False, **SCALE)
         assert seen(where) == before
 
@@ -229,7 +246,9 @@ def test_a_folder_of_notes_that_cannot_be_made_is_said(tmp_path: pathlib.Path, m
             before = listed(session.places())
             (tmp_path / "file").write_text("")
             monkeypatch.setenv("XDG_STATE_HOME", str(tmp_path / "file"))
-            with pytest.raises(ClientError, match="the quota has no place beside a, and it cannot be saved .*: drop it first"):
+            with pytest.raises(
+                ClientError, match="cannot replace a: the quota has no room beside it, and it cannot be saved .*; use drop first"
+            ):
                 user.load("a", OTHERS, replace=True, watch=False, **SCALE)
             assert listed(session.places()) == before
 
@@ -240,4 +259,4 @@ def test_a_driver_that_turns_back_without_a_place_for_a_branch_knows_its_directi
             user.ask(f"DROP {row.name}")
         session = user.load("a", ROWS, watch=False, **SCALE)
         session._step_and_turn()
-        assert (user.known("a").direction, seen_while(user)) == (-1, -1)
+        assert (user._known_of("a").direction, seen_while(user)) == (-1, -1)

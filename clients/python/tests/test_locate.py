@@ -56,5 +56,5 @@ def test_a_wheel_whose_program_is(spoil: Any, tmp_path: pathlib.Path, nothing_na
     spoil(program)
     nothing_named.setattr(locate, "__file__", str(site / "ljclient" / "locate.py"))
     nothing_named.setattr(sys, "path", [str(site), *(each for each in sys.path if "packages" not in each)])
-    with pytest.raises(CannotStart, match="there is no ljserve: .* install the wheel ljserve .*PATH"):
+    with pytest.raises(CannotStart, match="cannot find ljserve; use .* install the wheel ljserve .*PATH"):
         locate.find_program()

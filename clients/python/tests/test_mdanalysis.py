@@ -37,17 +37,17 @@ def test_frames_in_any_order(user: Any) -> None:
     way = universe(a, every=1, n_frames=4).trajectory
     assert len(way) == 4 and firsts(way, range(4)) == pytest.approx(WAY)
     assert firsts(way, [3, 1, 2, 0, -1]) == pytest.approx([WAY[3], WAY[1], WAY[2], WAY[0], WAY[3]])
-    assert (a.step, a.place(0)) == (3, (WAY[3], 0, 0))
+    assert (a.get_step(), a.place(0)) == (3, (WAY[3], 0, 0))
     way[1]
     assert a.advance(2) == 3 and a.place(0) == (WAY[3], 0, 0)
 
 
 def test_an_iteration_ends_at_the_start(user: Any) -> None:
     a = dimer(user)
-    before = a.step, listed(a.places()), a.measure()
+    before = a.get_step(), listed(a.places()), a.measure()
     way = universe(a, every=2, n_frames=3).trajectory
     assert [(ts.frame, ts.data["step"]) for ts in way] == [(0, 0), (1, 2), (2, 4)]
-    assert (a.step, listed(a.places()), a.measure()) == before
+    assert (a.get_step(), listed(a.places()), a.measure()) == before
     assert [ts.data["step"] for ts in way[::-1]] == [4, 2, 0]
 
 
@@ -77,8 +77,8 @@ def test_atoms_of_mdanalysis_are_loaded(user: Any, argon: Any, tmp_path: pathlib
     u = universe(argon)
     one = user.load("one", u, dt=2, **units.ARGON)
     some = user.load("some", u.select_atoms("index 0:9"), dt=2, edge=argon.edge, **units.ARGON)
-    assert (one.atoms, one.edge, one.symbols()[0]) == (32, pytest.approx(argon.edge), "Ar")
-    assert (some.atoms, some.edge) == (10, argon.edge)
+    assert (one.n_atoms, one.edge, one.symbols()[0]) == (32, pytest.approx(argon.edge), "Ar")
+    assert (some.n_atoms, some.edge) == (10, argon.edge)
     assert numpy.array(some.positions()) == pytest.approx(numpy.array(argon.positions())[:10], abs=1e-5)
     assert one.measure().temperature == pytest.approx(next(argon.frames([0])).temperature, rel=1e-3)
     u.atoms.write(tmp_path / "x.gro")
@@ -88,15 +88,15 @@ def test_atoms_of_mdanalysis_are_loaded(user: Any, argon: Any, tmp_path: pathlib
 
 def test_atoms_without_a_box(user: Any) -> None:
     u = mda.Universe.empty(2, trajectory=True)
-    with pytest.raises(ValueError, match="positions need symbols="):
+    with pytest.raises(ValueError, match="positions must come with symbols"):
         user.load("a", u, edge=20, sigma=1, h=4295)
-    with pytest.raises(ValueError, match="say edge="):
+    with pytest.raises(ValueError, match="use edge="):
         user.load("a", u, symbols="Ar", sigma=1, h=4295)
 
 
 @pytest.mark.parametrize("words", [{"every": 0}, {"n_frames": 0}])
 def test_what_is_no_number(user: Any, words: Any) -> None:
     a = dimer(user)
-    with pytest.raises(ValueError, match="1 at least"):
+    with pytest.raises(ValueError, match="must be at least 1"):
         SessionReader(a, **words)
-    assert a.step == 0
+    assert a.get_step() == 0

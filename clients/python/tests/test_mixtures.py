@@ -91,34 +91,34 @@ class Misfits(unittest.TestCase):
     def test_step_factors(self) -> None:
         # The greatest h is 2^24, which is dt* = 1/16: 62.5 fs. The sigma of the other class makes its dt* four times as much.
         self.assertEqual(of_pairs((1, 1), (1, 1), dt=62.5).scale.h, 1 << 24)
-        with self.assertRaisesRegex(ValueError, "Cl with Cl: dt is from .* to 15.6 fs for these atoms, not 62.5 fs"):
+        with self.assertRaisesRegex(ValueError, "Cl with Cl: dt must be from .* to 15.6 fs for these atoms, got 62.5 fs"):
             of_pairs((1, 1), (0.25, 1), (1, 1), dt=62.5)
-        with self.assertRaisesRegex(ValueError, "Na with Na: dt is from 0.0153 to 62.5 fs for these atoms, not 0.001 fs"):
+        with self.assertRaisesRegex(ValueError, "Na with Na: dt must be from 0.0153 to 62.5 fs for these atoms, got 0.001 fs"):
             of_pairs((1, 1), (1, 1), dt=0.001)
 
     def test_weights(self) -> None:
         self.assertEqual(of_pairs((1, 1), (16, 256)).classes[2].weight, 65536)
         self.assertEqual(of_pairs((1, 256), (1, 1), dt=1).classes[2].weight, 1)
-        with self.assertRaisesRegex(ValueError, "Cl with Cl: epsilon is from .* of the first class"):
+        with self.assertRaisesRegex(ValueError, "Cl with Cl: epsilon must be from .* of the first class"):
             of_pairs((1, 1), (16, 256.01))
-        with self.assertRaisesRegex(ValueError, "Na with Cl: epsilon is from .* of the first class"):
+        with self.assertRaisesRegex(ValueError, "Na with Cl: epsilon must be from .* of the first class"):
             of_pairs((1, 1), (1, 1), (1, 1 / 520))
 
     def test_numbers_that_are_not_above_0(self) -> None:
         for first, second, mixed in [((1, 0), (1, 1), None), ((1, 1), (1, -1), None), ((1, 1), (1, 1), (1, math.nan))]:
-            with self.assertRaisesRegex(ValueError, "epsilon is a number above 0"):
+            with self.assertRaisesRegex(ValueError, "epsilon must be a finite number above 0"):
                 of_pairs(first, second, mixed)
         for words, what in [({"mass": 0}, "mass"), ({"dt": -1}, "dt")]:
-            with self.assertRaisesRegex(ValueError, f"{what} is a number above 0"):
+            with self.assertRaisesRegex(ValueError, f"{what} must be a finite number above 0"):
                 of_pairs((1, 1), (1, 1), **words)
-        with self.assertRaisesRegex(ValueError, "Cl with Cl: sigma is a number above 0"):
+        with self.assertRaisesRegex(ValueError, "Cl with Cl: sigma must be a finite number above 0"):
             of_pairs((1, 1), (-1, 1), (1, 1))
 
     def test_species(self) -> None:
-        with self.assertRaisesRegex(ValueError, "one symbol, 'Na'"):
+        with self.assertRaisesRegex(ValueError, "two different symbols, got 'Na' twice"):
             Mixture.of(256, ("Na", "Na"), classes=STRONGER)
         for species in ("Na", ("Na",), ("Na", "Cl", "Ar")):
-            with self.subTest(species), self.assertRaisesRegex(ValueError, "two species"):
+            with self.subTest(species), self.assertRaisesRegex(ValueError, "species must be two symbols"):
                 Mixture.of(256, species, classes=STRONGER)
         for wrong in ("", "C l", "x" * 17, "é", "Cl\n", 1):
             pairs: List[Any] = [("Na", wrong), (wrong, "Na")]
@@ -141,7 +141,7 @@ class Misfits(unittest.TestCase):
             {"classes": STRONGER[:2]},
         ]
         for words in said:
-            with self.subTest(words), self.assertRaisesRegex(ValueError, "say first=|takes the place|three classes"):
+            with self.subTest(words), self.assertRaisesRegex(ValueError, "must have first and second|it takes their place|three classes"):
                 Mixture.of(256, SALT, **words)
 
 
@@ -197,7 +197,7 @@ class Dialogues(Alone):
     def test_a_stronger_pair(self) -> None:
         self.assertEqual(12876994 * 3 // 2 >> 14, 1178)
         m = self.mix()
-        self.assertEqual((m.name, m.step, m.atoms, m.symbols()), ("m", 0, 2, ["Na", "Cl"]))
+        self.assertEqual((m.name, m.get_step(), m.n_atoms, m.symbols()), ("m", 0, 2, ["Na", "Cl"]))
         self.assertEqual(m.measure(), Measurement(0, 2, (0, 0, 0), 0, 2 * -5349132))
         m.advance(1)
         self.assertEqual((m.place(0), m.place(1)), ((1178, 0, 0), (25165824 - 1178, 0, 0)))
@@ -230,7 +230,7 @@ class Dialogues(Alone):
         for _ in range(2):
             m.advance(500)
             m.reverse()
-        self.assertEqual((m.step, [tuple(place) for place in m.places()]), (0, start))
+        self.assertEqual((m.get_step(), [tuple(place) for place in m.places()]), (0, start))
 
     def test_what_is_known_of_a_mixture(self) -> None:
         m = self.mix(epsilon=0.0103, mass=40)

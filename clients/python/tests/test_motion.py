@@ -83,11 +83,11 @@ class Velocities(Alone):
     def test_velocities_that_do_not_fit(self) -> None:
         self.load([[1, 0, 0]] * 2)
         cases: List[Any] = [
-            ([[0, 0, 0], [0, 8192, 0]], {}, "velocity of atom 1 is not below half the box in a step"),
-            ([[float("nan"), 0, 0], [0, 0, 0]], {}, "velocity of atom 0 is not"),
-            ([[1, 0, 0]] * 2, {"epsilon": None}, "velocities, which need epsilon= and mass="),
-            ([[1, 0, 0]] * 2, {"edge": 0}, "edge is a number above 0"),
-            ([[1, 0, 0]] * 2, {"h": 0}, "dt is a number above 0"),
+            ([[0, 0, 0], [0, 8192, 0]], {}, "velocity of atom 1 must be below half the box in a step"),
+            ([[float("nan"), 0, 0], [0, 0, 0]], {}, "velocity of atom 0 must be below half the box in a step"),
+            ([[1, 0, 0]] * 2, {"epsilon": None}, "epsilon and mass must be given for atoms with velocities"),
+            ([[1, 0, 0]] * 2, {"edge": 0}, "edge must be a finite number above 0"),
+            ([[1, 0, 0]] * 2, {"h": 0}, "dt must be a finite number above 0"),
         ]
         for velocities, words, told in cases:
             with self.subTest(words), self.assertRaisesRegex(ValueError, told):

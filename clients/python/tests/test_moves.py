@@ -39,7 +39,7 @@ class Moves(unittest.TestCase):
             programs.add(self.other._wire)
         self.assertGreater(len(programs), 2)
         self.assertEqual(sum(wire.closed for wire in programs), len(programs) - 1)
-        self.assertEqual((still.step, still.measure().kinetic, still.advance(40)), (0, 0, 40))
+        self.assertEqual((still.get_step(), still.measure().kinetic, still.advance(40)), (0, 0, 40))
         self.same(self.moving, self.direct)
         self.same(still, self.direct)
 
@@ -96,11 +96,11 @@ class Moves(unittest.TestCase):
     def test_what_was_started_is_not_waited_for(self) -> None:
         self.moving.start(2000)
         self.spend()
-        self.assertEqual((self.moving.target, self.other._wire), (2000, self.first))
-        self.assertEqual(self.moving.step, 2000)
+        self.assertEqual((self.moving.get_target(), self.other._wire), (2000, self.first))
+        self.assertEqual(self.moving.get_step(), 2000)
         self.spend(1000)
         self.assertIsNot(self.other._wire, self.first)
-        self.assertEqual((self.moving.target, self.moving.order.step), (2000, 2000))
+        self.assertEqual((self.moving.get_target(), self.moving.order.step), (2000, 2000))
 
 
 if __name__ == "__main__":

@@ -45,7 +45,7 @@ class Halves(unittest.TestCase):
         # 4,096 atoms on a lattice of 16 x 16 x 16, shuffled: each block is a cube of 4 x 4 x 4.
         sites = [(x, y, z) for x in range(16) for y in range(16) for z in range(16)]
         random.Random(1).shuffle(sites)
-        placed = Order(by_halves(sites)).for_server(sites)
+        placed = Order(by_halves(sites))._for_server(sites)
         for first in range(0, 4096, 64):
             block = set(placed[first : first + 64])
             corner = tuple(min(axis) for axis in zip(*block))
@@ -79,7 +79,7 @@ class Halves(unittest.TestCase):
         symbols = [drawn.choice(("A", "A", "B")) for _ in places]
         order = Order(tuple(drawn.sample(range(700), 700)))
         new = Order(sorted_anew(places, symbols, order))
-        self.assertEqual(new.for_server(symbols), order.for_server(symbols))
+        self.assertEqual(new._for_server(symbols), order._for_server(symbols))
         # Atoms of one symbol are sorted by halves among themselves: the first half of the blocks has those with the smaller x.
         for symbol in "AB":
             alike = [atom for atom, each in enumerate(symbols) if each == symbol]
@@ -88,16 +88,16 @@ class Halves(unittest.TestCase):
 
     def test_orders(self) -> None:
         order = Order((2, 0, 1), step=10, direction=-1)
-        self.assertEqual((order.for_server("abc"), order.for_user("bca")), (["b", "c", "a"], ["a", "b", "c"]))
+        self.assertEqual((order._for_server("abc"), order._for_user("bca")), (["b", "c", "a"], ["a", "b", "c"]))
         self.assertEqual([order.number_of(atom) for atom in range(4)], [2, 0, 1, 3])
-        self.assertEqual((order.step_of(3), Order().step_of(3), Order().for_user("abc")), (7, 3, "abc"))
+        self.assertEqual((order.step_of(3), Order().step_of(3), Order()._for_user("abc")), (7, 3, "abc"))
         for wrong in ((0, 0), (1, 2), (0, 2)):
             with self.assertRaisesRegex(ValueError, "each number from 0"):
                 Order(wrong)
         with self.assertRaisesRegex(ValueError, "direction"):
             Order(direction=0)
-        with self.assertRaisesRegex(ValueError, "another one's"):
-            order.for_user("ab")
+        with self.assertRaisesRegex(ValueError, "an order must have a number for each of the 2 atoms"):
+            order._for_user("ab")
 
 
 class Sessions(Alone):
@@ -114,7 +114,7 @@ class Sessions(Alone):
     def same(self, one: Any, other: Any) -> None:
         self.assertEqual(listed(one.places()), listed(other.places()))
         self.assertEqual(one.measure(), other.measure())
-        self.assertEqual((one.step, one.target, one.atoms), (other.step, other.target, other.atoms))
+        self.assertEqual((one.get_step(), one.get_target(), one.n_atoms), (other.get_step(), other.get_target(), other.n_atoms))
 
 
 class Motion(Sessions):
@@ -151,7 +151,7 @@ class Motion(Sessions):
         for _ in range(2):
             ordered.advance(600)
             ordered.reverse()
-        self.assertEqual((ordered.step, listed(ordered.places())), (0, start))
+        self.assertEqual((ordered.get_step(), listed(ordered.places())), (0, start))
 
     def test_several_at_once(self) -> None:
         plain, ordered = self.both()
@@ -161,7 +161,7 @@ class Motion(Sessions):
         self.same(plain, ordered)
         ordered.start(300)
         plain.start(300)
-        self.assertEqual((ordered.target, plain.target), (1000, 1000))
+        self.assertEqual((ordered.get_target(), plain.get_target()), (1000, 1000))
         self.assertEqual(self.user.advance([plain, ordered], 10), [1010, 1010])
         self.same(plain, ordered)
 
@@ -205,10 +205,10 @@ class Numbers(Sessions):
                 order, places, dumped = ordered.order, listed(ordered.places()), ordered.dump()
                 symbols = ordered.symbols()
             with connect("127.0.0.1", server.port, "ann", TOKEN) as user:
-                self.assertEqual(listed(user.session("s").places()), list(order.for_server(places)))
-                self.assertEqual(user.session("s").symbols(), order.for_server(symbols))
+                self.assertEqual(listed(user.session("s").places()), list(order._for_server(places)))
+                self.assertEqual(user.session("s").symbols(), order._for_server(symbols))
                 other = user.session("s", order=order, **SCALE)
-                self.assertEqual((listed(other.places()), other.dump(), other.step), (places, dumped, 300))
+                self.assertEqual((listed(other.places()), other.dump(), other.get_step()), (places, dumped, 300))
                 self.assertEqual(other.symbols(), symbols)
                 numbers = user.session("s", order=list(present(order.numbers)))
                 self.assertEqual((listed(numbers.places()), numbers.place(7)), (places, places[7]))
@@ -239,7 +239,7 @@ class Numbers(Sessions):
 class Renewals(Sessions):
     def test_each_250_steps(self) -> None:
         _, ordered = self.both()
-        with mock.patch.object(self.user, "resort", wraps=self.user.resort) as resort:
+        with mock.patch.object(self.user, "_resort", wraps=self.user._resort) as resort:
             for n, done in [(249, 0), (1, 0), (1, 1), (600, 3), (0, 3), (148, 3), (2, 4)]:
                 ordered.advance(n)
                 self.assertEqual(resort.call_count, done, n)
@@ -250,7 +250,7 @@ class Renewals(Sessions):
         ordered.branch("l")
         order = ordered.order
         self.assertEqual((ordered.advance(600), ordered.order), (600, order))
-        with self.assertRaisesRegex(ValueError, "sorted cannot be sorted anew, .* would be lost: k, l"):
+        with self.assertRaisesRegex(ValueError, "cannot sort sorted again: .* would be lost .k, l"):
             ordered.resort()
         self.assertEqual((ordered.restore("k"), ordered.saved(), ordered.advance(600)), (0, [("k", 0), ("l", 0)], 600))
         ordered.forget("k")
@@ -274,7 +274,7 @@ class Renewals(Sessions):
 
     def test_what_is_no_order(self) -> None:
         for wrong in ("time", "", [0, 1]):
-            with self.assertRaisesRegex(ValueError, "an order is 'space'"):
+            with self.assertRaisesRegex(ValueError, "order must be 'space'"):
                 dimer(self.user, order=wrong)
         self.assertEqual(self.user.sessions(), [])
 
@@ -295,7 +295,7 @@ class Renewals(Sessions):
     def test_interrupts_lose_nothing(self) -> None:
         """An interrupt comes while the motion is turned back to be read, and while atoms change places."""
         plain, ordered = self.both()
-        asked = {"ask_all": 0, "ask_rows": 0}
+        asked = {"ask_all": 0, "_ask_rows": 0}
         for name in asked:
             ask = getattr(self.user, name)
 
@@ -312,9 +312,9 @@ class Renewals(Sessions):
             with mock.patch.object(self.user, name, side_effect=interrupted), interruptible():
                 with self.assertRaises(KeyboardInterrupt):
                     ordered.advance(10)
-            plain.advance(ordered.step - plain.step)
+            plain.advance(ordered.get_step() - plain.get_step())
             self.same(plain, ordered)
-        self.assertEqual(asked, {"ask_all": 1, "ask_rows": 1})
+        self.assertEqual(asked, {"ask_all": 1, "_ask_rows": 1})
 
 
 class Script(Sessions):

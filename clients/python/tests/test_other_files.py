@@ -25,7 +25,7 @@ def test_what_reads_it_is_told(user: Any, tmp_path: pathlib.Path, ending: Any, t
     path = tmp_path / f"way{ending}"
     path.write_bytes(text)
     reads = "ase.io.read" if ending.lower() in other_files.OF_ASE else "MDAnalysis.Universe"
-    with pytest.raises(ValueError, match=f"is no XYZ text, but a {ending.lower()} file: {reads}.*can be loaded in its place"):
+    with pytest.raises(ValueError, match=f"must be XYZ text, got a {ending.lower()} file; use {reads}"):
         user.load("a", path, **DIMER_SCALE)
     assert user.sessions() == []
 
@@ -34,7 +34,7 @@ def test_what_reads_it_is_told(user: Any, tmp_path: pathlib.Path, ending: Any, t
 def test_xyz_text_may_have_any_ending(user: Any, tmp_path: pathlib.Path, ending: Any) -> None:
     path = tmp_path / f"way{ending}"
     path.write_text("\n" + DIMER)
-    assert user.load("a", path, **DIMER_SCALE).atoms == 2
+    assert user.load("a", path, **DIMER_SCALE).n_atoms == 2
 
 
 def test_a_file_that_is_not_there_is_not_there(user: Any, tmp_path: pathlib.Path) -> None:
@@ -65,7 +65,7 @@ def test_what_is_said_to_read_it_reads_it(user: Any, tmp_path: pathlib.Path, end
         ase.io.write(path, made, **words)
     with pytest.raises(ValueError) as caught:
         user.load("a", path, sigma=1, h=1000)
-    code = re.search(r"ase\.io\.read\(.*\)(?= gives Atoms)", str(caught.value))
+    code = re.search(r"ase\.io\.read\(.*\)(?= and load its Atoms)", str(caught.value))
     assert code is not None
     with warnings.catch_warnings():
         warnings.simplefilter("ignore")

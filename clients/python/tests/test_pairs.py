@@ -40,7 +40,7 @@ class TwoFrames(Alone):
         with self.assertRaises(refusals.XyzPair) as caught:
             self.user.load("b", DIMER, pair=True, **DIMER_SCALE)
         self.assertEqual(caught.exception.line, 5)
-        with self.assertRaisesRegex(ValueError, "before= or pair=True"):
+        with self.assertRaisesRegex(ValueError, "cannot use before= with pair=True"):
             self.user.load("b", DIMER, pair=True, before=DIMER, **DIMER_SCALE)
         self.assertEqual(self.user.sessions(), [])
 
@@ -58,7 +58,7 @@ class Close(Alone):
         rows = [("Ar", 1, 1, 1), ("Ar", 5, 5, 5), ("Ar", 1.6, 1, 1), ("Ar", 5, 5, 5.7)]
         (text,) = self.told(self.user.load, rows, **DIMER_SCALE)
         self.assertIn("the closest pair, atoms 0 and 2, is 0.6 sigma apart", text)
-        self.assertEqual(self.user.session("s").atoms, 4)
+        self.assertEqual(self.user.session("s").n_atoms, 4)
         self.assertEqual(self.told(self.user.load, [("Ar", 0, 0, 0), ("Ar", 0.801, 0, 0)], **DIMER_SCALE), [])
         self.assertEqual(len(self.told(self.user.load, [("Ar", 0, 0, 0), ("Ar", 0.799, 0, 0)], **DIMER_SCALE)), 1)
 

@@ -68,7 +68,7 @@ def test_what_reversal_makes_possible(tmp_path: pathlib.Path) -> None:
     assert (status, error) == (0, "")
     assert "4 steps there and back, without a kick: 0 sigma, to the bit from the start\n" in out
     assert "with atom 0 kicked by (1024, 0, 0): " in out and path.read_bytes().startswith(b"<?xml")
-    assert told("reversal.py", "arrow", "--steps", "0")[::2] == (1, "reversal.py: steps must be 1 at least, got 0\n")
+    assert told("reversal.py", "arrow", "--steps", "0")[::2] == (1, "reversal.py: steps must be at least 1, got 0\n")
 
 
 @pytest.mark.parametrize("name, begin", [("x.png", b"\x89PNG\r\n\x1a\n"), ("x.SVG", b"<?xml"), ("x.pdf", b"%PDF")])

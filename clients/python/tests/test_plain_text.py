@@ -41,7 +41,7 @@ def test_it_is_warned_of_once(elsewhere: None) -> None:
             with peer(says()) as port:
                 joined(port).close()
     (text,) = told
-    assert text.startswith("the connection to 127.0.0.1 is not encrypted") and "say tls=True" in text and TOKEN not in text
+    assert text.startswith("the connection to 127.0.0.1 is not encrypted") and "use tls=True" in text and TOKEN not in text
 
 
 def test_a_warning_that_is_an_error_comes_before_the_token(elsewhere: None) -> None:
@@ -119,7 +119,7 @@ def said_by_a_prompt(**variables: str) -> str:
 
 def test_the_prompt_says_it_in_one_line() -> None:
     said = said_by_a_prompt()
-    assert said.startswith("ljclient: warning: the connection to 127.0.0.1 is not encrypted, so the network sees the token: ")
+    assert said.startswith("ljclient: warning: the connection to 127.0.0.1 is not encrypted, so the network sees the token; use tls=True")
     assert said.count("\n") == 1 and said.endswith("\n")
 
 

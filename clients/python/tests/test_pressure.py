@@ -100,7 +100,7 @@ def test_of_two_atoms_by_hand(user: Any) -> None:
     wanted = (2 * kinetic + virial) / (3 * 256**3)
     assert a.pressure() == pytest.approx(wanted, rel=1e-12)
     assert next(a.frames(every=1, n=1)).pressure == a.pressure()
-    assert a.step == 1
+    assert a.get_step() == 1
 
 
 def droplet(count: Any, seed: Any, edge: Any) -> List[Any]:
@@ -145,7 +145,7 @@ def test_without_numpy_it_is_told_what_to_install(user: Any) -> None:
         for ask in (a.pressure, lambda: frame.pressure):
             with pytest.raises(ClientError, match="pip install numpy"):
                 ask()
-    assert a.step == 0
+    assert a.get_step() == 0
 
 
 def main() -> None:

@@ -176,8 +176,8 @@ class Filters(unittest.TestCase):
     def test_what_cannot_be_sent(self) -> None:
         for stream, why in [
             ("LIST\nLOAD a /no/such 9 1 1\nLIST\n", "cannot read /no/such: No such file"),
-            ("LIST\nLOAD a 9 1 1 rest 9\n1\n", "the input has ended after 2 of 9 bytes"),
-            (b"LIST\n\xff\xfe\n", "a line is no text"),
+            ("LIST\nLOAD a 9 1 1 rest 9\n1\n", "the text after a LOAD must have 9 bytes, got 2 before the end of the input"),
+            (b"LIST\n\xff\xfe\n", "a line must be UTF-8 text, got"),
             (f"LIST\nLOAD a {TOP} 9 1 1\n", "Is a directory"),
         ]:
             status, out, err = filtered(stream)
@@ -215,23 +215,23 @@ class Words(unittest.TestCase):
             self.assertNotIn(WRONG, err)
 
     def test_no_token(self) -> None:
-        self.assertIn("say --token-file FILE, or set LJSERVE_TOKEN", filtered("", "127.0.0.1:1", "ann")[2])
+        self.assertIn("use --token-file FILE, or set LJSERVE_TOKEN", filtered("", "127.0.0.1:1", "ann")[2])
         self.assertIn("cannot read /no/such", filtered("", "127.0.0.1:1", "ann", "--token-file", "/no/such")[2])
-        self.assertIn("has no token of cleo", filtered("", "127.0.0.1:1", "cleo", "--token-file", str(EXAMPLES / "users"))[2])
+        self.assertIn("cannot find a token of cleo in", filtered("", "127.0.0.1:1", "cleo", "--token-file", str(EXAMPLES / "users"))[2])
 
     def test_a_token_on_the_command_line_is_not_taken_and_not_shown(self) -> None:
         for words in ([TOKEN], ["--token", TOKEN], [f"--token={TOKEN}"], ["--tok", TOKEN]):
             status, out, err = filtered("", "127.0.0.1:1", "ann", *words)
             self.assertEqual((status, out), (2, ""))
             self.assertNotIn(TOKEN, err)
-        self.assertIn("never said on the command line", filtered("", "127.0.0.1:1", "ann", TOKEN)[2])
+        self.assertIn("a token must not be on the command line", filtered("", "127.0.0.1:1", "ann", TOKEN)[2])
 
     def test_words_that_are_none(self) -> None:
         for words, why in [
-            (["127.0.0.1:1"], "NAME is missing"),
-            (["127.0.0.1", "ann"], "no HOST:PORT"),
-            (["h:0", "ann"], "no HOST:PORT"),
-            (["h:65536", "ann"], "no HOST:PORT"),
+            (["127.0.0.1:1"], "HOST:PORT must be followed by NAME"),
+            (["127.0.0.1", "ann"], "the first word must be HOST:PORT"),
+            (["h:0", "ann"], "the first word must be HOST:PORT"),
+            (["h:65536", "ann"], "the first word must be HOST:PORT"),
             (["--frob"], "no option --frob"),
             (["--timeout", "0"], "above 0"),
             (["--timeout", "nan"], "above 0"),
@@ -261,7 +261,9 @@ class Completion(unittest.TestCase):
             cases: List[Any] = [
                 ([], "AD", ["ADVANCE "]),
                 ([], "ad", ["advance "]),
-                ([], "h", ["help "]),
+                ([], "h", ["heat ", "help "]),
+                (["heat"], "be", ["beta "]),
+                (["undo"], "", ["alpha ", "beta "]),
                 (["help"], "LOADM", ["LOADMIX "]),
                 (["ADVANCE"], "", ["alpha ", "beta "]),
                 (["ADVANCE"], "b", ["beta "]),

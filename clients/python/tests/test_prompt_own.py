@@ -1,4 +1,4 @@
-"""What is said at the prompt alone: physical units, many atoms in one SHOW, files that are read and written, and comments."""
+"""Commands of the prompt alone: physical units, many atoms in one SHOW, files that are read and written, and comments."""
 import os
 import pathlib
 import re
@@ -52,7 +52,7 @@ def test_several_places(dimer: Any) -> None:
     assert says(dimer, "SHOW a 0..1") == PLACES
     assert says(dimer, "SHOW a 0..2").startswith("ERR 14 NO_ATOM\n")
     assert "a has the atoms 0 to 1" in says(dimer, "SHOW a 5..7")
-    assert says(dimer, "SHOW a 1..0") == "  not sent: `1..0`: the first atom is not after the last one\n"
+    assert says(dimer, "SHOW a 1..0") == "  not sent: the first atom must not be after the last one, got `1..0`\n"
 
 
 def test_a_frame_in_a_file(dimer: Any, tmp_path: pathlib.Path) -> None:
@@ -64,7 +64,7 @@ def test_a_frame_in_a_file(dimer: Any, tmp_path: pathlib.Path) -> None:
     assert "missing: FILE" in says(dimer, "DUMP a >")
     assert "cannot write no/a.xyz: No such file or directory" in says(dimer, "DUMP a > no/a.xyz")
     os.mkfifo(tmp_path / "fifo")
-    assert "fifo is a FIFO, and stays as it is" in says(dimer, "DUMP a > fifo")
+    assert "cannot write fifo: it is a FIFO" in says(dimer, "DUMP a > fifo")
     assert says(dimer, "DUMP b > b.xyz").startswith("ERR 10 NO_SESSION\n")
 
 
@@ -91,14 +91,14 @@ def test_a_simulation_is_saved_and_goes_on(dimer: Any) -> None:
         assert told.startswith("OK ")
         assert says(dimer, line.format("b")) == told.replace(" a", " b", 1).replace("\nOK SHOW a", "\nOK SHOW b")
     assert says(dimer, "LIST") == "OK LIST 2\na 49 2 0\nb 49 2 0\n"
-    told = "  there is a session of that name already\n  `DROP b` gives it up, or say another name\n"
+    told = "  there is a session of that name already\n  use `DROP b`, or another name\n"
     assert says(dimer, "load_saved a.saved b") == f"ERR 11 EXISTS\n{told}"
     assert "cannot read none: No such file" in says(dimer, "load_saved none")
 
 
 def test_a_simulation_is_not_saved_in_place_of_a_licence(dimer: Any, tmp_path: pathlib.Path) -> None:
     (tmp_path / "LICENSE").write_text("MIT\n")
-    told = "LICENSE is no saved session, and stays as it is: say another name, or delete that file first"
+    told = "cannot write LICENSE: it exists and is not a saved session; use another name, or delete that file first"
     assert says(dimer, "save a LICENSE") == f"  not sent: {told}\n" and (tmp_path / "LICENSE").read_text() == "MIT\n"
 
 
@@ -116,10 +116,10 @@ def test_a_measurement_in_words(dimer: Any) -> None:
 def test_a_scale_that_is_not_known_is_said(tmp_path: pathlib.Path, user: Any) -> None:
     user.ask(f"LOAD a 256 1 131072 rest {len(DIMER)}", DIMER.encode())
     path = str(tmp_path / "a.saved")
-    with pytest.raises(loading.Fault, match="the scale of a is not known here: say it too"):
+    with pytest.raises(loading.Fault, match="cannot save a: its scale is not known here; use"):
         own.save(user, ["save", "a", path])
     assert own.save(user, ["save", "a", path, "edge=256", "sigma=1", "h=131072"]) == [f"  a at step 0 is in {path}"]
-    with pytest.raises(loading.Fault, match="at the server, not 200.0"):
+    with pytest.raises(loading.Fault, match="at the server, got 200.0"):
         own.save(user, ["save", "a", path, "edge=200", "sigma=1", "h=131072"])
 
 
@@ -141,7 +141,8 @@ def test_a_file_is_read(terminal: Any, tmp_path: pathlib.Path) -> None:
 def test_files_that_read_one_another_end(terminal: Any, tmp_path: pathlib.Path) -> None:
     (tmp_path / "round").write_text(".read round\n")
     terminal.type(".read round\r")
-    terminal.until("not sent: round would be the 9th file that is read by another one\n  round is left at line 1\nljserve> ")
+    why = "it would be file 9 of files that read one another, of which 8 are the most"
+    terminal.until(f"not sent: cannot read round: {why}\n  round is left at line 1\nljserve> ")
     assert says(terminal, "LIST") == "OK LIST 0\n"
 
 
@@ -162,22 +163,22 @@ def test_physical_units(user: Any, words: Any) -> None:
     user.ask(f"LOAD b 21.04 3.4 {h} rest {ARGON.stat().st_size}", ARGON.read_bytes())
     for name in ("a", "b"):
         user.ask(f"ADVANCE {name} 10")
-    shown = user.ask_rows([f"SHOW {name} {atom}" for name in ("a", "b") for atom in (0, 100, 255)]).decode().splitlines()
+    shown = user._ask_rows([f"SHOW {name} {atom}" for name in ("a", "b") for atom in (0, 100, 255)]).decode().splitlines()
     assert [row.replace("SHOW a", "SHOW b") for row in shown[:3]] == shown[3:]
 
 
 @pytest.mark.parametrize(
     "words, why",
     [
-        ("dt=10fs", "say the time step and the substance"),
-        ("argon", "say the time step"),
+        ("dt=10fs", "the time step and the substance must be given"),
+        ("argon", "the time step and the substance must be given"),
         ("dt=10as argon", "fs or ps may follow"),
-        ("dt=fast argon", "a number comes behind dt="),
-        ("dt=2fs xenonn", "`xenonn` is none of edge="),
-        ("h=1.5 argon", "h is a whole number"),
-        ("dt=2fs argon", "say the edge of the box"),
-        ("edge=21.04 dt=2fs h=4295 argon", "say either the step factor h, or the time step dt"),
-        ("edge=21.04 dt=900fs argon", "dt is from"),
+        ("dt=fast argon", "dt= must be followed by a number, which fs or ps may follow, got `fast`"),
+        ("dt=2fs xenonn", "a word of the scale must be one of edge="),
+        ("h=1.5 argon", "h must be a whole number, got `1.5`"),
+        ("dt=2fs argon", "edge must be given, got None"),
+        ("edge=21.04 dt=2fs h=4295 argon", "h or dt must be given, and not both, got h=4295 and dt="),
+        ("edge=21.04 dt=900fs argon", "dt must be from"),
     ],
 )
 def test_physical_units_that_are_wrong(user: Any, tmp_path: pathlib.Path, words: Any, why: Any) -> None:
@@ -211,12 +212,12 @@ def test_atoms_of_another_symbol_are_loaded_by_saying_theirs(terminal: Any, tmp_
 @pytest.mark.parametrize(
     "line, told",
     [
-        ("ADVANCE a ten", "`ten` is not n, how many steps, from 0 to 1000000"),
-        ("ADVANCE a", "missing: n, how many steps, from 0 to 1000000"),
+        ("ADVANCE a ten", "n must be the number of steps, from 0 to 1000000, got `ten`"),
+        ("ADVANCE a", "missing: n, the number of steps, from 0 to 1000000"),
         ("ADVANCE a 1 2", "`2` is a word too many"),
-        ("SHOW a -1", "`-1` is not i, the number of an atom, from 0"),
-        ("BRANCH a b/c", "`b/c` is not b, the name under which a simulation is saved: 1 to 16 letters, digits, `_` or `-`"),
-        ("TUG a 0 1 2 0.5", "`0.5` is not dz, whole numbers of ring units, 2^-32 of the edge, from -2147483648 to 2147483647"),
+        ("SHOW a -1", "i must be the number of an atom, from 0, got `-1`"),
+        ("BRANCH a b/c", "b must be the name under which a simulation is saved: 1 to 16 letters, digits, `_` or `-`, got `b/c`"),
+        ("TUG a 0 1 2 0.5", "dz must be a whole number of ring units each, 2^-32 of the edge, from -2147483648 to 2147483647, got `0.5`"),
     ],
 )
 def test_the_word_that_is_wrong(user: Any, line: Any, told: Any) -> None:
@@ -228,7 +229,7 @@ def test_the_word_that_is_wrong(user: Any, line: Any, told: Any) -> None:
 
 def test_a_load_that_is_not_sent_names_the_word(terminal: Any) -> None:
     told = " ".join(says(terminal, "LOAD a dimer.xyz 256 1 131072 rest 28 9").split())
-    assert "not sent: a LOAD is said as" in told and told.endswith("is a word too many")
+    assert "is a word too many; use `LOAD s FILE" in told
 
 
 @pytest.mark.parametrize(
@@ -239,11 +240,11 @@ def test_a_load_that_is_not_sent_names_the_word(terminal: Any) -> None:
         ("adv", "ance s n", ""),
         ("B", "", ""),
         ("ADVANCE a", " n", "s: the name of a session"),
-        ("ADVANCE a ", "n", "n: how many steps"),
+        ("ADVANCE a ", "n", "n: the number of steps"),
         ("ADVANCE a 5 ", "", ""),
         ("LOAD a x.xyz dt=2fs ", "SUBSTANCE [edge=..] [rest|pair]", "dt=2fs, argon"),
         ("SHOW a ", "i", "i: the number of an atom"),
-        ("TUG a 0 1 ", "dy dz", "dy: whole numbers"),
+        ("TUG a 0 1 ", "dy dz", "dy: a whole number of ring units"),
         ("SHOWW a ", "", "there is no command `SHOWW`: is SHOW meant?"),
         ("# a comment", "", ""),
         ("save a ", "FILE", "FILE: a file"),

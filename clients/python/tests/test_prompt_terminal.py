@@ -53,7 +53,7 @@ class AtATerminal(unittest.TestCase):
         terminal = self.at_its_prompt()
         for line in ("LOAD a", "LOAD a 256 1 131072", "LOADMIX m 256 A B 1 1 1 rest 28", "LOAD a 1 1 1 rest 1048577"):
             told = self.says(terminal, line)
-            self.assertIn(f"not sent: a LOAD is said as `{line.split()[0]} s FILE edge", told)
+            self.assertIn(f"use `{line.split()[0]} s FILE edge", told)
         self.assertIn("not sent: cannot read no.xyz", self.says(terminal, "LOAD a no.xyz 256 1 131072"))
         self.assertEqual(self.says(terminal, "LIST"), "OK LIST 0\nljserve> ")
 
@@ -65,7 +65,6 @@ class AtATerminal(unittest.TestCase):
             ("SHOW argn 0", "ERR 10 NO_SESSION", "sessions: argon"),
             ("SHOW argon 256", "ERR 14 NO_ATOM", "argon has the atoms 0 to 255"),
             ("RESTORE argon m", "ERR 12 NO_BRANCH", "saved in argon: k"),
-            ("ADVANCE argon", "ERR 03 SYNTAX", "as it should be: ADVANCE s n"),
             ("ADVNCE argon 1", "ERR 06 COMMAND", "is ADVANCE meant?"),
             ("ADVANCE argon 2000000", "ERR 23 STEP_RANGE", "more than 1,000,000 steps at once"),
             (f"LOAD b {EXAMPLES / 'users'} 9 1 1", "ERR 30 XYZ_COUNT line 1", "users, line 1: # Two users of a server"),
@@ -74,6 +73,8 @@ class AtATerminal(unittest.TestCase):
             told = self.says(terminal, line)
             self.assertTrue(told.startswith(f"{reply}\n  "), told)
             self.assertIn(words, told)
+        missing = "  missing: n, the number of steps, from 0 to 1000000\n  use `ADVANCE s n`\nERR 03 SYNTAX\nljserve> "
+        self.assertEqual(self.says(terminal, "ADVANCE argon"), missing)
 
     @unittest.skipUnless(importlib.util.find_spec("tqdm"), "tqdm is not installed")
     def test_an_advance_that_is_long(self) -> None:

@@ -60,10 +60,10 @@ def test_what_is_waited_for_is_told(begin: Any, tmp_path: pathlib.Path) -> None:
 def test_a_wait_has_a_bar(begin: Any, tmp_path: pathlib.Path) -> None:
     terminal = begin()
     says(terminal, "START a 900000")
-    says(terminal, "SHOW a 0", r"a, about: +\d+%\|.*\| \d+/899984 \[")
+    says(terminal, "SHOW a 0", r"a, about: +\d+%\|.*\| \d+/899\d{3} \[")
     (tmp_path / "go").touch()
     shown = terminal.until("OK SHOW a 900000 0 1 2 3\nljserve> ")
-    assert re.search(r"a, about: 100%\|.*\| 899984/899984 \[", shown)
+    assert re.search(r"a, about: 100%\|.*\| (899\d{3})/\1 \[", shown)
 
 
 def test_a_wait_without_started_steps_is_told_too(begin: Any, tmp_path: pathlib.Path) -> None:

@@ -95,9 +95,9 @@ class ByEither(unittest.TestCase):
             (b"OK SHOW a 7 1 0 0 0 0\n", "`SHOW a 1` was answered"),
             (b"OK SHOW a 7 1 0  0 0\n", "`SHOW a 1` was answered"),
             (b"OK SHOW a 7 1 0 0 0x1\n", "`SHOW a 1` was answered"),
-            (b"OK SHOW a 7 1 0 0 \xb2\n", "is no text of the protocol"),
+            (b"OK SHOW a 7 1 0 0 \xb2\n", "is not text of the protocol"),
             (b"OK SHOW a 8 1 0 0 0\n", "2 atoms of session a were not shown at one step"),
-            (b"HTTP/1.1 400\n", "is no reply to `SHOW a 1`"),
+            (b"HTTP/1.1 400\n", "is not a reply to `SHOW a 1`"),
             (b"OK STEP a 7\n", "`SHOW a 1` was answered"),
         ]:
             for kind in KINDS:
@@ -126,7 +126,7 @@ class ByEither(unittest.TestCase):
 
 def unasked(user: Any) -> Any:
     """The session a of a user, of which nothing was asked yet."""
-    with mock.patch.object(user, "ask"):
+    with mock.patch.object(user, "ask"), mock.patch.object(user, "_row"):
         return user.session("a")
 
 
@@ -155,7 +155,7 @@ class Refusals(unittest.TestCase):
 
     def test_no_rows(self) -> None:
         with run(PROGRAM) as user:
-            self.assertEqual(user.ask_rows([]), b"")
+            self.assertEqual(user._ask_rows([]), b"")
             self.assertEqual(user.sessions(), [])
 
 

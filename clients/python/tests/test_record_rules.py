@@ -76,7 +76,7 @@ def test_refusals_of_a_session_that_is_there(tmp_path: pathlib.Path, verb: bytes
         return
     fault = damaged(tmp_path, text)
     assert fault.line == LINES.index("> LIST a") + put_in.count("\n")
-    assert " that may stand here behind `!`" in str(fault)
+    assert "a refusal behind `!` must be one that " in str(fault)
 
 
 @pytest.mark.parametrize(
@@ -103,7 +103,7 @@ def test_what_is_no_such_refusal(tmp_path: pathlib.Path, line: str, first: str) 
     assert fault.line == LINES.index("> LIST a") + 2
 
 
-ENDED = "the connection has ended above, and no new one was begun"
+ENDED = "a new connection must begin here: the one above has ended"
 
 
 @pytest.mark.parametrize("ending", ["? SHOW a 0\n", "> SHOW a 0\n! ERR 08 ENOUGH\n", "> LOAD a\n! ERR 04 BODY\n"])
@@ -121,7 +121,7 @@ def test_what_follows_the_end_of_a_connection(tmp_path: pathlib.Path, ending: st
 GONE = "> SHOW a 0\n! ERR 10 NO_SESSION\n"
 BACK = f"{LOAD}< OK LOAD a 0 2\n> ADVANCE a 1\n< OK ADVANCE a 1\n"
 MIXED = "> LOADMIX a 256 Na Cl 1 131072 256 1 262144 512 1 131072 256 rest 24\n: 2\n: mix\n: Na 0 0 0\n: Cl 1 0 0\n"
-MISSING = "the session is gone above, and was not loaded again"
+MISSING = "the session must be loaded again: it is gone above"
 
 
 @pytest.mark.parametrize(
@@ -133,16 +133,16 @@ MISSING = "the session is gone above, and was not loaded again"
         (f"> DROP a\n< OK DROP a\n{LOAD}! ERR 90 MEMORY\n{BACK}", ""),
         (f"> DROP a\n< OK DROP a\n{MIXED}! ERR 21 QUOTA_ATOMS\n{BACK}", ""),
         (f"> DROP a\n< OK DROP a\n? LOAD a 256 1 131072 rest 28\nconnection\n{BACK}", ""),
-        (GONE, "this is no refusal of a SHOW that may stand here behind `!`"),
-        (f"connection\n> LIST a\n< OK LIST a 0\n{GONE}", "this is no refusal of a SHOW that may stand here behind `!`"),
+        (GONE, "a refusal behind `!` must be one that SHOW can get here"),
+        (f"connection\n> LIST a\n< OK LIST a 0\n{GONE}", "a refusal behind `!` must be one that SHOW can get here"),
         (f"connection\n{GONE}> LIST a\n< OK LIST a 0\n", MISSING),
-        (f"connection\n{GONE}> BRANCH a q\n! ERR 22 QUOTA_BRANCHES\n", "this is no refusal of a BRANCH that may stand here behind `!`"),
-        (f"> DROP a\n< OK DROP a\n{GONE}", "this is no refusal of a SHOW that may stand here behind `!`"),
+        (f"connection\n{GONE}> BRANCH a q\n! ERR 22 QUOTA_BRANCHES\n", "a refusal behind `!` must be one that BRANCH can get here"),
+        (f"> DROP a\n< OK DROP a\n{GONE}", "a refusal behind `!` must be one that SHOW can get here"),
         ("> DROP a\n< OK DROP a\n> LIST a\n< OK LIST a 0\n", MISSING),
-        (f"> DROP a\n< OK DROP a\nmoved\n{BACK}", "the session is gone above, so it cannot have moved"),
-        (f"moved\nmoved\n{BACK}", "`moved` is followed by a LOAD or LOADMIX that was granted"),
-        (f"moved\n{LOAD}! ERR 21 QUOTA_ATOMS\n", "`moved` is followed by a LOAD or LOADMIX that was granted"),
-        ("moved\n? LOAD a 256 1 131072 rest 28\n", "`moved` is followed by a LOAD or LOADMIX that was granted"),
+        (f"> DROP a\n< OK DROP a\nmoved\n{BACK}", "the session must be there to have moved: it is gone above"),
+        (f"moved\nmoved\n{BACK}", "`moved` must be followed by a LOAD or LOADMIX that was granted"),
+        (f"moved\n{LOAD}! ERR 21 QUOTA_ATOMS\n", "`moved` must be followed by a LOAD or LOADMIX that was granted"),
+        ("moved\n? LOAD a 256 1 131072 rest 28\n", "`moved` must be followed by a LOAD or LOADMIX that was granted"),
     ],
 )
 def test_a_session_that_is_gone(tmp_path: pathlib.Path, put_in: str, why: str) -> None:

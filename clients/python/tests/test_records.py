@@ -13,7 +13,7 @@ import pytest
 
 import support
 from ljclient import ClientError, ConnectionLost, Damaged, NotRecorded, Refused, record_target, refusals, run, user as users
-from record_texts import COMMANDS, DIMER_TEXT, commands, is_the_same, replied, twisted, verified, with_checks, without_checks
+from record_texts import CLIENT, COMMANDS, DIMER_TEXT, commands, is_the_same, replied, twisted, verified, with_checks, without_checks
 from support import ARGON, DIMER, EXAMPLES, PROGRAM, SECONDS, TOKEN, TOP, Server
 from support import dimer, interrupted_when, joined, listed, present, process_of
 from terminals import environment
@@ -203,14 +203,14 @@ def test_files_that_cannot_be_written(user: Any, tmp_path: pathlib.Path) -> None
     for record, fault in ((tmp_path, ValueError), (tmp_path / "fifo", ValueError), (tmp_path / "none" / "run.lj", OSError)):
         with pytest.raises(fault):
             dimer(user, replace=True, record=record)
-    assert user.row("a").step == 3
+    assert user._row("a").step == 3
 
 
 def test_two_records_are_two_files(user: Any, path: Any) -> None:
     dimer(user, record=path)
-    with pytest.raises(ValueError, match="is a record that is being written: say another file, or close the user that writes it"):
+    with pytest.raises(ValueError, match="it is a record that is being written; use another file, or close the user that writes it"):
         dimer(user, "b", record=path)
-    with run(PROGRAM) as other, pytest.raises(ValueError, match="is a record that is being written"):
+    with run(PROGRAM) as other, pytest.raises(ValueError, match="it is a record that is being written"):
         dimer(other, record=path)
     assert [row.name for row in user.sessions()] == ["a"]
     user.close()
@@ -221,7 +221,7 @@ def test_a_session_that_is_there_already(user: Any, path: Any, tmp_path: pathlib
     a = dimer(user, record=path)
     dimer(user, "b")
     for name in "ab":
-        with pytest.raises(ValueError, match=f"{name} is there already, and a record begins with the load of a session"):
+        with pytest.raises(ValueError, match=f"cannot record {name} from here on: a record begins with the load of its session"):
             user.session(name, record=tmp_path / "other.lj")
         with pytest.raises(refusals.Exists):
             dimer(user, name, record=tmp_path / "other.lj")
@@ -249,7 +249,7 @@ def test_commands_behind_a_drop(user: Any, path: Any) -> None:
     dimer(user, record=path)
     with pytest.raises(refusals.NoSession):
         user.ask_all(["DROP a", "SHOW a 0"])
-    user.ask_commands([("LOAD a 256 1 131072 rest 28", DIMER.encode()), ("ADVANCE a 1", b"")])
+    user._ask_commands([("LOAD a 256 1 131072 rest 28", DIMER.encode()), ("ADVANCE a 1", b"")])
     assert without_checks(path)[-3:] == ["> DROP a", "< OK DROP a", "end"]
     assert is_the_same(path) == []
 
@@ -293,7 +293,7 @@ def test_a_record_that_continues_another(user: Any, path: Any, tmp_path: pathlib
     a.save(saved)
     a.advance(1)
     user.close()
-    text = "\n".join(without_checks(path)).replace("client ljclient 1.1.0\n", "client x\nprogram y\n")
+    text = "\n".join(without_checks(path)).replace(f"{CLIENT}\n", "client x\nprogram y\n")
     for cut in (f"{text}\n", text[: text.rindex("\nend") + 1], text[: text.rindex("> ADVANCE")]):
         path.write_text(with_checks(cut) + ("" if "\nend" in cut else "0123"))
         with run(PROGRAM) as other:
@@ -315,7 +315,7 @@ def test_what_no_record_continues(user: Any, path: Any, tmp_path: pathlib.Path) 
         with pytest.raises(fault):
             user.load_saved(saved, replace=True, record=record, continues=continues)
     assert not following.exists()
-    assert user.row("a").step == 0
+    assert user._row("a").step == 0
     user.close()
     assert commands(path)[1:] == []
 
@@ -371,7 +371,7 @@ def test_an_interrupt(user: Any, path: Any) -> None:
     told: List[Any] = []
     with interrupted_when(lambda: any(told)):
         argon.advance(10**6, progress=lambda done, total: told.append(done))
-    step = argon.step
+    step = argon.get_step()
     argon.reverse()
     user.close()
     assert step > 0
@@ -520,7 +520,7 @@ def test_replies_that_are_on_their_way_when_a_new_connection_begins(server: Any,
         user.ask_all(["LIST"] * (users.MAX_ITEMS - 2 - user._wire.asked))
         with interrupted_when(lambda: user.unanswered == ["ADVANCE argon 10000"] and not user._wire._outgoing):
             argon.advance(10**6, piece=10000)
-        assert argon.step == 10000
+        assert argon.get_step() == 10000
         argon.drop()
     lines = [line for line in without_checks(path) if line[0] in ">c"]
     assert lines[-4:] == ["> ADVANCE argon 10000", "connection", "> ADVANCE argon 0", "> DROP argon"]

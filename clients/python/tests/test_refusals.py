@@ -17,8 +17,7 @@ class Classes(unittest.TestCase):
         with open(TOP / "docs" / "PROTOCOL.md") as file:
             table = file.read().split("## Refusals")[1].split("## Limits")[0]
         listed = {int(number): name for number, name in re.findall(r"\| (\d\d) \| ([A-Z_]+) ", table)}
-        self.assertIn("A server has one more, `ERR 01 DENIED`", table)
-        listed[1] = "DENIED"
+        self.assertIn("Only a server sends 01.", table)
         self.assertGreater(len(listed), 24)
         self.assertEqual({number: kind.name for number, kind in Refused.by_number.items()}, listed)
 

@@ -38,7 +38,7 @@ def test_all_velocities_are_stretched_alike(user: Any, kind: Any) -> None:
     a.heat(90, seed=2)
     a.tug(7, (3000, 0, -1000))
     a.advance(20)
-    old, places, step = moved(a), listed(a.places()), a.step
+    old, places, step = moved(a), listed(a.places()), a.get_step()
     with mock.patch.object(arrays, "numpy", kind):
         assert a.rescale(120) == pytest.approx(120, rel=1e-6)
     # In SI units: u of 1.66053906660e-27 kg, k_B of 1.380649e-23 J/K.
@@ -49,7 +49,7 @@ def test_all_velocities_are_stretched_alike(user: Any, kind: Any) -> None:
     assert all(abs(b - stretch * a) <= 1.51 for pair in zip(old, new) for a, b in zip(*pair))
     # What was pulled by one tug keeps the momentum of that tug, stretched; along y there was none.
     assert [sum(axis) for axis in zip(*new)] == [round(stretch * 3000), 0, round(stretch * -1000)]
-    assert (a.step, listed(a.places())) == (step, places)
+    assert (a.get_step(), listed(a.places())) == (step, places)
 
 
 def test_in_reduced_units(user: Any) -> None:
@@ -86,7 +86,7 @@ def test_equilibrated_to_a_temperature(user: Any, order: Any) -> None:
     a = argon(user, order=order)
     a.branch("start")
     told = a.equilibrate(100, 120, every=50)
-    assert (a.step, a.measure().momentum) == (120, (0, 0, 0))
+    assert (a.get_step(), a.measure().momentum) == (120, (0, 0, 0))
     there = both(a)
     a.restore("start")
     assert a.measure().kinetic == 0
@@ -112,13 +112,13 @@ def test_it_stretches_by_the_mean_and_returns_that_of_the_last_stretch(user: Any
         twin.rescale(80 * last / mean)
     # Ten equal parts of 15 steps end behind 1.5, 3, 4.5, .. of them, rounded down.
     wanted, last = means_of(twin, [1, 2] * 5)
-    assert (both(a), a.step) == (both(twin), 55)
+    assert (both(a), a.get_step()) == (both(twin), 55)
     assert told == pytest.approx(wanted, rel=1e-12) and abs(told - last) > 0.1
     told = a.equilibrate(60, 3, every=50)
     twin.rescale(60)
     assert told == pytest.approx(means_of(twin, [1, 1, 1])[0], rel=1e-12)
     assert both(a) == both(twin)
-    assert (a.equilibrate(70, 0), a.step) == (pytest.approx(70, rel=1e-5), 58)
+    assert (a.equilibrate(70, 0), a.get_step()) == (pytest.approx(70, rel=1e-5), 58)
 
 
 def test_a_stretch_is_a_twentieth_of_the_steps(user: Any) -> None:
@@ -130,7 +130,7 @@ def test_a_stretch_is_a_twentieth_of_the_steps(user: Any) -> None:
 
 def test_at_a_temperature_of_zero_the_atoms_are_held_again_and_again(user: Any) -> None:
     a = argon(user)
-    assert (a.equilibrate(0, 40, every=10), a.step) == (pytest.approx(0, abs=1), 40)
+    assert (a.equilibrate(0, 40, every=10), a.get_step()) == (pytest.approx(0, abs=1), 40)
     alone = user.load("alone", "1\n\nAr 0 0 0\n", edge=21.04, dt=2, **units.ARGON)
     assert alone.equilibrate(0, 40, every=10) == 0
 
@@ -158,16 +158,16 @@ def test_what_cannot_be(user: Any) -> None:
     for wrong, text in [(1, "at rest.*heat"), (-1, "from 0 on"), (math.nan, "from 0 on")]:
         with pytest.raises(ValueError, match=text):
             a.rescale(wrong)
-    for words, text in [((1, -1), "not below 0"), ((1, 1, 0), "every is 1 at least"), ((-1, 1), "from 0 on")]:
+    for words, text in [((1, -1), "must be 0 or more, got -1"), ((1, 1, 0), "every must be at least 1, got 0"), ((-1, 1), "from 0 on")]:
         with pytest.raises(ValueError, match=text):
             a.equilibrate(*words)
-    with pytest.raises(TypeError, match="a number of steps is a whole number"):
+    with pytest.raises(TypeError, match="the number of steps must be a whole number"):
         a.equilibrate(1, 1.5)
-    assert (a.step, a.measure().kinetic) == (0, 0)
+    assert (a.get_step(), a.measure().kinetic) == (0, 0)
     a.advance(5)
     with pytest.raises(ValueError, match="half the box"):
         a.rescale(1e12)
-    assert a.step == 5
+    assert a.get_step() == 5
 
 
 def test_an_interrupt_waits_until_all_atoms_have_theirs(user: Any) -> None:
@@ -175,14 +175,14 @@ def test_an_interrupt_waits_until_all_atoms_have_theirs(user: Any) -> None:
     for each in (a, twin):
         each.heat(50)
     twin.rescale(90)
-    ask_rows = user.ask_rows
+    ask_rows = user._ask_rows
 
     def interrupted(lines: Any) -> Any:
         if lines[0].startswith("TUG"):
             signal.raise_signal(signal.SIGINT)
         return ask_rows(lines)
 
-    with mock.patch.object(user, "ask_rows", interrupted), interruptible(), pytest.raises(KeyboardInterrupt):
+    with mock.patch.object(user, "_ask_rows", interrupted), interruptible(), pytest.raises(KeyboardInterrupt):
         a.rescale(90)
     assert both(a) == both(twin)
 

@@ -28,7 +28,7 @@ def free(user: Any, text: str = APART) -> Any:
 
 
 def state_of(session: Any) -> Any:
-    return session.step, listed(session.places()), session.measure(), session.saved()
+    return session.get_step(), listed(session.places()), session.measure(), session.saved()
 
 
 def test_an_echo_without_a_kick_is_exact(user: Any) -> None:
@@ -103,7 +103,7 @@ def test_kinds_may_be_said(user: Any) -> None:
     wanted = (2 * math.log(3 / 2) + math.log(3)) / 3
     assert [*told.there, told.ideal] == pytest.approx([wanted] * 3)
     for labels in (None, ["one"] * 3, ["one", "two"]):
-        with pytest.raises(ValueError, match="labels must be one of each of 3 atoms"):
+        with pytest.raises(ValueError, match="labels must be one for each of the 3 atoms"):
             entropy_of_mixing(a, 1, labels=labels)
 
 
@@ -120,7 +120,7 @@ def test_what_of_two_atoms_that_fall_together_tells_the_direction(user: Any) -> 
     assert told.departures["distance"] == pytest.approx(-2664.5 / 890.5, rel=1e-12)
     assert told.departures["potential"] == math.inf
     assert {"distance", "kinetic", "potential"} <= set(told.telling)
-    assert "distance +1.00 (-3.0)" in str(told) and a.step == 0
+    assert "distance +1.00 (-3.0)" in str(told) and a.get_step() == 0
 
 
 def test_how_far_velocities_are_from_those_of_maxwell() -> None:
@@ -136,13 +136,13 @@ def test_how_far_velocities_are_from_those_of_maxwell() -> None:
 @pytest.mark.parametrize(
     "ask, told",
     [
-        (lambda a: echo(a, 0), "steps must be 1 at least, got 0"),
-        (lambda a: echo(a, 5, every=0), "every must be 1 at least, got 0"),
+        (lambda a: echo(a, 0), "steps must be at least 1, got 0"),
+        (lambda a: echo(a, 5, every=0), "every must be at least 1, got 0"),
         (lambda a: echo(a, 5, Kick(3)), "the atom of a kick must be below 3"),
         (lambda a: divergence(a, 5, 4), "kicks must be at most 3"),
-        (lambda a: divergence(a, 5, 0), "kicks must be 1 at least, got 0"),
-        (lambda a: divergence(a, 5, []), "kicks must be one at least"),
-        (lambda a: arrow(a, -1), "steps must be 1 at least, got -1"),
+        (lambda a: divergence(a, 5, 0), "kicks must be at least 1, got 0"),
+        (lambda a: divergence(a, 5, []), "kicks must have at least one"),
+        (lambda a: arrow(a, -1), "steps must be at least 1, got -1"),
     ],
 )
 def test_what_is_no_number_changes_nothing(user: Any, ask: Any, told: str) -> None:
@@ -160,7 +160,7 @@ def test_an_interrupt_leaves_the_session_as_it_was(user: Any) -> None:
     seen: List[int] = []
 
     def broken_off(session: Any) -> Any:
-        seen.append(session.step)
+        seen.append(session.get_step())
         if len(seen) == 5:
             raise KeyboardInterrupt
         return places(session)
@@ -176,7 +176,7 @@ def test_a_lost_connection_says_how_to_go_back(user: Any) -> None:
     places: Any = type(a).places
 
     def lost(session: Any) -> Any:
-        if session.step == 2:
+        if session.get_step() == 2:
             os.kill(process_of(user), signal.SIGKILL)
         return places(session)
 
@@ -201,7 +201,7 @@ def test_where_the_quota_has_no_place_for_a_branch() -> None:
         a = dimer(user)
         with pytest.raises(refusals.QuotaBranches):
             echo(a, 3)
-        assert a.step == 0
+        assert a.get_step() == 0
 
 
 def test_without_numpy_it_is_told_what_to_install(user: Any) -> None:
@@ -211,7 +211,7 @@ def test_without_numpy_it_is_told_what_to_install(user: Any) -> None:
         for ask in asks:
             with pytest.raises(ClientError, match="numpy, which cannot be imported"):
                 ask(a, 2)
-    assert a.step == 0
+    assert a.get_step() == 0
 
 
 def lines_of(axes: Any) -> List[Any]:

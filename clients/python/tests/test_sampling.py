@@ -34,7 +34,7 @@ class Samples(Alone):
     def test_positions_on_the_way(self) -> None:
         a = dimer(self.user)
         steps, frames = a.sample(every=1, frames=3)
-        self.assertEqual((steps, a.step), ([0, 1, 2], 2))
+        self.assertEqual((steps, a.get_step()), ([0, 1, 2], 2))
         # Places by 2^24, rounded down to six decimals.
         wanted = [[tuple(math.floor(part / 2**24 * 10**6) / 10**6 for part in place) for place in frame] for frame in WAY]
         self.assertEqual([floats(frame) for frame in frames], wanted)
@@ -80,10 +80,10 @@ class Samples(Alone):
     def test_words_that_are_no_numbers(self) -> None:
         a = dimer(self.user)
         for word in ({"every": 0}, {"every": -1}, {"rows": 0}):
-            with self.assertRaisesRegex(ValueError, "is 1 at least"):
+            with self.assertRaisesRegex(ValueError, "must be at least 1, got"):
                 a.thermo(**{"every": 1, "rows": 1, **word})
         for word in ({"every": 0}, {"frames": 0}):
-            with self.assertRaisesRegex(ValueError, "is 1 at least"):
+            with self.assertRaisesRegex(ValueError, "must be at least 1, got 0"):
                 a.sample(**{"every": 1, "frames": 1, **word})
         with self.assertRaises(TypeError):
             a.sample(every=1.5, frames=2)
@@ -109,7 +109,7 @@ class Thermo(Alone):
     def test_it_stands_at_the_last_row(self) -> None:
         a = dimer(self.user)
         self.assertEqual([row.step for row in a.thermo(every=2, rows=2)], [0, 2])
-        self.assertEqual((a.step, listed(a.places())), (2, WAY[2]))
+        self.assertEqual((a.get_step(), listed(a.places())), (2, WAY[2]))
         b = dimer(self.user, "b")
         b.advance(2)
         self.assertEqual(a.measure(), b.measure())
@@ -121,7 +121,7 @@ class Thermo(Alone):
         a.advance(1)
         a.reverse()
         self.assertEqual(list(a.thermo(every=1, rows=2)), forth[::-1])
-        self.assertEqual(a.step, 0)
+        self.assertEqual(a.get_step(), 0)
 
     def test_rows_come_one_by_one(self) -> None:
         a = dimer(self.user)
@@ -138,11 +138,11 @@ class Thermo(Alone):
 
     def test_a_scale_that_is_not_known(self) -> None:
         dimer(self.user)
-        self.user.has_dropped("a")
+        self.user._forget("a")
         a = self.user.session("a")
         acts: List[Callable[[], object]] = [lambda: a.thermo(1, 1), lambda: a.write_trajectory("/no/such/folder/x.xyz", 1, 1)]
         for wrong in acts:
-            with self.assertRaisesRegex(ValueError, "scale is not known"):
+            with self.assertRaisesRegex(ValueError, "scale of the session must be known"):
                 wrong()
         self.assertEqual(floats(a.sample(every=1, frames=1).frames[0]), [(0, 0, 0), (1.5, 0, 0)])
 
@@ -164,7 +164,7 @@ class Trajectories(Alone):
             rows = [f"Ar {place} 0.000000 0.000000 {part:.9g} 0 0" for place, part in zip(places, (speed, -speed))]
             frames += ["2", f"{head} step={step} time={step * DT!r} {energies}", *rows]
         self.assertEqual(self.path.read_bytes(), "\n".join([*frames, ""]).encode())
-        self.assertEqual(a.step, 2)
+        self.assertEqual(a.get_step(), 2)
 
     def test_femtoseconds(self) -> None:
         argon = self.user.load("argon", EXAMPLES / "argon_256.xyz", edge=21.04, dt=10, **units.ARGON)
@@ -184,7 +184,7 @@ class Trajectories(Alone):
         a = dimer(self.user)
         with self.assertRaises(ValueError):
             a.write_trajectory(self.path, every=0, frames=1)
-        self.user.has_dropped("a")
+        self.user._forget("a")
         with self.assertRaises(ValueError):
             self.user.session("a").write_trajectory(self.path, every=1, frames=1)
         self.assertEqual(self.path.read_text(), "of before")
@@ -230,7 +230,7 @@ class InTheOrderOfSpace(Alone):
     def test_thermo(self) -> None:
         rows, others = self.told(lambda session: list(session.thermo(every=130, rows=3)))
         self.assertEqual(rows, others)
-        self.assertEqual(*self.told(lambda session: (session.step, listed(session.places()))))
+        self.assertEqual(*self.told(lambda session: (session.get_step(), listed(session.places()))))
 
     def test_trajectories(self) -> None:
         with tempfile.TemporaryDirectory() as folder:

@@ -59,7 +59,7 @@ class Connections(unittest.TestCase):
             for _ in range(2):
                 argon.advance(200)
                 argon.reverse()
-            self.assertEqual(([tuple(place) for place in argon.places()], argon.step), (start, 0))
+            self.assertEqual(([tuple(place) for place in argon.places()], argon.get_step()), (start, 0))
 
     def test_what_was_started_is_done_for_the_next_connection(self) -> None:
         with self.join() as user:
@@ -67,8 +67,8 @@ class Connections(unittest.TestCase):
             self.assertEqual((a.start(2), b.start(10**6)), (2, 10**6))
         with self.join() as user:
             a, b = user.session("a"), user.session("b")
-            self.assertEqual((a.target, b.target), (2, 10**6))
-            self.assertEqual((a.place(0), b.target), ((1774, 0, 0), 10**6))
+            self.assertEqual((a.get_target(), b.get_target()), (2, 10**6))
+            self.assertEqual((a.place(0), b.get_target()), ((1774, 0, 0), 10**6))
 
     def test_thousands_of_commands_under_way(self) -> None:
         with self.join() as user:
@@ -104,7 +104,7 @@ class Connections(unittest.TestCase):
             with self.server.stopped(), self.assertRaisesRegex(TimedOut, "nothing was heard for 0.5 s"):
                 a.measure()
         with self.join() as user:
-            self.assertEqual(user.session("a").step, 0)
+            self.assertEqual(user.session("a").get_step(), 0)
 
     def test_a_refusal_that_ends_the_connection(self) -> None:
         with self.join() as user:
@@ -125,7 +125,7 @@ class Connections(unittest.TestCase):
         user.close()
         self.assertLess(time.monotonic() - start, SECONDS / 2)
         with self.join(timeout=120) as user:
-            self.assertEqual(user.session("argon").step, 30_000)
+            self.assertEqual(user.session("argon").get_step(), 30_000)
 
 
 class FullServers(unittest.TestCase):

@@ -47,11 +47,11 @@ def test_a_frame_has_what_the_session_tells(user: Any, kind: Any) -> None:
             twin.advance(3 if number else 0)
             assert isinstance(frame, Snapshot) and frame.energies == energies[number]
             assert frame.temperature == energies[number].temperature
-            assert (frame.step, frame.time) == (3 * number, 3 * number * a.dt) and frame.step == twin.step
+            assert (frame.step, frame.time) == (3 * number, 3 * number * a.dt) and frame.step == twin.get_step()
             assert listed(frame.places) == listed(twin.places())
             for tell in ("positions", "velocities", "forces", "displacements"):
                 assert rows(getattr(frame, tell)) == rows(getattr(twin, tell)())
-    assert a.step == twin.step == 9
+    assert a.get_step() == twin.get_step() == 9
 
 
 def test_frames_of_a_list_of_steps(user: Any) -> None:
@@ -68,10 +68,10 @@ def test_frames_of_a_list_of_steps(user: Any) -> None:
 def test_the_session_stands_at_the_frame(user: Any) -> None:
     a = dimer(user)
     for frame in a.frames(every=2, n=5):
-        assert (a.step, listed(a.places())) == (frame.step, listed(frame.places))
+        assert (a.get_step(), listed(a.places())) == (frame.step, listed(frame.places))
         if frame.step == 4:
             break
-    assert a.step == 4
+    assert a.get_step() == 4
     assert a.advance(1) == 5
 
 
@@ -84,13 +84,13 @@ def test_how_far_it_is(user: Any) -> None:
 @pytest.mark.parametrize(
     "words, text",
     [
-        (([], None), "has one at least"),
+        (([], None), "must have at least one"),
         (([0, 0], None), "greater than the one before"),
-        (([-1, 2], None), "not below 0"),
-        (([0, 1], 2), "leave n out"),
-        ((5, None), "say how many frames"),
-        ((0, 3), "every is 1 at least"),
-        ((1, 0), "n is 1 at least"),
+        (([-1, 2], None), "must be 0 or more, got -1"),
+        (([0, 1], 2), "n must be left out beside a list of 2 steps, got 2"),
+        ((5, None), "n must be the number of frames, got None"),
+        ((0, 3), "every must be at least 1, got 0"),
+        ((1, 0), "n must be at least 1, got 0"),
     ],
 )
 def test_what_is_no_list_of_steps(user: Any, words: Any, text: Any) -> None:
@@ -99,7 +99,7 @@ def test_what_is_no_list_of_steps(user: Any, words: Any, text: Any) -> None:
         a.frames(*words)
     with pytest.raises(TypeError, match="a whole number"):
         a.frames([0, 1.5])
-    assert a.step == 0
+    assert a.get_step() == 0
 
 
 @pytest.mark.parametrize("kind", KINDS)
@@ -167,3 +167,16 @@ def test_frames_of_a_sample_that_is_broken_off_are_followed_too(user: Any) -> No
     with mock.patch.object(type(a), "advance", breaks), pytest.raises(KeyboardInterrupt):
         a.sample(every=1, frames=9, exact=True, unwrap=True)
     assert [listed(frame)[0][0] for frame in a.sampled.frames] == [start, start + FAST, start + 2 * FAST]
+
+
+def test_only_displacements_warn_of_atoms_that_went_far_between_frames(user: Any) -> None:
+    """The second frame is 2/5 of the edge from the first one, and the third 1/5 from the second: displacements doubt both."""
+    with warnings.catch_warnings():
+        warnings.simplefilter("error")
+        first, second, third = loose(user).frames([0, 2, 3])
+        assert [frame.energies.potential for frame in (first, second, third)] == [0, 0, 0]
+        first.displacements
+    for frame in (second, third):
+        with pytest.warns(UserWarning, match=r"an atom of loose has moved by 0\.40 of the edge") as told:
+            frame.displacements
+        assert told[0].filename == __file__

@@ -14,7 +14,7 @@ except ImportError:
 
 TWO = "2\nmix\nKr 0 0 0\nAr 1.5 0 0\n"
 WHERE = [(0, 0, 0), (1.5, 0, 0)]
-TOLD = "the symbols Ar and Kr, and here they are all alike: symbols='Ar' says that they are, and load_mix takes two species"
+TOLD = "since they are all alike here, got Ar and Kr; use symbols='Ar', or load_mix for two species"
 
 
 def sources(folder: pathlib.Path) -> Dict[str, Any]:
@@ -54,20 +54,20 @@ def test_symbols_that_are_said_stand_in_their_place(user: Any, tmp_path: pathlib
 
 @pytest.mark.parametrize("kind", KINDS)
 def test_there_is_a_symbol_for_each_atom(user: Any, tmp_path: pathlib.Path, kind: Any) -> None:
-    with pytest.raises(ValueError, match="there are 3 symbols for 2 atoms"):
+    with pytest.raises(ValueError, match="symbols must be one for each of the 2 atoms, got 3"):
         user.load("a", **words_of(sources(tmp_path)[kind]), symbols=["Ar"] * 3, **DIMER_SCALE)
 
 
 def test_ten_of_krypton_among_argon(user: Any) -> None:
     text = (EXAMPLES / "argon_256.xyz").read_text().replace("Ar", "Kr", 10)
-    with pytest.raises(ValueError, match="symbols Ar and Kr"):
+    with pytest.raises(ValueError, match="got Ar and Kr; use symbols='Ar'"):
         user.load("argon", text, edge=21.04, dt=2, **units.ARGON)
     assert user.load("argon", text, symbols="Ar", edge=21.04, dt=2, **units.ARGON).symbols() == ["Ar"] * 256
 
 
 def test_many_symbols_are_named(user: Any) -> None:
     rows = [(symbol, 2 * number, 0, 0) for number, symbol in enumerate(("O", "H", "Ar", "H"))]
-    with pytest.raises(ValueError, match="the symbols Ar, H and O, and here"):
+    with pytest.raises(ValueError, match="since they are all alike here, got Ar, H and O"):
         user.load("a", rows, **DIMER_SCALE)
 
 
@@ -86,9 +86,7 @@ def test_symbols_change_nothing_in_a_text_that_is_no_frame(user: Any, text: Any)
 def test_the_element_of_a_substance(user: Any, name: Any) -> None:
     words: Dict[str, Any] = {"edge": 30, "dt": 2, **units.SUBSTANCES[name]}
     other = "He"
-    with pytest.raises(
-        ValueError, match=f"those of {name}, and the symbol of the atoms is {other}: say those of {other}, or symbols='{name}'"
-    ):
+    with pytest.raises(ValueError, match=f"those of {name}, got {other}; use those of {other}, or symbols='{name}'"):
         user.load("a", [(other, 0, 0, 0)], **words)
     for number, (symbol, said) in enumerate([(name, None), ("A", None), ("1", None), (other, name), (other, other)]):
         session = user.load(f"a{number}", [(symbol, 0, 0, 0)], symbols=said, **words)

@@ -69,7 +69,7 @@ def test_atoms_of_ase_are_relaxed() -> None:
     relaxed = relax(atoms, sigma=3.4)
     assert numpy.array(relaxed.positions)[:, 0] == pytest.approx([17 - 0.459 * 3.4, 17 + 0.459 * 3.4])
     assert (relaxed.symbols, relaxed.edge, relaxed.sigma) == (("Ar", "Kr"), 34, 3.4)
-    with pytest.raises(ValueError, match="say sigma="):
+    with pytest.raises(ValueError, match="use sigma="):
         relax(atoms)
     with pytest.raises(TypeError, match="got list"):
         relax([[0, 0, 0]])
@@ -108,14 +108,14 @@ def test_mixtures() -> None:
     [
         (lambda: lattice("hcp", density=1, atoms=4), "kind must be one of bcc, fcc, sc"),
         (lambda: lattice("fcc", density=1, atoms=250), "such as 108, 256, 500, got 250"),
-        (lambda: lattice("sc", density=0, atoms=8), "a density"),
+        (lambda: lattice("sc", density=0, atoms=8), "density must be"),
         (lambda: lattice("random", density=3.0, atoms=50), "close packing of 50 atoms, got 0.9"),
         (lambda: slab("fcc", density=0.8, edge=10, thickness=10), "thickness must be"),
         (lambda: droplet("fcc", density=0.8, radius=5, edge=10), "edge must be above 10"),
         (lambda: binary(lattice("sc", density=1, atoms=8), "AB"), "species must be two symbols"),
         (lambda: binary(lattice("sc", density=1, atoms=8), ("A", "B"), fraction=2), "fraction must be from 0 to 1"),
         (lambda: johnson(-1, 1), "density"),
-        (lambda: equation_of_state(None, [], 1.0), "densities must be one at least"),  # type: ignore[arg-type]
+        (lambda: equation_of_state(None, [], 1.0), "densities must have at least one"),  # type: ignore[arg-type]
     ],
 )
 def test_what_cannot_be(ask: Any, told: str) -> None:
@@ -126,7 +126,7 @@ def test_what_cannot_be(ask: Any, told: str) -> None:
 def test_a_configuration_is_loaded_with_its_box(user: Any) -> None:
     crystal = lattice("fcc", density=0.2, atoms=32, sigma=3.4)
     argon = user.load("argon", crystal, dt=2, **units.ARGON)
-    assert (argon.atoms, argon.edge, argon.symbols()) == (32, crystal.edge, ["Ar"] * 32)
+    assert (argon.n_atoms, argon.edge, argon.symbols()) == (32, crystal.edge, ["Ar"] * 32)
     assert numpy.array(argon.positions()) == pytest.approx(numpy.array(crystal.positions), abs=1e-8)
     mix = user.load_mix("mix", binary(crystal, ("Ar", "Kr")), species=("Ar", "Kr"), classes=[(3.4, 4096, 256)] * 3)
     assert mix.symbols().count("Kr") == 16
@@ -171,7 +171,7 @@ def test_of_an_ideal_gas(user: Any) -> None:
     assert point.temperature == pytest.approx((kinetic / 3, 0), rel=1e-9)
     assert point.pressure == pytest.approx((2 * kinetic / (3 * 256**3) + tails[0], 0), rel=1e-9)
     assert point.energy == pytest.approx((tails[1], 0), rel=1e-9)
-    assert (point.density, point.n_frames, a.step, point.session) == (density, 10, 9, a)
+    assert (point.density, point.n_frames, a.get_step(), point.session) == (density, 10, 9, a)
 
 
 def test_tails_are_those_of_lammps(user: Any) -> None:
@@ -195,13 +195,13 @@ def test_tails_of_a_mixture(user: Any) -> None:
 def test_another_density(user: Any) -> None:
     fluid = user.load("fluid", lattice("fcc", density=0.2, atoms=32, sigma=3.4), dt=4, watch=False, **units.ARGON)
     point = equilibrate(fluid, 200, density=0.05, steps=100, seed=2)
-    assert (point.session.name, point.session.atoms, [row.name for row in user.sessions()]) == ("fluid", 32, ["fluid"])
+    assert (point.session.name, point.session.n_atoms, [row.name for row in user.sessions()]) == ("fluid", 32, ["fluid"])
     assert point.session.edge == pytest.approx(3.4 * (32 / 0.05) ** (1 / 3))
     assert point.density == pytest.approx(0.05) and point.session.h == fluid.h
     assert point.temperature.value == pytest.approx(200, rel=0.2)
     assert point.reduced_temperature == pytest.approx(point.temperature.value / 119.8)
     assert " K: pressure " in str(point)
-    assert point.session.step == 100
+    assert point.session.get_step() == 100
 
 
 def test_a_compressed_mixture_stays_one(user: Any) -> None:
@@ -213,16 +213,16 @@ def test_a_compressed_mixture_stays_one(user: Any) -> None:
     assert mixture.species == ("A", "B")
     assert [(each.h, each.weight) for each in mixture.classes] == [(h, weight) for _, h, weight in classes]
     assert point.session.symbols() == list(crystal.symbols)
-    assert user.known("mix").is_sorted and not user.known("mix").watch.is_on
+    assert user._known_of("mix").is_sorted and not user._known_of("mix").watch.is_on
 
 
 @pytest.mark.parametrize("words", [{"temperature": 0}, {"temperature": 1, "density": -1}, {"temperature": 1, "steps": 19}])
 def test_what_cannot_be_reached_changes_nothing(user: Any, words: Any) -> None:
     a = user.load("a", PAIR, symbols="A", edge=256, sigma=1, h=131072)
-    before: List[Any] = [a.step, listed(a.places()), a.measure()]
+    before: List[Any] = [a.get_step(), listed(a.places()), a.measure()]
     with pytest.raises(ValueError):
         equilibrate(a, **words)
-    assert [a.step, listed(a.places()), a.measure()] == before
+    assert [a.get_step(), listed(a.places()), a.measure()] == before
 
 
 def test_a_table_of_an_equation_of_state() -> None:

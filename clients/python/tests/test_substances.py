@@ -41,17 +41,21 @@ def test_the_edge_of_a_density() -> None:
     volume = 864 / 6.02214076e23 * 39.948 / 1.374 * 1e24
     assert units.edge_of_density(864, 1.374, mass=39.948) == pytest.approx(volume ** (1 / 3), rel=1e-9)
     for words, text in [
-        ((0, 1), "is 1 at least"),
-        ((1, 0), "a density is a number above 0"),
-        ((1, float("nan")), "a density is a number above 0"),
+        ((0, 1), "must be at least 1, got 0"),
+        ((1, 0), "density must be a finite number above 0"),
+        ((1, float("nan")), "density must be a finite number above 0"),
     ]:
         with pytest.raises(ValueError, match=text):
             units.edge_of_density(*words)
-    named: List[Any] = [({"sigma": 0}, "sigma is"), ({"mass": -1}, "mass is"), ({"mass": 1, "sigma": 3.4}, "leave sigma= out")]
+    named: List[Any] = [
+        ({"sigma": 0}, "sigma must be"),
+        ({"mass": -1}, "mass must be"),
+        ({"mass": 1, "sigma": 3.4}, "sigma must be left out beside mass"),
+    ]
     for said, text in named:
         with pytest.raises(ValueError, match=text):
             units.edge_of_density(100, 1, **said)
-    with pytest.raises(TypeError, match="a number of atoms is a whole number"):
+    with pytest.raises(TypeError, match="the number of atoms must be a whole number"):
         units.edge_of_density(10.5, 1)  # type: ignore[arg-type]
 
 
@@ -65,5 +69,5 @@ def test_energies_in_electronvolt() -> None:
         assert told.in_electronvolt() is told and str(told).endswith("eV") and "K;" in str(told)
         assert told.total == pytest.approx(argon.measure().in_electronvolt(row.total), rel=1e-14)
         reduced = next(user.load("a", DIMER, **DIMER_SCALE).thermo(every=1, rows=1))
-        with pytest.raises(ValueError, match="epsilon is not known"):
+        with pytest.raises(ValueError, match="epsilon must be known, got None"):
             reduced.in_electronvolt()

@@ -30,14 +30,14 @@ def test_ase_is_given_the_elements_that_are_said(mix: Any) -> None:
 
 @with_ase
 def test_a_symbol_that_is_no_element_is_an_error_that_says_what_to_pass(mix: Any) -> None:
-    with pytest.raises(ValueError, match=f"ASE knows no element 'A'.*{ALL_NAMED}"):
+    with pytest.raises(ValueError, match=f"a symbol must be an element of ASE, got 'A'; use {ALL_NAMED}"):
         mix.to_ase()
 
 
 @with_ase
 def test_a_species_is_no_element_if_the_other_one_is_none(user: Any) -> None:
     mix = user.load_mix("b", "1\nb\nB 0 0 0\n", edge=256, species=("A", "B"), classes=(LIKE, LIKE, LIKE))
-    with pytest.raises(ValueError, match=f"ASE knows no element 'A'.*{ALL_NAMED}"):
+    with pytest.raises(ValueError, match=f"a symbol must be an element of ASE, got 'A'; use {ALL_NAMED}"):
         mix.to_ase()
     assert mix.to_ase({"B": "Kr"}).get_chemical_symbols() == ["Kr"]
 
@@ -53,12 +53,12 @@ def test_elements_stay_as_they_are(user: Any) -> None:
 @with_ase
 def test_what_is_said_is_whole_and_names_elements(mix: Any) -> None:
     for said, told in (
-        ({"A": "Ar"}, f"nothing in place of 'B'.*{ALL_NAMED}"),
-        ({}, f"nothing in place of 'B'.*{ALL_NAMED}"),
-        ({"A": "Ar", "B": "Kry"}, "ASE knows no element 'Kry', which symbols= says: say the symbol of an element, such as 'Ar'"),
-        ({"A": "Ar", "B": "K r"}, "1 to 16 printing characters, not 'K r'"),
-        ({"A": "Ar", "B": 36}, "1 to 16 printing characters, not 36"),
-        ("Ar", f"{ALL_NAMED}, not 'Ar'"),
+        ({"A": "Ar"}, f"symbols must have one for 'B', got .*; use {ALL_NAMED}"),
+        ({}, f"symbols must have one for 'B', got .*; use {ALL_NAMED}"),
+        ({"A": "Ar", "B": "Kry"}, "symbols= must give elements of ASE, such as 'Ar', got 'Kry'"),
+        ({"A": "Ar", "B": "K r"}, "1 to 16 printing characters, got 'K r'"),
+        ({"A": "Ar", "B": 36}, "1 to 16 printing characters, got 36"),
+        ("Ar", f"got 'Ar'; use {ALL_NAMED}"),
     ):
         with pytest.raises(ValueError, match=told):
             mix.to_ase(said)
@@ -85,9 +85,9 @@ def test_symbols_that_are_not_whole_leave_file_and_session_as_they_were(mix: Any
     path.write_text("of before")
     ways: List[Callable[[], object]] = [lambda: mix.write_trajectory(path, 1, 3, symbols={"B": "Kr"}), lambda: mix.write(path, {"B": "Kr"})]
     for write in ways:
-        with pytest.raises(ValueError, match="nothing in place of 'A'"):
+        with pytest.raises(ValueError, match="symbols must have one for 'A'"):
             write()
-    assert (path.read_text(), mix.step) == ("of before", 0)
+    assert (path.read_text(), mix.get_step()) == ("of before", 0)
 
 
 def test_a_dump_has_the_symbols_that_are_said(mix: Any, tmp_path: pathlib.Path) -> None:

@@ -112,11 +112,11 @@ def test_an_order_hands_on_atoms_and_steps(join: Any, tmp_path: pathlib.Path, no
     with join() as user:
         way(user, tmp_path)
         session = user.session("a")
-        order, wanted = session.order, (session.step, session.dump(), listed(session.places()))
+        order, wanted = session.order, (session.get_step(), session.dump(), listed(session.places()))
         assert wanted[0] == 300
     with join() as user:
         session = user.session("a", order=order, **SCALE)
-        assert (session.step, session.dump(), listed(session.places())) == wanted
+        assert (session.get_step(), session.dump(), listed(session.places())) == wanted
         assert session.sample(every=5, frames=2).steps == [300, 305]
 
 
@@ -126,7 +126,7 @@ def test_a_step_alone_is_handed_on(join: Any, tmp_path: pathlib.Path, no_warning
         wanted = user.session("a").dump()
     with join() as user:
         session = user.session("a", order=Order(step=300), **SCALE)
-        assert (session.step, session.dump()) == (300, wanted)
+        assert (session.get_step(), session.dump()) == (300, wanted)
 
 
 def test_a_list_of_numbers_says_no_steps(join: Any, tmp_path: pathlib.Path) -> None:
@@ -161,7 +161,7 @@ def test_a_warning_that_is_an_error_changes_nothing(join: Any, tmp_path: pathlib
             warnings.simplefilter("error")
             with pytest.raises(UserWarning):
                 user.session("a", **SCALE)
-        with pytest.raises(ValueError, match="scale is not known"):
+        with pytest.raises(ValueError, match="scale of the session must be known"):
             user.session("a").positions()
 
 
@@ -173,7 +173,7 @@ def test_sessions_in_a_box_of_the_user(join: Any, tmp_path: pathlib.Path, no_war
         with join() as user:
             session = user.session("a", **SCALE)
             assert seen(session, tmp_path) == [in_box(shown(user), 21.04)] * 3
-            assert (session.order, session.step) == (Order(), 50)
+            assert (session.order, session.get_step()) == (Order(), 50)
 
 
 @pytest.mark.parametrize("kind", KINDS)
@@ -190,9 +190,9 @@ def test_an_edge_that_is_not_that_of_the_load(join: Any) -> None:
         argon(user)
     with join() as user:
         for wrong in (21.03, 2.104, 210.4, 21.040002, 4294.0):
-            with pytest.raises(ValueError, match=rf"about 21\.04 at the server, not {wrong}: say the edge that it was loaded with"):
+            with pytest.raises(ValueError, match=rf"about 21\.04 at the server, got {wrong}; use the edge that it was loaded with"):
                 user.session("a", **{**SCALE, "edge": wrong})
-        with pytest.raises(ValueError, match="scale is not known"):
+        with pytest.raises(ValueError, match="scale of the session must be known"):
             user.session("a").positions()
         for right in (21.04, "21.04", "2104e-2"):
             assert user.session("a", **{**SCALE, "edge": right}).edge == 21.04
@@ -202,7 +202,7 @@ def test_what_is_no_edge(join: Any) -> None:
     with join() as user:
         argon(user)
         for wrong in (0, -21.04, "x", "nan", "inf"):
-            with pytest.raises(ValueError, match="edge is a number above 0"):
+            with pytest.raises(ValueError, match="edge must be a finite number above 0"):
                 user.session("a", **{**SCALE, "edge": wrong})
 
 
@@ -211,7 +211,7 @@ def test_an_edge_as_near_as_it_can_be_told(join: Any) -> None:
     body = b"1\nnear 0\nAr 36e-6 0 0\n"
     with join() as user:
         user.ask(f"LOAD a 256 1 131072 rest {len(body)}", body)
-        with pytest.raises(ValueError, match="about 300 at the server, not 100.0"):
+        with pytest.raises(ValueError, match="about 300 at the server, got 100.0"):
             user.session("a", edge=100, sigma=1, h=131072)
         user.session("a", **DIMER_SCALE)
 
@@ -234,7 +234,7 @@ def test_what_it_asks(join: Any, tmp_path: pathlib.Path) -> None:
             user.session("a", **words)
             assert user._wire.asked == asked + 1
         order = user.session("a").order
-    for words, count in (({}, 1), (SCALE, 3), ({"order": order}, 3), ({"order": order, **SCALE}, 3)):
+    for words, count in (({}, 2), (SCALE, 3), ({"order": order}, 3), ({"order": order, **SCALE}, 3)):
         with join() as user, warnings.catch_warnings():
             warnings.simplefilter("ignore")
             asked = user._wire.asked
@@ -256,7 +256,7 @@ def test_steps_that_are_pending(join: Any, tmp_path: pathlib.Path) -> None:
         session.start(2000)
     with join() as user, pytest.warns(UserWarning):
         session = user.session("a", **SCALE)
-        assert session.step == 2000
+        assert session.get_step() == 2000
         assert seen(session, tmp_path) == [in_box(shown(user), 21.04)] * 3
 
 
@@ -350,7 +350,7 @@ def test_an_order_of_a_session_that_was_loaded_anew(join: Any, tmp_path: pathlib
         argon(user, replace=True)
     with join() as user:
         for words in ({}, SCALE):
-            with pytest.raises(ValueError, match="about 21.04: it is no longer the order of a"):
+            with pytest.raises(ValueError, match="about 21.04 at the server, as that of a is, got 4294.967296"):
                 user.session("a", order=order, **words)
         assert user.session("a", **SCALE).order == Order()
 
@@ -362,7 +362,7 @@ def test_a_saved_file_of_a_session_that_was_taken_up(join: Any, tmp_path: pathli
     with join() as user:
         user.session("a", order=order, **SCALE).save(tmp_path / "again")
         back = user.load_saved(tmp_path / "again", "b")
-        assert (back.step, listed(back.places())) == (300, places)
+        assert (back.get_step(), listed(back.places())) == (300, places)
 
 
 def test_a_peer_that_shows_another_place_than_it_dumps() -> None:

@@ -32,7 +32,7 @@ def in_pieces(size: Any) -> Any:
 @pytest.mark.parametrize("size", [97, 1000, 4096, len(REPLY)])
 def test_a_frame_may_come_in_pieces(size: Any) -> None:
     with peer(says(then=in_pieces(size))) as port, joined(port) as user:
-        assert user.ask_text("DUMP a") == (["DUMP", "a", "7", str(ATOMS + 2)], TEXT)
+        assert user._ask_text("DUMP a") == (["DUMP", "a", "7", str(ATOMS + 2)], TEXT)
         assert user.sessions() == []
         user._wire.close()
 
@@ -40,7 +40,7 @@ def test_a_frame_may_come_in_pieces(size: Any) -> None:
 def test_a_refusal_is_raised_and_the_next_reply_is_read() -> None:
     with peer(says(b"ERR 10 NO_SESSION\n", NOTHING)) as port, joined(port) as user:
         with pytest.raises(refusals.NoSession):
-            user.ask_text("DUMP a")
+            user._ask_text("DUMP a")
         assert user.sessions() == []
         user._wire.close()
 
@@ -49,7 +49,7 @@ def test_a_refusal_is_raised_and_the_next_reply_is_read() -> None:
 def test_a_frame_that_is_broken_off(cut: Any) -> None:
     with peer(says(REPLY[:cut])) as port, joined(port) as user:
         with pytest.raises(ConnectionLost, match="`DUMP a` was not answered"):
-            user.ask_text("DUMP a")
+            user._ask_text("DUMP a")
 
 
 @pytest.mark.parametrize(
@@ -58,13 +58,13 @@ def test_a_frame_that_is_broken_off(cut: Any) -> None:
 def test_what_is_no_frame(reply: Any) -> None:
     with peer(says(reply)) as port, joined(port) as user:
         with pytest.raises(BadReply):
-            user.ask_text("DUMP a")
+            user._ask_text("DUMP a")
 
 
 def test_a_line_too_much_is_left_for_the_next_reply() -> None:
     with peer(says(REPLY + b"OK SHOW a\n")) as port, joined(port) as user:
-        assert user.ask_text("DUMP a")[1] == TEXT
-        with pytest.raises(BadReply, match="is no reply to `LIST`"):
+        assert user._ask_text("DUMP a")[1] == TEXT
+        with pytest.raises(BadReply, match="is not a reply to `LIST`"):
             user.ask("LIST")
 
 
@@ -82,7 +82,7 @@ def test_a_frame_that_nobody_came_for_is_passed_over() -> None:
 
     with peer(says(then=slowly)) as port, joined(port) as user:
         with interrupted_when(lambda: len(user._wire._partial) == 5000):
-            user.ask_text("DUMP a")
+            user._ask_text("DUMP a")
         caught.set()
         assert user.sessions() == []
         user._wire.close()

@@ -54,7 +54,7 @@ def test_both_frames_are_read_while_another_thread_asks(user: Any) -> None:
     a = user.session("a")
     start, measured = listed(a.places()), a.measure()
     states, places, _ = in_threads(
-        lambda: [user.state_of("a") for _ in range(ROUNDS)],
+        lambda: [user._state_of("a") for _ in range(ROUNDS)],
         lambda: [listed(a.places()) for _ in range(ROUNDS)],
         lambda: [a.place(0) for _ in range(10 * ROUNDS)],
     )
@@ -107,7 +107,7 @@ def test_what_takes_several_commands_is_whole(user: Any, monkeypatch: pytest.Mon
     if "resort" in ask.__code__.co_names:
         a.forget("there")
     seen = []
-    for name in ("ask_commands", "ask_text", "ask_rows"):
+    for name in ("_ask_commands", "_ask_text", "_ask_rows"):
         asked = getattr(user, name)
 
         def ask_and_see(words: Any, asked: Any = asked) -> Any:
@@ -154,7 +154,7 @@ def test_several_calls_are_whole_under_the_lock(user: Any) -> None:
                 a.advance(3)
                 a.reverse()
 
-    _, steps = in_threads(forth_and_back, lambda: [a.step for _ in range(ROUNDS)])
+    _, steps = in_threads(forth_and_back, lambda: [a.get_step() for _ in range(ROUNDS)])
     assert set(steps) == {0}
 
 

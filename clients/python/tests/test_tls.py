@@ -67,7 +67,7 @@ def test_another_name(server: Any, tmp_path: pathlib.Path) -> None:
     elsewhere = certificate(tmp_path, "elsewhere", "DNS:md.example.org,IP:192.0.2.1")
     with Relay(server.port, elsewhere) as relay:
         for host in ("127.0.0.1", "localhost"):
-            text = f"its certificate is of another name than {host}: say the name that its operator gives, or ask for a new one"
+            text = f"its certificate is of another name than {host}; use the name that its operator gives, or ask for a new certificate"
             assert why(relay, host, ca=elsewhere[0]) == text
         assert relay.heard == b""
 
@@ -75,7 +75,7 @@ def test_another_name(server: Any, tmp_path: pathlib.Path) -> None:
 def test_a_certificate_of_another_time(server: Any, tmp_path: pathlib.Path) -> None:
     old = expired(tmp_path)
     with Relay(server.port, old) as relay:
-        text = "its certificate is not valid now (certificate has expired): ask its operator for a new one, or set the clock"
+        text = "its certificate is not valid now (certificate has expired); ask its operator for a new one, or set the clock"
         assert why(relay, ca=old[0]) == text
         assert relay.heard == b""
 
@@ -107,11 +107,11 @@ def test_no_server(good: Any) -> None:
 
 def test_files_that_are_no_certificates(relay: Any, tmp_path: pathlib.Path) -> None:
     (tmp_path / "bad.pem").write_text("no certificate\n")
-    with pytest.raises(ClientError, match="bad.pem has no certificate: say a file in PEM with that of the server's issuer"):
+    with pytest.raises(ClientError, match="bad.pem: it has no certificate; use a file in PEM with that of the server's issuer"):
         joined(relay, ca=tmp_path / "bad.pem")
     with pytest.raises(ClientError, match="cannot read .*none.pem: No such file or directory"):
         joined(relay, ca=tmp_path / "none.pem")
-    with pytest.raises(ValueError, match="ca= is of a server's certificate: say tls=True too"):
+    with pytest.raises(ValueError, match="cannot use ca= without TLS: it is for a server's certificate; use tls=True too"):
         joined(relay, tls=False, ca=tmp_path / "bad.pem")
 
 
@@ -157,10 +157,10 @@ def test_a_prompt(relay: Any, good: Any) -> None:
     assert prompt(*where, "--tls", "--ca", good[0]) == (0, "OK LIST 0\n", "")
     status, told, fault = prompt(*where, "--tls")
     assert (status, told) == (1, "")
-    assert fault.startswith(f"ljclient: cannot connect to {where[0]}: the issuer of its certificate is not known here: ")
+    assert fault.startswith(f"ljclient: cannot connect to {where[0]}: the issuer of its certificate is not known here; ")
     assert fault.count("\n") == 1
-    assert prompt(*where, "--ca", good[0])[2].endswith("ljclient: --ca is for --tls\n")
-    assert prompt("--tls")[2].endswith("ljclient: --tls is for a server: say HOST:PORT NAME\n")
+    assert prompt(*where, "--ca", good[0])[2].endswith("ljclient: --ca must come with --tls\n")
+    assert prompt("--tls")[2].endswith("ljclient: --tls must come with HOST:PORT NAME\n")
 
 
 def test_a_record_that_is_verified(relay: Any, good: Any, tmp_path: pathlib.Path) -> None:
@@ -169,4 +169,4 @@ def test_a_record_that_is_verified(relay: Any, good: Any, tmp_path: pathlib.Path
     over = "--server", f"127.0.0.1:{relay.port}", "ann"
     assert verified(path, *over, "--tls", "--ca", good[0], LJSERVE_TOKEN=TOKEN)[0] == 0
     status, _, (fault,) = verified("--quiet", path, *over, "--tls", LJSERVE_TOKEN=TOKEN)
-    assert (status, "say ca=FILE" in fault) == (2, True)
+    assert (status, "use ca=FILE" in fault) == (2, True)

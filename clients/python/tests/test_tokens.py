@@ -70,7 +70,7 @@ def test_a_file_that_is_there_stays(tmp_path: pathlib.Path, there: Any) -> None:
     (tmp_path / there).write_text("precious")
     status, out, err = made(tmp_path, "2", "--out", "users", "--slips", "slips")
     assert (status, out) == (1, "")
-    assert err == f"users: {there} is there already: choose another name, or write it anew by --replace\n"
+    assert err == f"users: cannot write {there}: it exists already; use another name, or --replace\n"
     assert os.listdir(tmp_path) == [there] and (tmp_path / there).read_text() == "precious"
 
 
@@ -93,9 +93,9 @@ def test_what_cannot_be_written_leaves_nothing(tmp_path: pathlib.Path, words: An
 @pytest.mark.parametrize(
     "words, why",
     [
-        (["2", "--out", "x", "--slips", "./x"], "--out and --slips are one file"),
-        (["2", "--replace"], "--replace goes with --out or --slips"),
-        (["--check", "x", "--out", "y"], "--check FILE goes without --out"),
+        (["2", "--out", "x", "--slips", "./x"], "--out and --slips must be two files, got one"),
+        (["2", "--replace"], "--replace must come with --out or --slips"),
+        (["--check", "x", "--out", "y"], "--check must come without --out"),
     ],
 )
 def test_words_that_do_not_go_together(tmp_path: pathlib.Path, words: Any, why: Any) -> None:
@@ -109,7 +109,7 @@ def test_a_check_warns_of_a_file_that_is_open_to_others(tmp_path: pathlib.Path, 
     path = tmp_path / "my users"
     path.write_text(GOOD)
     path.chmod(mode)
-    warning = f"my users: its mode lets others {word} it, with all tokens; `chmod 600 'my users'` leaves it to its owner"
+    warning = f"my users: its mode lets others {word} it, with all tokens; use `chmod 600 'my users'` to leave it to its owner"
     assert made(tmp_path, "--check", "my users") == (0, f"1 user\n{warning}\n", "")
     subprocess.run(present(re.search("`(.*)`", warning))[1], shell=True, check=True, cwd=tmp_path)
     assert made(tmp_path, "--check", "my users") == (0, "1 user\n", "")
@@ -130,7 +130,7 @@ def test_printing_into_a_file_that_others_can_read_is_told(tmp_path: pathlib.Pat
             status, _, err = users(tmp_path, "2", stdout=file, stderr=subprocess.PIPE)
     finally:
         os.umask(before)
-    wanted = "users: the mode of the file that these tokens were printed into lets others read it; write it by --out FILE\n"
+    wanted = "users: the mode of the file that these tokens were printed into lets others read it; use --out FILE\n"
     assert (status, err) == (0, wanted if warns else "")
     assert len(tokens_in(tmp_path / "users")) == 2
 
@@ -144,7 +144,7 @@ def test_what_is_printed_into_a_pipe_needs_no_warning(tmp_path: pathlib.Path) ->
 def test_no_script_takes_a_token_on_the_command_line(name: Any) -> None:
     status, told = example([name, "--server", "127.0.0.1:1", "--user", "ann", "--token", TOKEN])
     assert status == 2 and TOKEN not in told
-    assert "a token is never said on the command line, where others see it: use --token-file FILE or LJSERVE_TOKEN" in told
+    assert "a token must not be on the command line, where others can see it; use --token-file FILE or LJSERVE_TOKEN" in told
 
 
 def test_the_session_takes_no_token_on_the_command_line() -> None:
@@ -157,12 +157,15 @@ def test_the_session_takes_no_token_on_the_command_line() -> None:
 @pytest.mark.parametrize("words", [SESSION, SCRIPT], ids=["session", "script"])
 def test_a_token_that_is_not_there_is_told(tmp_path: pathlib.Path, words: Any) -> None:
     name = words[0]
-    assert example(words) == (1, f"{name}: there is no token: say --token-file FILE, or set LJSERVE_TOKEN\n")
+    assert example(words) == (1, f"{name}: cannot connect: there is no token; use --token-file FILE, or set LJSERVE_TOKEN\n")
     missing, other = str(tmp_path / "none"), tmp_path / "users"
     other.write_text(GOOD.replace("ann", "ben"))
     assert example([*words, "--token-file", missing]) == (1, f"{name}: cannot read {missing}: No such file or directory\n")
-    assert example([*words, "--token-file", str(other)]) == (1, f"{name}: {other} has no token of ann\n")
-    short = f"{name}: LJSERVE_TOKEN: a token has 32 letters and digits, and not 8\n"
+    assert example([*words, "--token-file", str(other)]) == (
+        1,
+        f"{name}: cannot find a token of ann in {other}; use a file with the token alone, or a file of users\n",
+    )
+    short = f"{name}: LJSERVE_TOKEN: a token must be 32 letters and digits, got 8\n"
     assert example(words, LJSERVE_TOKEN="two words") == (1, short)
 
 

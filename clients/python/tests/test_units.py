@@ -5,7 +5,7 @@ import unittest
 from fractions import Fraction
 from typing import Any, Dict, List
 
-from ljclient import Measurement, Scale, units
+from ljclient import Measurement, Scale, scalars, units
 from support import present
 
 
@@ -52,9 +52,9 @@ class StepFactors(unittest.TestCase):
             with self.assertRaisesRegex(ValueError, "fs for these atoms"):
                 units.step_factor(dt, 3.4, 0.0103, 39.948)
         for dt in (0, -1, math.inf, math.nan):
-            with self.assertRaisesRegex(ValueError, "dt is a number above 0"):
+            with self.assertRaisesRegex(ValueError, "dt must be a finite number above 0"):
                 units.step_factor(dt, 3.4, 0.0103, 39.948)
-        with self.assertRaisesRegex(ValueError, "mass is a number above 0"):
+        with self.assertRaisesRegex(ValueError, "mass must be a finite number above 0"):
             units.step_factor(1, 3.4, 0.0103, 0)
 
     def test_what_must_be_said(self) -> None:
@@ -81,12 +81,12 @@ class StepFactors(unittest.TestCase):
 class Words(unittest.TestCase):
     def test_numbers_as_words(self) -> None:
         numbers: List[Any] = [256, 1.5, "1e2", 21.04]
-        self.assertEqual([units.word(number) for number in numbers], ["256", "1.5", "1e2", "21.04"])
-        self.assertEqual(units.word(decimal.Decimal("0.10")), "0.10")
-        self.assertEqual(float(units.word(0.1 + 0.2)), 0.1 + 0.2)
+        self.assertEqual([scalars.word(number) for number in numbers], ["256", "1.5", "1e2", "21.04"])
+        self.assertEqual(scalars.word(decimal.Decimal("0.10")), "0.10")
+        self.assertEqual(float(scalars.word(0.1 + 0.2)), 0.1 + 0.2)
         for text in ("", "1 2", "1\n", " 1"):
             with self.assertRaises(ValueError):
-                units.word(text)
+                scalars.word(text)
 
     def test_numbers_as_the_server_reads_them(self) -> None:
         for text, nano in [
@@ -98,7 +98,7 @@ class Words(unittest.TestCase):
             ("1e6", 10**15),
             ("1000000.0000000004", 10**15),
         ]:
-            self.assertEqual(units.nano(text), nano, text)
+            self.assertEqual(scalars.nano(text), nano, text)
 
     def test_sigma_on_the_ring(self) -> None:
         self.assertEqual(Scale.of(256, 1, 1).sigma_on_ring, 1 << 24)
@@ -130,11 +130,11 @@ class Energies(unittest.TestCase):
         self.assertEqual(seen.in_electronvolt(1), 0.0103)
 
     def test_what_is_not_known(self) -> None:
-        with self.assertRaisesRegex(ValueError, "epsilon is not known"):
+        with self.assertRaisesRegex(ValueError, "epsilon must be known, got None"):
             self.measured(Scale.of(256, 1, 131072)).in_electronvolt(1)
         unknown = self.measured(None)
         self.assertEqual(unknown.potential_energy, -5399727 / 16777216)
-        with self.assertRaisesRegex(ValueError, "scale is not known"):
+        with self.assertRaisesRegex(ValueError, "scale of the session must be known"):
             unknown.kinetic_energy
 
 

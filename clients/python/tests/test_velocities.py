@@ -28,9 +28,9 @@ def along_x(rows: Any) -> List[Any]:
 def seen(session: Any) -> Tuple[Any, Any]:
     """All that can be seen of a session, which is as it was afterwards."""
     measured, places = session.measure(), listed(session.places())
-    now = session.step, measured, places, session.dump(), session.saved(), session.order
+    now = session.get_step(), measured, places, session.dump(), session.saved(), session.order
     session.reverse()
-    before = session.step, listed(session.places())
+    before = session.get_step(), listed(session.places())
     session.reverse()
     return now, before
 
@@ -116,29 +116,32 @@ def test_what_was_started_is_waited_for(user: Any) -> None:
     a = dimer(user)
     a.start(2)
     assert along_x(a.velocities())[0] == pytest.approx((3555 - 589) * UNIT / (2 * DT))
-    assert a.step == 2
+    assert a.get_step() == 2
 
 
 def test_an_interrupt_leaves_it_as_it_was(user: Any) -> None:
     a = dimer(user)
     a.advance(1)
-    ask_rows = user.ask_rows
+    ask_rows = user._ask_rows
 
     def interrupted(lines: Any) -> Any:
         signal.raise_signal(signal.SIGINT)
         return ask_rows(lines)
 
-    with mock.patch.object(user, "ask_rows", interrupted), interruptible(), pytest.raises(KeyboardInterrupt):
+    with mock.patch.object(user, "_ask_rows", interrupted), interruptible(), pytest.raises(KeyboardInterrupt):
         a.velocities()
-    assert (a.step, listed(a.places())) == (1, [(589, 0, 0), (25165235, 0, 0)])
+    assert (a.get_step(), listed(a.places())) == (1, [(589, 0, 0), (25165235, 0, 0)])
     assert a.advance(1) == 2 and listed(a.places())[0] == (1774, 0, 0)
+
+
+AT_THE_LAST = b"OK ADVANCE a 1000000000000\n"
 
 
 def test_at_the_last_step_it_is_refused_and_stays() -> None:
     lines = []
 
     def talk(connection: Any, stop: Any) -> None:
-        for reply in (b"OK HELLO ann\n", b"OK LIST 0\n", b"OK LIST a 0\n", b"OK ADVANCE a 1000000000000\n", b"ERR 23 STEP_RANGE\n"):
+        for reply in (b"OK HELLO ann\n", b"OK LIST 0\n", b"OK LIST a 0\n", b"OK LIST 1\na 0 2 0\n", AT_THE_LAST, b"ERR 23 STEP_RANGE\n"):
             lines.append(read_line(connection))
             connection.sendall(reply)
         stop.wait(SECONDS)
@@ -148,11 +151,11 @@ def test_at_the_last_step_it_is_refused_and_stays() -> None:
         with pytest.raises(refusals.StepRange):
             user.session("a").velocities()
         user._wire.close()
-    assert lines[2:] == [b"LIST a\n", b"ADVANCE a 0\n", b"ADVANCE a 1\n"]
+    assert lines[2:] == [b"LIST a\n", b"LIST\n", b"ADVANCE a 0\n", b"ADVANCE a 1\n"]
 
 
 def test_without_a_scale_they_are_a_value_error(user: Any) -> None:
     dimer(user)
     user._known.clear()
-    with pytest.raises(ValueError, match="the scale is not known"):
+    with pytest.raises(ValueError, match="the scale of the session must be known"):
         user.session("a").velocities()

@@ -14,7 +14,7 @@ import pytest
 
 from ljclient import Damaged, Refused, record_playing, run, verify
 from ljclient.record_file import RecordFile, sum_of_continued
-from record_texts import COMMANDS, DIMER_TEXT, sums, twisted, verified, with_checks
+from record_texts import CLIENT, COMMANDS, DIMER_TEXT, sums, twisted, verified, with_checks
 from support import DIMER, PROGRAM, TOKEN, TOP, Server, dimer, joined
 from terminals import environment
 
@@ -35,17 +35,17 @@ BODY = f"loaded - line 4: {COMMANDS[0]}, with a body of SHA-256 {hashlib.sha256(
 QUOTA = "quota sessions 1 atoms 2 branches 1"  # the one that stands above the first BRANCH
 
 # What is told of lines that do not belong where they stand.
-NO_COMMAND = "this is no command of a session a"
-NO_LOAD = "here a session should begin with a LOAD or LOADMIX that was granted"
-NO_LOAD_MOVED = "`moved` is followed by a LOAD or LOADMIX that was granted"
-NO_PLACE = "a line of this kind stands above all others, once and in its order, if the format has it"
-NO_KIND = "there is no line of this kind"
-NO_ROOM = "the quota above has no room for this"
-NOT_LARGER = "a quota is larger than the one above it, and smaller in nothing"
-GONE = "the session is gone above, and was not loaded again"
-OUTSIDE = "this refusal should stand behind `!`"
-NO_QUOTA = "a quota is of sessions, atoms and branches, at most 64, 65536 and 256"
-NO_REPLY = "here a reply should stand"
+NO_COMMAND = "the line must be a command of session a"
+NO_LOAD = "a session must begin here, with a LOAD or LOADMIX that was granted"
+NO_LOAD_MOVED = "`moved` must be followed by a LOAD or LOADMIX that was granted"
+NO_PLACE = "a line of this kind must stand above all others, once and in its order, if the format has it"
+NO_KIND = "a line must be of one of the kinds of a record"
+NO_ROOM = "the quota above must have room for this"
+NOT_LARGER = "a quota must be larger than the one above it, and smaller in nothing"
+GONE = "the session must be loaded again: it is gone above"
+OUTSIDE = "this refusal must stand behind `!`"
+NO_QUOTA = "a quota must be sessions, atoms and branches, at most 64, 65536 and 256"
+NO_REPLY = "a reply must stand here"
 
 
 @pytest.fixture
@@ -64,7 +64,7 @@ def edited(path: Any, text: Any) -> Any:
 def test_a_line_for_each_command(path: Any) -> None:
     status, (heading, *told, verdict), faults = verified(path)
     assert (status, faults) == (0, [])
-    said = "recorded by ljclient 1.1.0 over a program that tells no version, with a quota of sessions 1 atoms 2 branches 1"
+    said = f"recorded by {CLIENT[7:]} over a program that tells no version, with a quota of sessions 1 atoms 2 branches 1"
     assert heading.startswith(f"the file says: {said}; played over ")
     wanted = [f"same {sums(DIMER_TEXT)[end - 1]} line {begin}: {line}" for end, begin, line in zip(ENDS, BEGINS, COMMANDS)]
     assert told == [wanted[0], BODY, *wanted[1:]]
@@ -112,7 +112,7 @@ def test_sessions_at_random_over_another_implementation(tmp_path: pathlib.Path, 
 def test_the_program_of_another_version(path: Any, tmp_path: pathlib.Path) -> None:
     edited(path, DIMER_TEXT.replace("quota", "program ljserve 1.0.0\nprogram of another kit\nquota", 1))
     status, (heading, *_), _ = verified(path, "--program", twisted(tmp_path, "none", "none"))
-    said = "recorded by ljclient 1.1.0 over ljserve 1.0.0, with a quota of sessions 1 atoms 2 branches 1"
+    said = f"recorded by {CLIENT[7:]} over ljserve 1.0.0, with a quota of sessions 1 atoms 2 branches 1"
     assert (status, heading) == (0, f"the file says: {said}; played over ljserve 9.9.9")
 
 
@@ -227,7 +227,7 @@ def test_a_file_that_is_cut_short_is_played_up_to_there(path: Any) -> None:
     assert verified("--partial", path) == (0, told, [fault])
     for options in ((), ("--partial",)):
         path.write_bytes(data[:40])
-        assert verified(path, *options) == (2, [], [f"ljclient: {path}: the record has no command that was replied to"])
+        assert verified(path, *options) == (2, [], [f"ljclient: cannot play {path}: it has no command with a reply"])
 
 
 def test_a_reply_that_differs_in_a_file_that_is_cut_short(path: Any) -> None:
@@ -240,7 +240,7 @@ def test_the_sum_that_a_paper_prints(path: Any) -> None:
     said = f"{path}: all {len(COMMANDS)} replies are the same; {PLAIN}; {RUN}; SHA-256 {WHOLE}"
     for word in (WHOLE, WHOLE.upper()):
         assert verified("--quiet", path, "--sha256", word) == (0, [BODY, said], [])
-    why = f"ljclient: {path} has the SHA-256 {WHOLE}, so it is another record than the one that is wanted"
+    why = f"ljclient: {path} must have the SHA-256 {'0' * 64}, got {WHOLE}: it is another record"
     assert verified(path, "--sha256", "0" * 64, "--program", "/nowhere") == (2, [], [why])
 
 
@@ -258,10 +258,10 @@ def test_a_record_of_the_first_format(path: Any) -> None:
 @pytest.mark.parametrize(
     ("head", "why"),
     [
-        ("ljserve record 3\n", "it says `ljserve record 3`, and this client reads `ljserve record 2` and older: take a newer client"),
-        ("ljserve checkpoint 1\n", "a record begins with `ljserve record 2`"),
-        ("", "a record begins with `ljserve record 2`"),
-        ("ljserve rec", "a record begins with `ljserve record 2`"),
+        ("ljserve record 3\n", "a record must begin with `ljserve record 2` or an older head, got `ljserve record 3`; use a newer client"),
+        ("ljserve checkpoint 1\n", "a record must begin with `ljserve record 2`"),
+        ("", "a record must begin with `ljserve record 2`"),
+        ("ljserve rec", "a record must begin with `ljserve record 2`"),
     ],
 )
 def test_files_that_are_no_records(path: Any, head: Any, why: Any) -> None:
@@ -276,21 +276,21 @@ def test_files_that_are_no_records(path: Any, head: Any, why: Any) -> None:
         ("> LIST a", "> DROP b", 24, NO_COMMAND),
         ("> LIST a", "> BYE", 24, NO_COMMAND),
         ("> LIST a", "? HELLO a", 24, NO_COMMAND),
-        ("> LOAD a 256", "> LOAD a/b 256", 4, "this is no command of a session"),
+        ("> LOAD a 256", "> LOAD a/b 256", 4, "the line must be a command of a session"),
         ("> LOAD a 256", "> MEASURE a 256", 5, NO_REPLY),
-        ("rest 28", "rest 30", 9, "the body has 30 bytes, and only 28 stand here"),
-        ("rest 28", "rest 26", 8, "the body has 26 bytes, and 28 stand here"),
+        ("rest 28", "rest 30", 9, "the body must have 30 bytes, got 28"),
+        ("rest 28", "rest 26", 8, "the body must have 26 bytes, got 28"),
         ("rest 28", "rest 17", 8, NO_REPLY),
         ("rest 28", "rest x", 5, NO_REPLY),
         ("< OK SHOW a 1 0 589 0 0", "quota sessions 1 atoms 2 branches 0", 13, NO_REPLY),
         (QUOTA, "quota sessions 1 atoms 2 branches 257", 14, NO_QUOTA),
         (QUOTA, "quota 1 2 1", 14, NO_QUOTA),
-        (QUOTA, "< OK SHOW a 1 0 589 0 0", 14, "the line stands below no command"),
-        (QUOTA, f"{QUOTA}\nquota sessions 1 atoms 2 branches 2", 15, "a quota stands right above a command"),
-        ("end\n", "quota sessions 1 atoms 2 branches 2\nend\n", 28, "a quota stands right above a command"),
+        (QUOTA, "< OK SHOW a 1 0 589 0 0", 14, "the line must stand below a command"),
+        (QUOTA, f"{QUOTA}\nquota sessions 1 atoms 2 branches 2", 15, "a quota must stand right above a command"),
+        ("end\n", "quota sessions 1 atoms 2 branches 2\nend\n", 28, "a quota must stand right above a command"),
         (QUOTA, "branches 1", 14, NO_KIND),
         (QUOTA, "checkpoint 1", 14, NO_KIND),
-        (QUOTA, "end", 15, "the record goes on below its end"),
+        (QUOTA, "end", 15, "a record must not go on below its end"),
         (QUOTA, "moved", 15, NO_LOAD_MOVED),
         (QUOTA, "moved ", 14, NO_KIND),
         (QUOTA, "connection 2", 14, NO_KIND),
@@ -300,8 +300,8 @@ def test_files_that_are_no_records(path: Any, head: Any, why: Any) -> None:
         (f"{QUOTA}\n", "", 14, NO_ROOM),
         ("quota sessions 1 atoms 2 branches 0", "quota sessions 1 atoms 1 branches 0", 4, NO_ROOM),
         (LOADED, "", 4, NO_LOAD),
-        ("client ljclient 1.1.0\n", "client x\nclient y\n", 3, NO_PLACE),
-        ("client ljclient 1.1.0\n", "program x\nclient y\n", 3, NO_PLACE),
+        (f"{CLIENT}\n", "client x\nclient y\n", 3, NO_PLACE),
+        (f"{CLIENT}\n", "program x\nclient y\n", 3, NO_PLACE),
         (QUOTA, "client x", 14, NO_PLACE),
         (": dimer", ":", 6, NO_KIND),
         ("end\n", "end \n", 27, NO_KIND),
@@ -310,7 +310,7 @@ def test_files_that_are_no_records(path: Any, head: Any, why: Any) -> None:
         ("< ERR 12 NO_BRANCH", "< ERR 10 NO_SESSION", 23, OUTSIDE),
         ("< ERR 12 NO_BRANCH", "< ERR 22 QUOTA_BRANCHES", 23, OUTSIDE),
         ("> RESTORE a z", "> RESTORE a " + 65600 * "z", 22, NO_COMMAND),
-        ("< OK DUMP a 2 4\n+", "< OK DUMP a 2 4\n>", 21, "here the sum of the lines of a reply should stand"),
+        ("< OK DUMP a 2 4\n+", "< OK DUMP a 2 4\n>", 21, "the sum of the lines of a reply must stand here"),
     ],
 )
 def test_records_that_another_writer_has_made_badly(path: Any, wanted: Any, other: Any, line: Any, why: Any) -> None:
@@ -323,7 +323,7 @@ def test_records_that_another_writer_has_made_badly(path: Any, wanted: Any, othe
 
 
 def test_what_a_terminal_would_obey_is_escaped(path: Any) -> None:
-    edited(path, DIMER_TEXT.replace("client ljclient 1.1.0", "client \x1b[2J").replace("> RESTORE a z", "> RESTORE a z \x1b]0;\r"))
+    edited(path, DIMER_TEXT.replace(CLIENT, "client \x1b[2J").replace("> RESTORE a z", "> RESTORE a z \x1b]0;\r"))
     status, told, faults = verified(path)
     assert status == 1
     assert told[0].startswith("the file says: recorded by \\x1b[2J over ")
@@ -348,7 +348,7 @@ def test_names_of_files_that_a_terminal_would_obey(path: Any, name: str, shown: 
     assert (status, faults, len(told)) == (0, [], 2)
     assert told[-1].startswith(f"{where}: all {len(COMMANDS)} replies are the same; ")
     other.write_text(with_checks(DIMER_TEXT) + "x")
-    assert verified(other) == (2, [], [f"ljclient: {where}, line {len(LINES) + 1}: the record goes on below its end"])
+    assert verified(other) == (2, [], [f"ljclient: {where}, line {len(LINES) + 1}: a record must not go on below its end"])
     other.write_text(with_checks(DIMER_TEXT.removesuffix("end\n")))
     assert verified("--quiet", other)[2][0].startswith(f"ljclient: {where} has no `end`")
     assert verified(f"{other}.none") == (2, [], [f"ljclient: cannot read {where}.none: No such file or directory"])
@@ -365,14 +365,14 @@ def test_files_that_cannot_be_read_twice(path: Any, options: Any) -> None:
     """A FIFO is not waited for, and neither does a record continue one."""
     fifo = path.with_name("fifo")
     os.mkfifo(fifo)
-    why = "and a record is read twice: save it to a file first"
-    assert verified(fifo, *options) == (2, [], [f"ljclient: {fifo} is a FIFO, {why}"])
-    assert verified("/dev/null", *options) == (2, [], [f"ljclient: /dev/null is a device, {why}"])
-    with pytest.raises(ValueError, match=why):
+    why = "a record must be a regular file, since it is read twice, got {}; save it to a file first"
+    assert verified(fifo, *options) == (2, [], [f"ljclient: {why.format(f'{fifo}, a FIFO')}"])
+    assert verified("/dev/null", *options) == (2, [], [f"ljclient: {why.format('/dev/null, a device')}"])
+    with pytest.raises(ValueError, match="a record must be a regular file"):
         sum_of_continued(fifo, path)
     command = [sys.executable, "-m", "ljclient", "verify", "/dev/stdin", *options]
     done = subprocess.run(command, input=path.read_bytes(), capture_output=True, env=environment(), timeout=60)
-    assert (done.returncode, done.stdout, done.stderr) == (2, b"", f"ljclient: /dev/stdin is a FIFO, {why}\n".encode())
+    assert (done.returncode, done.stdout, done.stderr) == (2, b"", f"ljclient: {why.format('/dev/stdin, a FIFO')}\n".encode())
     with open(path, "rb") as file:
         assert subprocess.run(command, stdin=file, capture_output=True, env=environment(), timeout=60).returncode == 0
 
@@ -382,12 +382,12 @@ def test_a_full_disk(path: Any) -> None:
         done = subprocess.run(
             [sys.executable, "-m", "ljclient", "verify", path], stdout=full, stderr=subprocess.PIPE, env=environment(), timeout=60
         )
-    assert (done.returncode, done.stderr) == (2, b"ljclient: cannot write what is told: No space left on device\n")
+    assert (done.returncode, done.stderr) == (2, b"ljclient: cannot write the output: No space left on device\n")
 
 
 def test_a_copy_with_other_line_ends(path: Any) -> None:
     path.write_bytes(path.read_bytes().replace(b"\n", b"\r\n"))
-    why = "its line ends were changed: each line of a record ends with LF alone, and here with CR LF"
+    why = "each line of a record must end with LF alone, got CR LF: its line ends were changed"
     assert verified(path) == (2, [], [f"ljclient: {path}, line 1: {why}"])
 
 
@@ -402,13 +402,13 @@ def test_a_number_of_a_refusal_that_is_none(path: Any, digits: int) -> None:
     ("words", "told"),
     [
         ([], "the following arguments are required: FILE"),
-        (["a", "b"], "there is no option b"),
-        (["a", "--no"], "there is no option --no"),
-        (["a", "--server", "here", "ann"], "--server HOST:PORT NAME: the first word is no HOST:PORT"),
+        (["a", "b"], "there is a word too many; use quotes around the name of a file with blanks"),
+        (["a", "--no"], "there is no option --no; use --help to list the options"),
+        (["a", "--server", "here", "ann"], "the first word of --server must be HOST:PORT, such as 127.0.0.1:4000"),
         (["a", "--server", "127.0.0.1:4000", "ann", "--program", "x"], "not allowed with argument --server"),
-        (["a", "--program", ""], "--program PROGRAM is empty"),
-        (["a", "--timeout", "0"], "SECONDS is a number above 0"),
-        (["a", "--sha256", "0123"], "--sha256 HEX is 64 hexadecimal digits"),
+        (["a", "--program", ""], "--program must be the path of a program, got an empty one"),
+        (["a", "--timeout", "0"], "--timeout must be a finite number of seconds above 0, got 0"),
+        (["a", "--sha256", "0123"], "--sha256 must be 64 hexadecimal digits, got '0123'"),
     ],
 )
 def test_words_of_the_command_line(words: Any, told: Any) -> None:
@@ -436,7 +436,7 @@ def test_a_line_that_is_too_long(path: Any) -> None:
     number = LINES.index(": dimer") + 1
     for put_in in ("x" * 2**21, ": " + "x" * 2**21):
         edited(path, whole.replace(": xx", f"{put_in}\n: xx", 1))
-        why = f"line {number}: the line has more than 1,048,588 bytes"
+        why = f"line {number}: a line must have at most 1,048,588 bytes"
         assert verified(path, "--program", "/nowhere") == (2, [], [f"ljclient: {path}, {why}"])
 
 
@@ -451,7 +451,7 @@ def test_more_commands_than_a_program_takes(path: Any) -> None:
     options = verify.options_of([str(path)])
     limit = len(COMMANDS) + record_playing.SPARE_ITEMS - 1
     with mock.patch.object(verify, "MAX_ITEMS", limit):
-        text = f"{path} has {len(COMMANDS)} commands, and a program takes {limit}: say --server HOST:PORT NAME"
+        text = f"cannot play {path}: it has {len(COMMANDS)} commands, and a program takes {limit}; use --server HOST:PORT NAME"
         with pytest.raises(record_playing.Trouble, match=re.escape(text)):
             verify.checked(options)
         edited(path, DIMER_TEXT.replace("> ADVANCE a 1\n< OK ADVANCE a 2\n", MOVED, 1))
@@ -475,7 +475,7 @@ def test_a_user_of_a_server(path: Any) -> None:
         with joined(server.port) as user:
             assert [(row.name, row.step) for row in user.sessions()] == [("b", 3)]
             dimer(user, "a").advance(5)
-        why = f"ann has a session a at 127.0.0.1:{server.port} already: drop it, or verify as another user"
+        why = f"cannot play {path}: ann has a session a at 127.0.0.1:{server.port} already; drop it, or use another user"
         assert verified("--quiet", path, *over(server), LJSERVE_TOKEN=TOKEN) == (2, [], [f"ljclient: {why}"])
         with joined(server.port) as user:
             assert [(row.name, row.step) for row in user.sessions()] == [("b", 3), ("a", 5)]
@@ -501,7 +501,7 @@ def test_a_server_that_does_not_know_the_user(path: Any, tmp_path: pathlib.Path)
         status, told, (fault,) = verified("--quiet", path, *over(server, "bob"), LJSERVE_TOKEN=TOKEN)
         assert (status, told) == (2, [])
         assert fault.startswith("ljclient: ERR 01 DENIED: the server knows no user of that name and token")
-        why = "there is no token: say --token-file FILE, or set LJSERVE_TOKEN"
+        why = "cannot connect: there is no token; use --token-file FILE, or set LJSERVE_TOKEN"
         assert verified("--quiet", path, *over(server)) == (2, [], [f"ljclient: {why}"])
         (tmp_path / "token").write_text(f"{TOKEN}\n")
         assert verified("--quiet", path, *over(server), "--token-file", tmp_path / "token")[0] == 0

@@ -217,7 +217,7 @@ class Told(unittest.TestCase):
 
     def test_save_and_restore(self) -> None:
         page = self.page()
-        self.assertEqual(page.ask("restore"), {"error": "nothing is saved yet"})
+        self.assertEqual(page.ask("restore"), {"error": "cannot restore: nothing is saved yet; use Save first"})
         for steps in (40, 20):
             saved = page.ask("frame", steps=steps)
             self.assertEqual(page.ask("save")["saved"], saved["step"])

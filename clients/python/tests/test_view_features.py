@@ -66,7 +66,7 @@ def test_the_crystal_is_begun_anew_from_the_page(page: Any) -> None:
     page.wait_for("document.getElementById('step').textContent === '1'")
     assert page.text("temperature") == "0.70 ε/k"
     fill(page, "settings", dt=5)
-    page.wait_for("document.getElementById('message').textContent.startsWith('a step is from ')")
+    page.wait_for("document.getElementById('message').textContent.startsWith('dt must be from ')")
     assert page.text("step") == "1"
     picture(page, "begun_anew")
 

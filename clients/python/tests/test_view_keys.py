@@ -134,7 +134,7 @@ def test_a_question_mark_shows_the_keys(keyboard: Any, closes: Any) -> None:
     keyboard.press(QUESTION)
     assert keyboard.browser.value(LIST_IS_OPEN)
     names = keyboard.browser.value("[...document.querySelectorAll('#keys dt')].map(each => each.textContent)")
-    assert names == ["Space", ".", "R", "E", "S", "B", "D", "Home", "Enter", "Escape", "?"]
+    assert names == ["Space", ".", "R", "E", "S", "B", "D", "Home", "Enter", "Escape", "Arrows", "?"]
     keyboard.press(closes)
     keyboard.browser.wait_for(f"!{LIST_IS_OPEN}")
     assert keyboard.pressed() == []

@@ -95,7 +95,7 @@ def test_a_browser_is_handed_the_link_by_a_file_that_one_account_can_read(opened
 def test_the_file_is_removed_when_the_page_has_come(opened: Any) -> None:
     (opened.folder / "go").touch()
     wait_until((opened.folder / "page").exists)
-    assert b"Atoms, there and back" in (opened.folder / "page").read_bytes()
+    assert b'<canvas id="box"' in (opened.folder / "page").read_bytes()
     assert list(opened.files.iterdir()) == []
     assert opened.child.poll() is None
 

@@ -34,7 +34,7 @@ def test_whoever_has_the_link_is_answered(view: Any) -> None:
     """By whatever name, since a class reaches the machine by more than one."""
     for host in (f"127.0.0.1:{view.port}", "class.example", "[2001:db8::1]:80"):
         status, headers, body = view.get(view.path, Host=host)
-        assert (status, b"Atoms, there and back" in body) == (200, True)
+        assert (status, b'<canvas id="box"' in body) == (200, True)
         assert headers["Content-Security-Policy"].endswith(f"connect-src ws://{host} wss://{host}")
         assert headers["Referrer-Policy"] == "no-referrer"
         for scheme in ("http", "https"):
@@ -56,7 +56,7 @@ def test_one_address_has_some_of_the_pages(words: Any, most: int) -> None:
     """One more is told why it is not answered, and another address has its own. When a page is closed there is room again."""
     with View("--listen", "127.0.0.1:0", *words) as view, contextlib.ExitStack() as opened:
         first, *_ = [opened.enter_context(view.page()) for _ in range(most)]
-        why = f"{most} pages are open already from your address, 127.0.0.1, and no more may be. Close one, and load this page anew."
+        why = f"{most} pages are open already from your address, 127.0.0.1, and no more may be. Close one, and load this page again."
         with view.page() as refused:
             assert (refused.first, refused.channel.receive()) == ({"error": why}, None)
         with Stream(view, "127.0.0.2") as other:
@@ -103,12 +103,12 @@ def test_it_stays_when_a_page_is_closed_and_ends_by_an_interrupt(view: Any) -> N
 @pytest.mark.parametrize(
     "words, told",
     [
-        (["--listen", "8000"], "--listen is an ADDRESS:PORT"),
-        (["--listen", "0.0.0.0:8000", "--port", "1"], "leave --port out"),
-        (["--address", "class.example"], "--address is for --listen"),
-        (["--pages-of-an-address", "8"], "--pages-of-an-address is for --listen"),
-        (["--listen", "0.0.0.0:8000", "--pages-of-an-address", "0"], "--pages-of-an-address is from 1 to 40"),
-        (["--listen", "0.0.0.0:8000", "--pages-of-an-address", "41"], "--pages-of-an-address is from 1 to 40"),
+        (["--listen", "8000"], "--listen must be ADDRESS:PORT"),
+        (["--listen", "0.0.0.0:8000", "--port", "1"], "--port cannot be used with --listen"),
+        (["--address", "class.example"], "--address must come with --listen"),
+        (["--pages-of-an-address", "8"], "--pages-of-an-address must come with --listen"),
+        (["--listen", "0.0.0.0:8000", "--pages-of-an-address", "0"], "--pages-of-an-address must be from 1 to 40, got 0"),
+        (["--listen", "0.0.0.0:8000", "--pages-of-an-address", "41"], "--pages-of-an-address must be from 1 to 40, got 41"),
     ],
 )
 def test_words_that_do_not_fit(words: Any, told: Any) -> None:

@@ -17,8 +17,8 @@ SCALE = ["--edge", 20, "--sigma", 1, "--h", 131072]
 # Two atoms that move, and in the second file one more in the middle, which feels neither of them and stays.
 FILES = {"two.xyz": "2\n\nAr 0 0 0\nAr 1.5 0 0\n", "three.xyz": "3\n\nAr 0 0 0\nAr 1.5 0 0\nAr 10 10 0\n"}
 TWO, THREE = 0, 1
-# What asks the server for nothing stays: the list of keys, and what is drawn as a picture and as numbers.
-STAYING = ["", "picture", "csv"]
+# What asks the server for nothing stays: the language, the list of keys, and what is copied and saved.
+STAYING = ["language", "shows-keys", "link", "picture", "csv"]
 ENABLED = "[...document.querySelectorAll('button, select')].filter(each => !each.disabled).map(each => each.id)"
 
 
@@ -287,7 +287,7 @@ def test_another_file_begins_paused(shown: Any) -> None:
 
 def test_an_error_goes_when_something_is_done(shown: Any) -> None:
     shown.browser.value("(restore => { restore.disabled = false; restore.click(); })(document.getElementById('restore'))")
-    shown.says("nothing is saved yet")
+    shown.says("cannot restore: nothing is saved yet; use Save first")
     assert shown.kind == ["bad"]
     shown.picture("error")
     shown.go(1)
@@ -322,7 +322,7 @@ def test_an_end_of_the_program_is_said_for_good(shown: Any) -> None:
     shown.click("play")
     shown.waits_for("step", ">=", 8)
     os.kill(program, signal.SIGKILL)
-    message = shown.says("The program has ended. Load this page anew to begin again (")
+    message = shown.says("The program has ended. Load this page again (")
     assert "has ended with status -9" in message
     assert (shown.browser.value(ENABLED), shown.browser.text("play"), shown.kind) == (STAYING, "Play", ["bad"])
     shown.picture("program_ended")
@@ -337,7 +337,7 @@ def test_a_page_that_is_not_let_in_says_why(browser: Any) -> None:
     with View("--listen", "127.0.0.1:0", "--pages-of-an-address", "1") as view, view.page():
         browser.open(view.link)
         browser.wait_for("document.getElementById('play')?.disabled")
-        why = "1 page is open already from your address, 127.0.0.1, and no more may be. Close one, and load this page anew."
+        why = "1 page is open already from your address, 127.0.0.1, and no more may be. Close one, and load this page again."
         assert (browser.text("message"), browser.value(ENABLED)) == (why, STAYING)
         if PICTURES:
             (pathlib.Path(PICTURES) / "not_let_in.png").write_bytes(browser.picture())

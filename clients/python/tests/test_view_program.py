@@ -59,7 +59,7 @@ class Ends(unittest.TestCase):
         shown = self.view()
         opened = [shown.page() for _ in range(pages.MAX_PAGES)]
         with shown.page() as refused:
-            why = "8 pages are open already, and no more may be. Close one, and load this page anew."
+            why = "8 pages are open already, and no more may be. Close one, and load this page again."
             self.assertEqual((refused.first, refused.channel.receive()), ({"error": why}, None))
         self.assertEqual(opened[0].ask("frame", steps=1)["step"], 1)
         for page in opened:
@@ -89,7 +89,7 @@ class Ends(unittest.TestCase):
             subprocess.run(["kill", "-9", str(program)], check=True)
             for _ in range(2):
                 told = page.ask("frame", steps=1)
-                self.assertRegex(told["error"], r"^The program has ended\. Load this page anew to begin again \(.* status -9.*\)\.$")
+                self.assertRegex(told["error"], r"^The program has ended\. Load this page again \(.* status -9.*\)\.$")
                 self.assertTrue(told["ended"])
 
 
@@ -104,7 +104,7 @@ class Options(unittest.TestCase):
 
     def test_no_edge(self) -> None:
         told = self.refused(file_of(self, "1\nof no box\nAr 0 0 0\n", "plain.xyz"))
-        self.assertRegex(told, r"^view: .*plain.xyz: the file says no cubic Lattice: say the edge of the box by --edge")
+        self.assertRegex(told, r"^view: .*plain.xyz: edge must be given for a file without a cubic Lattice, got none; use --edge")
 
     def test_a_file_that_the_program_refuses(self) -> None:
         path = file_of(self, "2\n\nAr 0 0 0\nAr 1 2\n", "short.xyz")
@@ -113,17 +113,19 @@ class Options(unittest.TestCase):
     def test_a_scale_that_does_not_fit(self) -> None:
         argon = EXAMPLES / "argon_256.xyz"
         self.assertIn("argon_256.xyz: ERR 37 SIGMA", self.refused(argon, "--edge", 21.04, "--sigma", 5))
-        self.assertIn("argon_256.xyz: dt is from", self.refused(argon, "--edge", 21.04, "--dt", 1000))
+        self.assertIn("argon_256.xyz: dt must be from", self.refused(argon, "--edge", 21.04, "--dt", 1000))
         self.assertIn("ERR 38 STEP_FACTOR", self.refused("--h", 0))
 
     def test_a_temperature_that_is_too_high(self) -> None:
-        self.assertIn("A crystal that melts: at a temperature of 1e+12 an atom moves by half", self.refused("--temperature", 1e12))
+        self.assertIn(
+            "A crystal that melts: cannot set a temperature of 1e+12: an atom would move by half", self.refused("--temperature", 1e12)
+        )
 
     def test_options_that_do_not_fit(self) -> None:
-        self.assertIn("--h stands in place of", self.refused("x.xyz", "--h", 1, "--dt", 10, status=2))
-        self.assertIn("are for the atoms of a file", self.refused("--edge", 10, status=2))
-        self.assertIn("--temperature is not below 0", self.refused("--temperature", -1, status=2))
-        self.assertIn("--port is from 0 to 65535", self.refused("--port", 65536, status=2))
+        self.assertIn("--h cannot be used with --epsilon, --mass or --dt", self.refused("x.xyz", "--h", 1, "--dt", 10, status=2))
+        self.assertIn("must come with FILE.xyz or HOST:PORT NAME", self.refused("--edge", 10, status=2))
+        self.assertIn("--temperature must be a finite number from 0 on, got -1.0", self.refused("--temperature", -1, status=2))
+        self.assertIn("--port must be from 0 to 65535, got 65536", self.refused("--port", 65536, status=2))
 
     def test_without_aiohttp_it_is_told_what_to_install(self) -> None:
         with tempfile.TemporaryDirectory() as folder:

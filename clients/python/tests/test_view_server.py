@@ -57,7 +57,7 @@ def test_it_shows_the_session_that_the_user_has(view: Any, ann: Any) -> None:
         told = page.ask("frame", steps=1)
         assert told["step"] == 3
     with ann() as user:
-        assert user.session("a").step == 3
+        assert user.session("a").get_step() == 3
 
 
 def test_it_shows_a_session_that_runs_back(view: Any, ann: Any) -> None:
@@ -189,12 +189,12 @@ def test_what_cannot_be_given_up_is_told_at_the_end(server: Any, ann: Any, tmp_p
     with View(f"127.0.0.1:{server.port}", "ann", "--token-file", tmp_path / "token", *SCALE) as shown, shown.page(), ann():
         status, told = shown.end()
     left = "the branches view-start and view-kept of a"
-    assert (status, told) == (0, f"view: 127.0.0.1:{server.port} could not be asked to give up {left}\n")
+    assert (status, told) == (0, f"view: cannot give up {left}: 127.0.0.1:{server.port} does not answer\n")
 
 
 def end_of(server: Any) -> str:
     """What a page says of the end of a server, before the reason."""
-    return f"The server at 127.0.0.1:{server.port} has ended. Load this page anew when it is there again ("
+    return f"The server at 127.0.0.1:{server.port} has ended. Load this page again when it is back ("
 
 
 def test_the_end_of_the_server_is_told(server: Any, view: Any, ann: Any) -> None:
@@ -222,7 +222,7 @@ def test_the_page_says_that_the_server_has_ended(server: Any, view: Any, ann: An
         server.end()
         page.wait_for(f"document.getElementById('message').textContent.startsWith('{end_of(server)}')")
         assert page.text("play") == "Play"
-        assert page.value("[...document.querySelectorAll('button:not(.link), select')].every(each => each.disabled)")
+        assert page.value("[...document.querySelectorAll('button:not(.link), select:not(#language)')].every(each => each.disabled)")
         picture(page, "server_ended")
         assert page.faults == []
 
@@ -236,7 +236,7 @@ def test_without_a_scale_the_page_is_asked_for_it(view: Any, ann: Any) -> None:
         assert (page.first["session"], page.first["why"]) == ("a", "")
         assert abs(float(page.first["edge"]) - 21.04) < 1e-4
         for edge, sigma, h in (("x", "1", "131072"), ("21.04", "5", "131072"), ("21.04", "1", "0"), ("21.04", "1", "1.5")):
-            assert "sigma is below a fifth of the edge" in page.ask("load", session="a", edge=edge, sigma=sigma, h=h)["why"]
+            assert "sigma below a fifth of the edge" in page.ask("load", session="a", edge=edge, sigma=sigma, h=h)["why"]
         assert "about 21.04" in page.ask("load", session="a", edge="22", sigma="1", h="131072")["why"]
         told = page.ask("load", session="a", edge="21.04", sigma="1", h="131072")
         assert told["scene"]["session"] == "a"
@@ -269,9 +269,9 @@ def test_a_session_that_is_gone_or_was_loaded_anew_is_told(view: Any, ann: Any) 
             user.session("a").drop()
             user.load("b", DIMER, edge=256, sigma=1, h=4295, replace=True)
         told = one.ask("frame", steps=1)
-        assert (told["error"], told["lost"]) == ("the server no longer has a: choose other atoms", True)
+        assert (told["error"], told["lost"]) == ("cannot go on with a: the server no longer has it; choose other atoms", True)
         assert told["choice"]["sessions"] == ["b"]
-        assert other.ask("frame", steps=1)["error"] == "b was loaded anew: choose it again"
+        assert other.ask("frame", steps=1)["error"] == "cannot go on with b: it was loaded again; choose it again"
         assert other.ask("load", session="b")["scene"]["session"] == "b"
 
 
@@ -324,7 +324,7 @@ def test_what_is_wrong_is_told_before_a_page(server: Any, tmp_path: pathlib.Path
     token.write_text("b" * 32)
     here = f"127.0.0.1:{server.port}"
     assert refused(here)[0] == 2
-    assert "NAME is missing" in refused(here)[1]
+    assert "HOST:PORT must be followed by NAME" in refused(here)[1]
     assert "ERR 01 DENIED" in refused(here, "ann", "--token-file", token)[1]
     assert "cannot connect" in refused("127.0.0.1:1", "ann")[1]
-    assert "--token-file is for" in refused("--token-file", token)[1]
+    assert "--token-file must come with" in refused("--token-file", token)[1]

@@ -88,7 +88,7 @@ def test_it_shows_and_plays_a_session(view: Any, relay: Any, good: Any, ann: Any
         assert page.ask("frame", steps=1)["step"] == 3
     assert relay.heard.startswith(f"HELLO ann {TOKEN}\n".encode())
     with ann() as user:
-        assert user.session("a").step == 3
+        assert user.session("a").get_step() == 3
 
 
 def test_the_token_is_typed_into_the_page(view: Any, relay: Any, good: Any, ann: Any) -> None:
@@ -114,7 +114,7 @@ def test_a_server_that_is_not_trusted_is_told_before_a_page(
     said = ["--tls", *(["--token-file", token_file] if is_token_said else [])]
     (tmp_path / "bad.pem").write_text("no certificate\n")
     elsewhere = certificate(tmp_path, "elsewhere", "DNS:md.example.org,IP:192.0.2.1")
-    name = "its certificate is of another name than 127.0.0.1: say the name that its operator gives, or ask for a new one"
+    name = "its certificate is of another name than 127.0.0.1; use the name that its operator gives, or ask for a new certificate"
     issuer = of_another_issuer(other[0])
     with Relay(server.port, elsewhere) as far:
         cases = [
@@ -124,7 +124,7 @@ def test_a_server_that_is_not_trusted_is_told_before_a_page(
             (
                 relay.port,
                 ["--ca", tmp_path / "bad.pem"],
-                f"{tmp_path}/bad.pem has no certificate: " "say a file in PEM with that of the server's issuer",
+                f"cannot use {tmp_path}/bad.pem: it has no certificate; use a file in PEM with that of the server's issuer",
             ),
             (relay.port, ["--ca", tmp_path / "none.pem"], f"cannot read {tmp_path}/none.pem: No such file or directory"),
         ]
@@ -141,8 +141,8 @@ def test_a_server_without_tls_is_told_before_a_page(token_file: Any) -> None:
 
 def test_options_that_do_not_fit(good: Any) -> None:
     for words, why in (
-        (["--tls"], "--tls is for a server: say HOST:PORT NAME"),
-        (["127.0.0.1:1", "ann", "--ca", good[0]], "--ca is for --tls"),
+        (["--tls"], "--tls must come with HOST:PORT NAME"),
+        (["127.0.0.1:1", "ann", "--ca", good[0]], "--ca must come with --tls"),
     ):
         status, told = refused(*words)
         assert (status, told.splitlines()[-1]) == (2, f"view: error: {why}")
@@ -220,7 +220,7 @@ def test_the_page_shows_why_it_cannot_connect_and_what_it_waits_for(view: Any, s
             page.wait_for("document.getElementById('message').className.includes('bad')")
         with Relay(server.port, other, listener(port)):
             page.click("one")
-            page.wait_for("document.getElementById('message').textContent.includes('its certificate is of another issuer than that in')")
+            page.wait_for("document.getElementById('message').textContent.includes('its certificate is of another issuer than the one in')")
         waiting = listener(port)
         page.click("one")
         page.wait_for(f"document.getElementById('waits').textContent === {not_answered(port)['waits']!r}")

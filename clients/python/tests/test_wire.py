@@ -79,7 +79,7 @@ class Replies(unittest.TestCase):
             with self.subTest(reply), peer(says(reply, then=stays)) as port, joined(port) as user:
                 with self.assertRaises(BadReply):
                     user.ask("LIST")
-                with self.assertRaisesRegex(Closed, "no reply|no number|no text|no line"):
+                with self.assertRaisesRegex(Closed, "is not a reply|says no number|is not text|is not a line"):
                     user.ask("LIST")
 
     def test_fields_that_are_no_numbers(self) -> None:

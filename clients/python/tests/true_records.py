@@ -58,7 +58,7 @@ def sorted_in_space(path: Any) -> None:
         a.advance(3)
         user.ask_all(["SHOW a 0", "SHOW a 1", "REVERSE a", "SHOW a 0", "SHOW a 1", "REVERSE a"])
         with mock.patch.object(recording.Record, "close", lambda record: None):
-            user.ask_commands([("DROP a", b""), at_step_3("a")])
+            user._ask_commands([("DROP a", b""), at_step_3("a")])
         a.advance(1)
         user.ask("DUMP a")
         a.drop()

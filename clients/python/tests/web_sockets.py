@@ -15,7 +15,7 @@ Refused = aiohttp.WSServerHandshakeError
 
 
 class WebSocket:
-    """Messages of text over a WebSocket. `Refused` with the status of HTTP if the server says no."""
+    """Messages of text over a WebSocket, whose certificate may be anybody's. `Refused` with the status of HTTP if the server says no."""
 
     def __init__(self, url: Any, headers: Any = None) -> None:
         self._loop = asyncio.new_event_loop()
@@ -28,7 +28,7 @@ class WebSocket:
 
     async def _connect(self, url: Any, headers: Any) -> Any:
         self._session = aiohttp.ClientSession(timeout=aiohttp.ClientTimeout(total=None, sock_connect=SECONDS, sock_read=SECONDS))
-        return await self._session.ws_connect(url, headers=headers, max_msg_size=MOST)
+        return await self._session.ws_connect(url, headers=headers, max_msg_size=MOST, ssl=False)
 
     def _wait(self, what: Any) -> Any:
         return self._loop.run_until_complete(what)
@@ -45,6 +45,12 @@ class WebSocket:
         if not self._loop.is_closed():
             self._wait(self._socket.close())
             self._end()
+
+    def reset(self) -> None:
+        """Ends the connection as a machine does that is gone, without a word."""
+        self._socket._response.connection.transport.abort()
+        self._wait(self._session.close())
+        self._loop.close()
 
     def _end(self) -> None:
         if self._session is not None:
