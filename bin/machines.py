@@ -1,4 +1,4 @@
-"""The program for other machines than x86-64: the proved module, compiled by the kit's clang for another target and linked.
+"""Compiles the program for machines other than x86-64: the proved module, by the kit's clang for another target, linked.
 
 `rattle build` proves a program, lowers it to one LLVM module for x86-64, and calls clang for it. Here clang is a script that keeps the
 module too, which is then compiled once more. What the module calls is in packaging/wasm/host.c. The lowering is for x86-64, and
@@ -12,6 +12,7 @@ import subprocess
 from pathlib import Path
 from typing import Any, List
 
+import wasm_tables
 from kit import TOP
 
 WASM_LAYOUT = "e-m:e-p:64:64-p10:8:8-p20:8:8-i64:64-i128:128-n32:64-S128"
@@ -84,7 +85,7 @@ def for_wasm(text: str, features: str) -> str:
     text = re.sub(r'^target datalayout = ".*"$', f'target datalayout = "{WASM_LAYOUT}"', text, flags=re.M)
     text = PAUSE.sub("", MAIN.sub(entry, text))
     if found := INTRINSIC.search(text):
-        raise NotCompiled(f"the module calls {found[1]}, which is of a processor")
+        raise NotCompiled(f"the module must not call {found[1]}, which only processors have")
     text = re.sub(r' "(?:probe-stack|stack-probe-size|target-features)"="[^"]*"', "", text)
     return re.sub(r'"target-cpu"="[^"]*"', f'"target-features"="{features}"', text)
 
@@ -93,7 +94,7 @@ def entry(main: "re.Match[str]") -> str:
     """The program, in place of C's `main`, which asks a processor of x86-64 what it is before it calls it."""
     called = re.search(r'^run:.*\n +%\w+ = call i32 (@"[^"]+")\(\)$', main[0], re.M)
     if called is None:
-        raise NotCompiled("the module's main is of another form than was known")
+        raise NotCompiled("the module's main must have the known form, got another")
     return f"define i32 @lj_main() {{\n  %status = call i32 {called[1]}()\n  ret i32 %status\n}}\n"
 
 
@@ -130,9 +131,13 @@ def compile_wasm32(rt: Any, crate: Any, flags: List[str], folder: Path) -> Path:
     """Builds a proved program for WebAssembly with memory of 32 bits, by lowering that of 64 bits."""
     lowers = shutil.which("wasm-opt")
     if lowers is None:
-        raise NotThere("there is no wasm-opt: apt-get install binaryen")
+        raise NotThere("wasm-opt is not installed; use apt-get install binaryen")
     made = folder / "lowered.wasm"
     linked = linked_for_wasm(rt, crate, flags, folder, lanes=False)
+    try:
+        linked.write_bytes(wasm_tables.with_small_table(linked.read_bytes()))
+    except wasm_tables.UnknownModule as why:
+        raise NotCompiled(str(why)) from why
     run([lowers, "--memory64-lowering", *LOWERED_WITH, str(linked), "-o", str(made)])
     return made
 
@@ -146,7 +151,7 @@ def toolchain_for_arm64(rt: Any, folder: Path) -> Path:
         name = library.name.replace("linux-x86-64.so.2", "linux-aarch64.so.1")
         found = (ARM64_COMPILER if name in OF_COMPILER else ARM64_LIBRARIES) / name
         if not found.exists():
-            raise NotThere(f"there is no {found}: apt-get install {ARM64_PACKAGES}")
+            raise NotThere(f"{found} is not installed; use apt-get install {ARM64_PACKAGES}")
         (made / "lib" / name).symlink_to(found)
     return made
 

@@ -11,8 +11,10 @@ function crystal() {
   return `216\ncrystal\n${rows.join("")}`;
 }
 
+// By the keys of their texts.
 export const examples = {
-  "Two atoms, there and back": `LOAD a 256 1 131072 rest ${DIMER.length}\n${DIMER}ADVANCE a 2\nSHOW a 0\nREVERSE a\nADVANCE a 1\nSHOW a 0\nSHOW a 1\n`,
-  "A crystal of 216 atoms": `LOAD c 6.6 1 4295 rest ${crystal().length}\n${crystal()}MEASURE c\nADVANCE c 1000\nMEASURE c\nREVERSE c\nADVANCE c 999\nSHOW c 43\n`,
-  "What there is": "LIST\n",
+  exampleTwo: `LOAD a 256 1 131072 rest ${DIMER.length}\n${DIMER}ADVANCE a 2\nSHOW a 0\nREVERSE a\nADVANCE a 1\nSHOW a 0\nSHOW a 1\n`,
+  exampleCrystal: `LOAD c 6.6 1 4295 rest ${crystal().length}\n${crystal()}MEASURE c\nADVANCE c 1000\nMEASURE c\nREVERSE c\nADVANCE c 999\nSHOW c 43\n`,
+  exampleShown: "SHOW view-1 0\nADVANCE view-1 100\nSHOW view-1 0\nREVERSE view-1\nADVANCE view-1 99\nSHOW view-1 0\n",
+  exampleList: "LIST\n",
 };

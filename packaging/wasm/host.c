@@ -15,6 +15,10 @@ typedef __UINT64_TYPE__ uint64_t;
 /* As POSIX's read and write, of standard input and output: how many bytes, 0 at the end of the input, or -1. */
 IMPORT(read) long host_read(void *to, size_t most);
 IMPORT(write) long host_write(int descriptor, const void *from, size_t count);
+/* What `ljserve` alone calls, and not `lj_run`: a word of the command line, of which as much as fits is put at the start of `to`, has this
+ * length, or -1 where there is no such word. And an end with this exit status, which never returns. */
+IMPORT(word) long host_word(size_t number, void *to, size_t room);
+IMPORT(exit) _Noreturn void host_exit(int status);
 
 static int error;
 
@@ -49,6 +53,53 @@ long lseek(int descriptor, long offset, int from) {
     error = ESPIPE;
     return -1;
 }
+
+/* Puts word i of the command line at the start of the buffer. Its length, -1 where there is no such word, or -2 where it does not fit. */
+long rattle_arg(size_t i, char *to, size_t room) {
+    long length = host_word(i, to, room);
+    return length > (long)room ? -2 : length;
+}
+
+_Noreturn void _exit(int status) { host_exit(status); }
+
+/* What `ljserve` calls for `replay` and `serve`, which have no files, sockets and threads here: each fails. The prototypes are those of
+ * POSIX, as clang has to find them for a module that calls them so. */
+#define ENOSYS 38
+#define FAILS(type, name, ...)                                                                                                         \
+    type name(__VA_ARGS__) {                                                                                                           \
+        error = ENOSYS;                                                                                                                \
+        return -1;                                                                                                                     \
+    }
+
+FAILS(int, open, const char *path, int flags, int mode)
+FAILS(int, close, int descriptor)
+FAILS(int, socket, int family, int type, int protocol)
+FAILS(int, bind, int descriptor, const void *address, uint32_t length)
+FAILS(int, listen, int descriptor, int most)
+FAILS(int, accept4, int descriptor, void *address, uint32_t *length, int flags)
+FAILS(int, setsockopt, int descriptor, int level, int option, const void *value, uint32_t length)
+FAILS(int, shutdown, int descriptor, int how)
+FAILS(long, recv, int descriptor, void *to, size_t most, int flags)
+FAILS(long, send, int descriptor, const void *from, size_t count, int flags)
+FAILS(int, clock_gettime, int clock, void *time)
+FAILS(int, nanosleep, const void *time, void *left)
+FAILS(long, syscall, long number, const void *rest)
+
+#define EAGAIN 11
+#define ANSWERS(type, name, what, ...)                                                                                                 \
+    type name(__VA_ARGS__) { return what; }
+
+ANSWERS(int, pthread_attr_init, 0, void *attributes)
+ANSWERS(int, pthread_attr_destroy, 0, void *attributes)
+ANSWERS(int, pthread_attr_setguardsize, 0, void *attributes, size_t bytes)
+ANSWERS(int, pthread_attr_setstacksize, 0, void *attributes, size_t bytes)
+ANSWERS(int, pthread_create, EAGAIN, void *thread, const void *attributes, void *begin, void *given)
+ANSWERS(int, pthread_detach, 0, uintptr_t thread)
+ANSWERS(int, pthread_join, EAGAIN, uintptr_t thread, void *result)
+ANSWERS(uintptr_t, pthread_self, 1, void)
+ANSWERS(int, sched_yield, 0, void)
+
+_Noreturn void abort(void) { __builtin_trap(); }
 
 /* The heap. A block has one of the sizes 16, 32, 48, 64, 80, 96, 112, 128, 160, 192, 224, 256, 320, ..: four for each doubling.
  * Blocks that were freed hang in a list for their size. */
@@ -135,6 +186,16 @@ tried rattle_realloc(void *p, size_t kept, size_t bytes, size_t align) {
     return made;
 }
 
+/* As C has them, for the runtime of threads. */
+void *malloc(size_t bytes) {
+    tried made = rattle_alloc(bytes, 16);
+    return made.ok ? made.p : 0;
+}
+
+void free(void *p) {
+    if (p) rattle_dealloc(p);
+}
+
 /* Numbers of 128 bits. */
 typedef unsigned __int128 wide;
 typedef union {
@@ -169,13 +230,20 @@ wide __multi3(wide a, wide b) {
     return r.whole;
 }
 
-/* Long division, a bit at a time; by is not 0. */
+/* How many bits a number has that is not 0. */
+static int length_of(halves n) { return n.half.high ? 128 - __builtin_clzll(n.half.high) : 64 - __builtin_clzll(n.half.low); }
+
+/* Long division, a bit at a time from the highest one of the quotient; by is not 0. The compiler calls it for powers of 2 too. */
 wide __udivti3(wide number, wide by) {
-    wide quotient = 0, rest = 0;
-    for (int bit = 127; bit >= 0; bit--) {
-        bool carries = rest >> 127;
-        rest = rest << 1 | (number >> bit & 1);
-        if (carries || rest >= by) rest -= by, quotient |= (wide)1 << bit;
+    halves n = {number}, d = {by};
+    if (!(by & (by - 1))) return __lshrti3(number, length_of(d) - 1);
+    if (!n.half.high && !d.half.high) return n.half.low / d.half.low;
+    if (number < by) return 0;
+    int bit = length_of(n) - length_of(d);
+    wide quotient = 0, part = __ashlti3(by, bit);
+    for (; bit >= 0; bit--, part >>= 1) {
+        quotient <<= 1;
+        if (number >= part) number -= part, quotient |= 1;
     }
     return quotient;
 }

@@ -1,4 +1,5 @@
-// Runs a module of the program in Node: node packaging/wasm/run.mjs MODULE < COMMANDS. Its status is that of the program.
+// Runs a module of the program in Node: node packaging/wasm/run.mjs MODULE [WORD..] < COMMANDS. Its status is that of the program. Words
+// are those of the command line of `ljserve`; `lj_run` takes none.
 // Before Node 24 a module with memory of 64 bits needs `node --experimental-wasm-memory64`.
 import { readFileSync, readSync, writeSync } from "node:fs";
 
@@ -17,4 +18,5 @@ function read(to) {
 
 const write = (from, descriptor) => writeSync(descriptor, from);
 
-process.exitCode = programOf(new WebAssembly.Module(readFileSync(process.argv[2])), read, write)();
+const [file, ...words] = process.argv.slice(2);
+process.exitCode = programOf(new WebAssembly.Module(readFileSync(file)), read, write, words)();

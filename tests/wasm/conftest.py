@@ -16,7 +16,7 @@ SECONDS = 1800
 @pytest.fixture(scope="session")
 def compiled() -> Callable[[str], Path]:
     """The program `lj_run` of each kind, which is compiled when it is first asked for. Or it stands in the folder that LJSERVE_WASM
-    names, as wasm64.wasm and wasm32.wasm, and `ljserve` as arm64."""
+    names, as wasm64.wasm and wasm32.wasm, with `ljserve` as ljserve-wasm64.wasm, ljserve-wasm32.wasm and arm64."""
     made: Dict[str, Path] = {}
 
     def program(kind: str) -> Path:
@@ -35,6 +35,9 @@ def there(kind: str) -> Path:
 
 
 def compile_now(kind: str) -> Path:
+    """Not that of `ljserve` whole, which takes five minutes of a processor, and is tried of a release."""
+    if kind.startswith("ljserve-"):
+        pytest.skip("LJSERVE_WASM names no folder with ljserve as WebAssembly")
     if shutil.which("rt") is None or not (TOP / "crates/lj_program/out/rlib").is_dir():
         pytest.skip("the libraries of the program are not built: bin/ljserve builds them")
     done = subprocess.run([TOP / "bin/compile", kind, f"out/{kind}", "--crate", "lj_run"], capture_output=True, text=True, timeout=SECONDS)

@@ -1,8 +1,9 @@
-"""What the program calls in WebAssembly, packaging/wasm/host.c: its heap, and its helpers for numbers of 128 bits."""
+"""What the program calls in WebAssembly, packaging/wasm/host.c: its heap, its words, its end, and its helpers for numbers of 128 bits."""
 from __future__ import annotations
 
 import json
 import random
+import re
 import shutil
 import subprocess
 import sys
@@ -19,6 +20,7 @@ pytestmark = pytest.mark.skipif(
 )
 HELPERS = ["__multi3", "__udivti3", "__divti3", "__ashlti3", "__lshrti3"]
 HEAP = ["rattle_alloc", "rattle_realloc", "rattle_dealloc"]
+OF_WORDS = ["rattle_arg", "_exit"]
 MEBIBYTE, WORD = 1 << 20, 1 << 64
 
 
@@ -29,8 +31,45 @@ def module_in(folder: Path) -> Path:
 
     rt = kit.load("test_host")
     made = folder / "host.wasm"
-    machines.link_wasm(rt, [], folder, made, ["--max-memory=4194304", *(f"--export={name}" for name in HELPERS + HEAP)])
+    machines.link_wasm(rt, [], folder, made, ["--max-memory=4194304", *(f"--export={name}" for name in HELPERS + HEAP + OF_WORDS)])
     return made
+
+
+# A program whose calls go through a table of functions.
+THROUGH_A_TABLE = """\
+typedef unsigned long (*F)(unsigned long);
+static unsigned long more(unsigned long x) { return x + 1; }
+static unsigned long twice(unsigned long x) { return 2 * x; }
+F table[2] = {more, twice};
+unsigned long lj(unsigned long which, unsigned long x) { return table[which & 1](x); }
+"""
+ANSWERS = """\
+import { readFile } from "node:fs/promises";
+const { lj } = (await WebAssembly.instantiate(await readFile(process.argv[2]))).instance.exports;
+console.log(lj(0n, 20n), lj(1n, 20n));
+"""
+
+
+@pytest.mark.skipif(shutil.which("wasm-opt") is None, reason="no wasm-opt")
+def test_calls_through_a_table_are_lowered(tmp_path: Path) -> None:
+    """Node knows no table of 64 bits, and no memory of 64 bits without a flag."""
+    import kit
+    import machines
+    import wasm_tables
+
+    tools = Path(kit.load("test_host").KIT, "toolchain", "bin")
+    source, linked, small, lowered, script = (str(tmp_path / name) for name in ("a.c", "a.wasm", "small.wasm", "low.wasm", "a.mjs"))
+    Path(source).write_text(THROUGH_A_TABLE)
+    Path(script).write_text(ANSWERS)
+    (tmp_path / "wasm-ld").symlink_to(tools / "clang")
+    machines.run([str(tools / "clang"), *machines.target_of_wasm(False), "-c", source, "-o", f"{source}.o"])
+    machines.run([str(tmp_path / "wasm-ld"), "-mwasm64", "--no-entry", "--export=lj", f"{source}.o", "-o", linked])
+    Path(small).write_bytes(wasm_tables.with_small_table(Path(linked).read_bytes()))
+    machines.run(["wasm-opt", "--memory64-lowering", *machines.LOWERED_WITH, small, "-o", lowered])
+    done = subprocess.run([str(NODE), script, lowered], capture_output=True, text=True, timeout=60)
+    assert done.stdout == "21n 40n\n", done.stderr
+    with pytest.raises(wasm_tables.UnknownModule):
+        wasm_tables.with_small_table(Path(small).read_bytes())
 
 
 @pytest.fixture(scope="module")
@@ -38,13 +77,13 @@ def module(tmp_path_factory: pytest.TempPathFactory) -> Path:
     return module_in(tmp_path_factory.mktemp("wasm"))
 
 
-def results(module: Path, calls: Sequence[Sequence[Any]]) -> List[List[int]]:
-    """What each of these calls returns."""
+def results(module: Path, calls: Sequence[Sequence[Any]], command_line: Sequence[str] = ()) -> List[List[int]]:
+    """What each of these calls returns, in a program whose command line has these words."""
     sent = json.dumps([[name, *(hex(word) for word in words)] for name, *words in calls])
-    command = [str(NODE), "--experimental-wasm-memory64", str(TOP / "tests/wasm/host.mjs"), str(module)]
+    command = [str(NODE), "--experimental-wasm-memory64", str(TOP / "tests/wasm/host.mjs"), str(module), *command_line]
     done = subprocess.run(command, input=sent, capture_output=True, text=True, timeout=60)
     assert done.returncode == 0, done.stderr
-    return [[int(word) for word in line.split(" ") if word.isdigit()] for line in done.stdout.splitlines()]
+    return [[int(word) for word in line.split(" ") if re.fullmatch(r"-?\d+", word)] for line in done.stdout.splitlines()]
 
 
 def halves(number: int) -> List[int]:
@@ -54,7 +93,7 @@ def halves(number: int) -> List[int]:
 def numbers(seed: int, count: int) -> List[int]:
     """Numbers of up to 128 bits, among them the ends of each half."""
     chance = random.Random(seed)
-    ends = [0, 1, 2, WORD - 1, WORD, WORD + 1, WORD**2 - 1, WORD // 2, WORD**2 // 2, 1 << 32, (1 << 32) - 1]
+    ends = [0, 1, 2, WORD - 1, WORD, WORD + 1, WORD**2 - 1, WORD // 2, WORD**2 // 2, 1 << 32, (1 << 32) - 1, 1 << 56, (1 << 56) + 1]
     return ends + [chance.getrandbits(chance.randint(1, 128)) for _ in range(count)]
 
 
@@ -125,3 +164,34 @@ def test_refused_memory_leaves_all_as_it_was(module: Path) -> None:
     assert [row[0] for row in (found[2], found[3], found[4])] == [0, 0, 0]
     assert all(row[1] for row in (found[2], found[3], found[4])), "no pointer is null"
     assert found[5] == [100] and found[6][0] == 1
+
+
+WORDS = ["ljserve", "run", "", "--atoms=65536", "\u00fc" * 200, "x" * 4096]
+ROOM_AT, UNTOUCHED = 1024, 9
+
+
+@pytest.mark.parametrize("room", [0, 1, 3, 7, 13, 400, 4095, 4096, 5000])
+def test_words_of_the_command_line(module: Path, room: int) -> None:
+    """Each that fits is put at the start of the room, and nothing is written behind it."""
+    fill, look = ["fill", ROOM_AT, 6000, UNTOUCHED], ["bytes", ROOM_AT, 6000]
+    calls = [call for number in range(len(WORDS)) for call in (fill, ["rattle_arg", number, ROOM_AT, room], look)]
+    found = results(module, calls, WORDS)
+    for word, (length,), there in zip(map(str.encode, WORDS), found[1::3], found[2::3]):
+        fits = len(word) <= room
+        assert length == (len(word) if fits else -2)
+        assert bytes(there[: len(word)]) == word if fits else set(there[room:]) == {UNTOUCHED}
+        assert set(there[max(room, len(word)) :]) == {UNTOUCHED}
+
+
+def test_there_is_no_such_word(module: Path) -> None:
+    calls = [["rattle_arg", number, ROOM_AT, 100] for number in (0, 6, 1 << 40)]
+    assert results(module, calls, WORDS)[1:] == [[-1], [-1]]
+    assert results(module, calls) == [[-1], [-1], [-1]]
+
+
+@pytest.mark.parametrize("status", [0, 1, 2, 3, 70])
+def test_an_end_has_its_status(module: Path, status: int) -> None:
+    """And what is called afterwards finds all as it was."""
+    ((_, first),) = results(module, [["rattle_alloc", 100, 8]])
+    found = results(module, [["rattle_alloc", 100, 8], ["fill", first, 100, 7], ["_exit", status], ["count", first, 100, 7]])
+    assert found[2] == [status] and found[3] == [100]

@@ -52,12 +52,12 @@ def test_a_module_for_webassembly_names_no_other_processor() -> None:
 
 def test_another_intrinsic_of_a_processor_is_refused() -> None:
     for name in ("llvm.x86.ssse3.pshuf.b.128", "llvm.aarch64.neon.abs.v4i32"):
-        with pytest.raises(machines.NotCompiled, match=f"calls {name}, which is of a processor"):
+        with pytest.raises(machines.NotCompiled, match=f"must not call {name}, which only processors have"):
             machines.for_wasm(MODULE.replace("ret i32 0", f"call void @{name}()\n  ret i32 0"), "")
 
 
 def test_another_form_of_main_is_refused() -> None:
-    with pytest.raises(machines.NotCompiled, match="of another form"):
+    with pytest.raises(machines.NotCompiled, match="must have the known form, got another"):
         machines.for_wasm(MODULE.replace("%r16 = call i32", "%r16 = tail call i32"), "")
 
 

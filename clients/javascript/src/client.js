@@ -17,6 +17,7 @@ export class Client {
   #waiting = [];
   #partial = "";
   #lines = [];
+  #behind = 0;
   #lost = "";
 
   /**
@@ -49,8 +50,9 @@ export class Client {
     const lines = (this.#partial + new TextDecoder("latin1").decode(bytes)).split(String.fromCharCode(LINE_END));
     this.#partial = lines.pop();
     for (const line of lines) {
+      if (!this.#lines.length) this.#behind = linesBehind(line);
       this.#lines.push(line);
-      if (this.#lines.length > linesBehind(this.#lines[0])) this.#answer(this.#lines.splice(0));
+      if (this.#lines.length > this.#behind) this.#answer(this.#lines.splice(0));
     }
   }
 

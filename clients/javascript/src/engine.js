@@ -10,7 +10,7 @@ async function threadOf(hear, lose) {
   if (!isNode) {
     const worker = new Worker(file, { type: "module" });
     worker.onmessage = ({ data }) => hear(data);
-    worker.onerror = ({ message }) => lose(message);
+    worker.onerror = ({ message }) => lose(message || "the thread of the program could not be loaded");
     return worker;
   }
   const { Worker: Thread } = await import("node:worker_threads");
@@ -35,8 +35,8 @@ async function moduleAt(address) {
 const suspends = () => "Suspending" in WebAssembly;
 
 export const Engine = {
-  /** Begins the program for one user without sessions, and returns a client of it. */
-  async open(module) {
+  /** Begins the program for one user without sessions, and returns a client of it. A module of `ljserve` takes arguments. */
+  async open(module, { arguments: words = [] } = {}) {
     if (!suspends() && typeof SharedArrayBuffer === "undefined") {
       throw new ClientError("this browser must have promises in WebAssembly, or the page headers COOP same-origin and COEP require-corp");
     }
@@ -51,16 +51,16 @@ export const Engine = {
       else client.lose(fault ?? `the program has ended with status ${status}`);
     };
     const thread = await threadOf(hear, (why) => client.lose(why));
-    thread.postMessage({ module: compiled, shared });
+    thread.postMessage({ module: compiled, words, shared });
     return client;
   },
 
   /** As `open`, with the first of these modules that this machine takes. */
-  async openFirst(modules) {
+  async openFirst(modules, options) {
     const faults = [];
     for (const module of modules) {
       try {
-        return await Engine.open(module);
+        return await Engine.open(module, options);
       } catch (error) {
         if (!(error instanceof WebAssembly.CompileError)) throw error;
         faults.push(error.message);

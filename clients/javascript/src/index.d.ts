@@ -25,20 +25,26 @@ export const Engine: {
    *
    * @param module the compiled module, its address, or in Node the name of its file; `bin/compile wasm64` makes it, and `wasm32` one
    *     for what has no memory of 64 bits
+   * @param options `arguments` are the words of the command line, such as ["run", "--atoms", "65536"], of a module of `ljserve` whole
+   *     (`bin/compile wasm64 FOLDER --crate ljserve`); that of `lj_run` takes none
    */
-  open(module: WebAssembly.Module | URL | string): Promise<Client>;
+  open(module: WebAssembly.Module | URL | string, options?: { arguments?: string[] }): Promise<Client>;
   /** As `open`, with the first of these modules that this machine takes, such as [wasm64, wasm32]. */
-  openFirst(modules: (WebAssembly.Module | URL | string)[]): Promise<Client>;
+  openFirst(modules: (WebAssembly.Module | URL | string)[], options?: { arguments?: string[] }): Promise<Client>;
 };
 
-/** Runs a module over an input that is there whole: its exit status and the replies. */
-export function answerAll(module: WebAssembly.Module, input: Uint8Array): { status: number; output: Uint8Array };
+/** Where the modules of this package are, for `Engine.openFirst`. That of a release has them, and the folder of the repository has none. */
+export const modules: URL[];
 
-/** The program of a module over two streams, which runs until its input ends, and returns its exit status. */
+/** Runs a module over an input that is there whole: its exit status and the replies. */
+export function answerAll(module: WebAssembly.Module, input: Uint8Array, words?: string[]): { status: number; output: Uint8Array };
+
+/** The program of a module over two streams, which runs until its input ends, and returns its exit status. Words are as `arguments`. */
 export function programOf(
   module: WebAssembly.Module,
   read: (to: Uint8Array) => number,
   write: (from: Uint8Array, descriptor: number) => number,
+  words?: string[],
 ): () => number;
 
 /** As `programOf`, where the program waits for its input without holding its thread up: `read` returns at most so many bytes. */
@@ -46,4 +52,5 @@ export function suspendingProgramOf(
   module: WebAssembly.Module,
   read: (most: number) => Promise<Uint8Array>,
   write: (from: Uint8Array, descriptor: number) => number,
+  words?: string[],
 ): () => Promise<number>;

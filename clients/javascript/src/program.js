@@ -3,6 +3,37 @@
 /** The module's memory as bytes. It may have grown and moved since the last call. */
 const part = (memory, at, count) => new Uint8Array(memory.buffer, Number(at), Number(count));
 
+/** The program has ended itself with a status. */
+class Ended extends Error {
+  constructor(status) {
+    super(`the program has ended with status ${status}`);
+    this.status = status;
+  }
+}
+
+/** The status of an end by a throw. Throws what is none. */
+function statusOf(error) {
+  if (error instanceof Ended) return error.status;
+  throw error;
+}
+
+/** What a module of `ljserve` calls for the words of its command line, and for its end. That of `lj_run` has no words. */
+function wordsAndEnd(words, memory) {
+  const all = ["ljserve", ...words].map((word) => new TextEncoder().encode(word));
+  return {
+    word(number, to, room) {
+      const word = all[Number(number)];
+      if (!word) return -1n;
+      const fits = word.subarray(0, Number(room));
+      part(memory(), to, fits.length).set(fits);
+      return BigInt(word.length);
+    },
+    exit(status) {
+      throw new Ended(status);
+    },
+  };
+}
+
 /**
  * Makes an instance of a module.
  *
@@ -10,9 +41,10 @@ const part = (memory, at, count) => new Uint8Array(memory.buffer, Number(at), Nu
  * @param {(to: Uint8Array) => number} read puts the next bytes of the input at the start of `to`: how many, 0 at its end; throws where
  *     it cannot be read
  * @param {(from: Uint8Array, descriptor: number) => number} write takes bytes of standard output (1) or of standard error (2): how many
+ * @param {string[]} words those of the command line, of a module of `ljserve`
  * @returns {() => number} the program, which runs until its input ends, and returns its exit status
  */
-export function programOf(module, read, write) {
+export function programOf(module, read, write, words = []) {
   let memory;
   const counted = (call) => {
     try {
@@ -24,10 +56,17 @@ export function programOf(module, read, write) {
   const host = {
     read: (to, most) => counted(() => read(part(memory, to, most))),
     write: (descriptor, from, count) => counted(() => write(part(memory, from, count), descriptor)),
+    ...wordsAndEnd(words, () => memory),
   };
   const { exports } = new WebAssembly.Instance(module, { host });
   memory = exports.memory;
-  return () => exports.lj_main();
+  return () => {
+    try {
+      return exports.lj_main();
+    } catch (error) {
+      return statusOf(error);
+    }
+  };
 }
 
 /**
@@ -36,9 +75,10 @@ export function programOf(module, read, write) {
  * @param {WebAssembly.Module} module
  * @param {(most: number) => Promise<Uint8Array>} read the next bytes of the input, at most so many; none at its end
  * @param {(from: Uint8Array, descriptor: number) => number} write as there
+ * @param {string[]} words as there
  * @returns {() => Promise<number>}
  */
-export function suspendingProgramOf(module, read, write) {
+export function suspendingProgramOf(module, read, write, words = []) {
   let memory;
   const host = {
     read: new WebAssembly.Suspending(async (to, most) => {
@@ -47,10 +87,12 @@ export function suspendingProgramOf(module, read, write) {
       return BigInt(bytes.length);
     }),
     write: (descriptor, from, count) => BigInt(write(part(memory, from, count), descriptor)),
+    ...wordsAndEnd(words, () => memory),
   };
   const { exports } = new WebAssembly.Instance(module, { host });
   memory = exports.memory;
-  return WebAssembly.promising(exports.lj_main);
+  const program = WebAssembly.promising(exports.lj_main);
+  return () => program().catch(statusOf);
 }
 
 /**
@@ -58,9 +100,10 @@ export function suspendingProgramOf(module, read, write) {
  *
  * @param {WebAssembly.Module} module
  * @param {Uint8Array} input the commands
+ * @param {string[]} words those of the command line, of a module of `ljserve`
  * @returns {{status: number, output: Uint8Array}} the exit status and the replies
  */
-export function answerAll(module, input) {
+export function answerAll(module, input, words = []) {
   const pieces = [];
   let left = input;
   const read = (to) => {
@@ -73,7 +116,7 @@ export function answerAll(module, input) {
     if (descriptor === 1) pieces.push(from.slice());
     return from.length;
   };
-  const status = programOf(module, read, write)();
+  const status = programOf(module, read, write, words)();
   const output = new Uint8Array(pieces.reduce((sum, piece) => sum + piece.length, 0));
   let at = 0;
   for (const piece of pieces) {

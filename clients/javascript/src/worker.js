@@ -32,16 +32,16 @@ function write(from, descriptor) {
   return from.length;
 }
 
-async function run(module, shared) {
+async function run(module, words, shared) {
   try {
     const receiver = shared && new Receiver(shared, () => port.postMessage({ emptied: true }));
     const program = shared
-      ? programOf(module, (to) => receiver.read(to), write)
-      : suspendingProgramOf(module, (most) => inbox.read(most), write);
+      ? programOf(module, (to) => receiver.read(to), write, words)
+      : suspendingProgramOf(module, (most) => inbox.read(most), write, words);
     port.postMessage({ status: await program() });
   } catch (error) {
     port.postMessage({ fault: String(error) });
   }
 }
 
-listen(({ module, shared, commands }) => (module ? run(module, shared) : inbox.add(commands)));
+listen(({ module, words, shared, commands }) => (module ? run(module, words, shared) : inbox.add(commands)));
