@@ -1,4 +1,4 @@
-"""Which connections come in through `watch` and `class`: how many of a user may wait, how many of an address may be on their way."""
+"""Which connections `watch` and `class` let in: how many of a user may wait, and how many of an address may be on their way."""
 import contextlib
 import math
 import re
@@ -16,6 +16,7 @@ SECONDS_FOR_FIRST_LINE = 10.0
 SECONDS_OF_A_COUNT = 10.0
 USUAL_OF_AN_ADDRESS = 20
 USUAL_OF_A_USER = 8
+MAX_HOSTS = 1000
 FIRST_LINE = re.compile(rb"[ \t]*HELLO[ \t]+([A-Za-z0-9_-]{1,16})[ \t]+([A-Za-z0-9]{32})[ \t]*\r?\n")
 # The name and the token of a user.
 Account = Tuple[bytes, bytes]
@@ -47,9 +48,9 @@ class Limits:
 
 
 def of_an_address(word: str) -> int:
-    """The number of --of-an-address. Raises ValueError if it is none."""
+    """The number of --of-an-address. Raises ValueError if it is not one."""
     if not re.fullmatch("[1-9][0-9]{0,6}", word):
-        raise ValueError(f"--of-an-address is a whole number from 1 on, not {word}")
+        raise ValueError(f"--of-an-address must be a whole number from 1 on, got {word}")
     return int(word)
 
 
@@ -72,6 +73,31 @@ def close_unanswered(client: socket.socket) -> None:
     with client, contextlib.suppress(OSError):
         client.shutdown(socket.SHUT_WR)
         client.recv(PIECE, socket.MSG_DONTWAIT)
+
+
+class Denials:
+    """Wrong tokens by the address that they come from: of each so many are looked at within ten seconds."""
+
+    def __init__(self, of_an_address: int = USUAL_OF_AN_ADDRESS):
+        self._most = of_an_address
+        self._begun: Dict[str, float] = {}
+        self._counts: Dict[str, int] = {}
+
+    def is_full(self, host: str) -> bool:
+        """Whether no more tokens of an address are looked at for now."""
+        if time.monotonic() >= self._begun.get(host, 0.0) + SECONDS_OF_A_COUNT:
+            self._begun.pop(host, None)
+            self._counts.pop(host, None)
+        return self._counts.get(host, 0) >= self._most
+
+    def add(self, host: str) -> None:
+        """Counts a wrong one. Of addresses without any in ten seconds nothing is kept."""
+        now = time.monotonic()
+        if len(self._begun) > MAX_HOSTS:
+            self._begun = {each: begun for each, begun in self._begun.items() if now < begun + SECONDS_OF_A_COUNT}
+            self._counts = {each: self._counts[each] for each in self._begun}
+        self._begun.setdefault(host, now)
+        self._counts[host] = self._counts.get(host, 0) + 1
 
 
 class Whose(NamedTuple):
@@ -115,7 +141,7 @@ class Closings:
             yield Closed(whose, self._counts[whose], seconds)
 
     def take_ended(self) -> List[Closed]:
-        """The counts whose ten seconds are over, which begin anew with the next connection that is closed."""
+        """The counts whose ten seconds are over, which begin again with the next connection that is closed."""
         now = time.monotonic()
         ended = [each for each in self.counts() if now - self._begun[each.whose] >= SECONDS_OF_A_COUNT]
         for each in ended:

@@ -1,4 +1,4 @@
-"""The programs that the tools begin: their environment, and how one ends with the tool."""
+"""The programs that the tools start: their environment, and how they end with the tool."""
 import os
 import pathlib
 import sys

@@ -1,4 +1,4 @@
-"""The words of a tool's command line."""
+"""The command line of a tool."""
 import argparse
 import sys
 from typing import NoReturn, Sequence

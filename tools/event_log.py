@@ -12,7 +12,7 @@ logging.raiseExceptions = False
 
 
 class EventLog:
-    """Events that are written behind what a file has, or to standard output for `-`. A file that was moved is begun anew."""
+    """Events that are written behind what a file has, or to standard output for `-`. If the file was moved, a new one is begun."""
 
     def __init__(self, path: str):
         """Raises Fault if the file cannot be written."""

@@ -1,4 +1,4 @@
-"""Becomes a program that the system kills when what has begun it ends, whatever ends that: tools/launcher.py PARENT PROGRAM WORD..
+"""Runs a program that the system kills when its parent ends, however that ends: tools/launcher.py PARENT PROGRAM WORD..
 
 setpriv of util-linux does so too, but sets capabilities before, which the units of systemd here refuse.
 """

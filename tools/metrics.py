@@ -1,4 +1,4 @@
-"""What is seen of a server and its users, as Prometheus reads it.
+"""Figures of a server and its users, for Prometheus.
 
 https://prometheus.io/docs/instrumenting/exposition_formats/
 """

@@ -1,4 +1,4 @@
-"""The header of the PROXY protocol, versions 1 and 2, by which a balancer says from where a connection comes.
+"""The header of the PROXY protocol, versions 1 and 2, in which a balancer sends the address of the client.
 
 https://www.haproxy.org/download/2.6/doc/proxy-protocol.txt
 """
@@ -70,12 +70,12 @@ def source_of_version_1(stream: Stream, head: bytes, until: float) -> Optional[s
         head += received(stream, 1, until)
     found = TEXT.fullmatch(head)
     if not found:
-        raise ValueError("the first bytes are none")
+        raise ValueError("the first bytes must be a header")
     return joined(found[1].decode(), int(found[2])) if found[1] else None
 
 
 def source_of_version_2(stream: Stream, until: float) -> Optional[str]:
-    """The source that a header in binary names. Further fields are passed over."""
+    """The source that a header in binary names. Further fields are skipped."""
     command, family, size = struct.unpack("!BBH", received(stream, 4, until))
     body = received(stream, size, until)
     if command not in (LOCAL, PROXY):
@@ -90,7 +90,7 @@ def source_of_version_2(stream: Stream, until: float) -> Optional[str]:
 
 
 def joined(host: str, port: int) -> str:
-    """An address as HOST:PORT. Raises ValueError if it is none."""
+    """An address as HOST:PORT. Raises ValueError if it is not one."""
     address = ipaddress.ip_address(host)
     if port > 65535:
         raise ValueError(f"there is no port {port}")

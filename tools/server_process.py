@@ -1,4 +1,4 @@
-"""What Linux tells in /proc of a server on this machine: its places that are taken, and how many connections it accepts."""
+"""What /proc shows of a server on this machine: the connections that it has, and how many it accepts."""
 import contextlib
 import pathlib
 import socket

@@ -1,4 +1,4 @@
-"""Files of users, their slips, and what is wrong with such a file: what `users` and `class` share."""
+"""Files of users, their slips, and the check of such files, for `users`, `class` and others."""
 import contextlib
 import os
 import re
@@ -18,6 +18,8 @@ USUAL = [8, 16384, 16]
 TOKEN_LETTERS = "abcdefghijkmnpqrstuvwxyzABCDEFGHJKLMNPQRSTUVWXYZ23456789"
 TOKEN_LENGTH = 32
 GROUP = 4
+# So many hexadecimal digits of a certificate's SHA-256 stand on a slip to be typed, which no other certificate has.
+DIGITS_TYPED = 32
 NAME = re.compile(rb"[A-Za-z0-9_-]{1,16}")
 TOKEN = re.compile(rb"[A-Za-z0-9]{32}")
 DIGITS = re.compile(rb"[0-9]{1,19}")
@@ -40,18 +42,38 @@ def new_users(names: Sequence[str]) -> List[User]:
 
 
 class Way(NamedTuple):
-    """How users reach their server: its HOST:PORT, and whether by TLS, with a file of the certificate's issuer if one is needed."""
+    """How users reach their server: its HOST:PORT, and whether by TLS, with a file of the certificate's issuer if one is needed; or
+    by the fingerprint of the certificate. `page` is the HOST:PORT of its pages, if it has any, which have the same certificate."""
 
     server: str
     tls: bool = False
     ca: Optional[str] = None
+    fingerprint: str = ""
+    page: str = ""
+
+    def link(self, user: User) -> str:
+        """The link to the page of a user, whose part behind # no browser sends."""
+        return f"https://{self.page}/#{user.name}.{user.token}"
+
+    def typed(self) -> str:
+        """As much of the fingerprint as is typed, in groups."""
+        return in_groups(self.fingerprint[:DIGITS_TYPED], ":")
 
     def options(self) -> str:
         """What it adds to a command line of the client."""
+        if self.fingerprint:
+            return f"{self._option_of_page()} --fingerprint {self.typed()}"
         return (" --tls" if self.tls else "") + (f" --ca {shlex.quote(self.ca)}" if self.ca else "")
+
+    def _option_of_page(self) -> str:
+        """The option of its pages, which are at the same host nearly always."""
+        (host, _, port), of_server = self.page.rpartition(":"), self.server.rpartition(":")[0]
+        return "" if not self.page else f" --page {port if host == of_server else self.page}"
 
     def arguments(self) -> str:
         """What it adds to a call of the client."""
+        if self.fingerprint:
+            return f',\n                   fingerprint="{self.typed()}"'
         return (", tls=True" if self.tls else "") + (f', ca="{self.ca}"' if self.ca else "")
 
 
@@ -60,30 +82,30 @@ def names_of(words: Sequence[str], servers: int = 1, of_store: Optional[int] = N
     is_count = len(words) == 1 and words[0].isascii() and words[0].isdecimal()
     count, most = int(words[0]) if is_count else len(words), of_store or MAX_USERS * servers
     if words and not 1 <= count <= most:
-        have = "a store has" if of_store else "a server has" if servers == 1 else f"{servers} servers have"
-        raise ValueError(f"{have} 1 to {most} users, not {count}")
+        place = "a store" if of_store else "a server" if servers == 1 else f"{servers} servers"
+        raise ValueError(f"the number of users of {place} must be from 1 to {most}, got {count}")
     if is_count:
         return [f"student{number:02}" for number in range(1, count + 1)]
     seen: Set[str] = set()
     for word in words:
         if not NAME.fullmatch(word.encode("utf-8", "surrogateescape")):
-            raise ValueError(f"{word!r} is no name: 1 to 16 of A-Z a-z 0-9 _ -")
+            raise ValueError(f"a name must be 1 to 16 of A-Z a-z 0-9 _ -, got {word!r}")
         if word in seen:
-            raise ValueError(f"the name {word} is said twice")
+            raise ValueError(f"each name must come once, got {word} twice")
         seen.add(word)
     return list(words)
 
 
-def in_groups(token: str) -> str:
+def in_groups(token: str, between: str = " ") -> str:
     """A token as it is typed with fewer slips: in groups, with blanks that count for nothing."""
-    return " ".join(token[place : place + GROUP] for place in range(0, len(token), GROUP))
+    return between.join(token[place : place + GROUP] for place in range(0, len(token), GROUP))
 
 
 def check_quota(quota: Sequence[int]) -> None:
     """Raises ValueError if a user may not have so much."""
     for number, (name, most) in zip(quota, MAX_NUMBERS.items()):
         if not 0 <= number <= most:
-            raise ValueError(f"a user has 0 to {most} {name}, not {number}")
+            raise ValueError(f"the {name} of a user must be from 0 to {most}, got {number}")
 
 
 def slip_of(user: User, way: Way) -> str:
@@ -94,14 +116,14 @@ def slip_of(user: User, way: Way) -> str:
 {user.name} at {way.server}
 
     token   {in_groups(user.token)}
+{seal_of(way)}
+Keep the token secret. You need not type its blanks.
 
-The token is yours alone, and its blanks need not be typed.
-
-The client is in the folder of ljserve, and needs Python 3.9 or later. There, once:
+The client is in the folder of ljserve, and needs Python 3.9 or later. Run once in this folder:
 
     pip install clients/python
 
-(or `export PYTHONPATH=clients/python` in each shell). Then a prompt, which asks for the token:
+(or `export PYTHONPATH=clients/python` in each shell). Then start a prompt, which asks for the token:
 
     python3 -m ljclient {way.server} {user.name}{way.options()}
 
@@ -110,6 +132,35 @@ or in Python:
     from ljclient import connect
     user = connect("{host.strip('[]')}", {port}, "{user.name}",
                    "{in_groups(user.token)}"{way.arguments()})
+{browser_of(user, way)}"""
+
+
+def browser_of(user: User, way: Way) -> str:
+    """The lines of a slip for who has a browser alone, if there is a page."""
+    if not way.page:
+        return ""
+    return f"""
+Or in a browser, where nothing is installed: https://{way.page}/
+asks for name and token, and this link has both:
+
+    {way.link(user)}
+
+The browser warns, since it does not know who signed the certificate. Let it show the
+certificate, and continue only if its SHA-256 is the fingerprint above.
+"""
+
+
+def seal_of(way: Way) -> str:
+    """The lines of a slip that say which certificate the server has, if it is known by that."""
+    if not way.fingerprint:
+        return ""
+    return f"""
+The server has the certificate with the fingerprint (SHA-256)
+
+    {in_groups(way.fingerprint[:DIGITS_TYPED])}
+    {in_groups(way.fingerprint[DIGITS_TYPED:])}
+
+The first half of it is typed below. The client sends the token to no other server.
 """
 
 
@@ -165,10 +216,10 @@ def write_secrets(texts: Dict[str, str], may_replace: bool, first: Callable[[], 
 
 
 def replaceable(path: str) -> str:
-    """The file to write anew, behind symbolic links. A device or a folder is a fault, since replacing it would destroy it."""
+    """The file to replace, behind symbolic links. A device or a folder is a fault, since replacing it would destroy it."""
     target = os.path.realpath(path)
     if os.path.exists(target) and not os.path.isfile(target):
-        raise Fault(f"{path} is no regular file, and stays as it is: choose another name")
+        raise Fault(f"cannot write {path}: it is not a regular file (nothing was changed); use another name")
     return target
 
 
@@ -193,7 +244,7 @@ def written(path: str, text: str) -> Iterator[str]:
 
 
 def is_there(path: str) -> Fault:
-    return Fault(f"{path} is there already: choose another name, or write it anew by --replace")
+    return Fault(f"cannot write {path}: it exists already; use another name, or --replace")
 
 
 def put(temporary: str, path: str, may_replace: bool) -> None:
@@ -223,7 +274,7 @@ def warn_of_output(out: TextIO, better: str = "--out") -> None:
         return
     if stat.S_ISREG(status.st_mode) and openness_of(status.st_mode):
         told = f"the mode of the file that these tokens were printed into lets others {openness_of(status.st_mode)} it"
-        print(f"users: {told}; write it by {better} FILE", file=sys.stderr)
+        print(f"users: {told}; use {better} FILE", file=sys.stderr)
 
 
 class Checked:
@@ -249,7 +300,7 @@ class Checked:
             if cause:
                 self.faults.append(f"line {number}: {cause}")
         if not self.lines and not self.faults:
-            self.faults.append(f"line {len(lines) + 1}: there is no user")
+            self.faults.append(f"line {len(lines) + 1}: a file must have at least one user, got none")
 
     def cause(self, number: int, line: bytes) -> Optional[str]:
         """Why a line is refused, if it is."""
@@ -261,46 +312,45 @@ class Checked:
     def cause_of_name(self, number: int, name: bytes) -> Optional[str]:
         """Why there is no place for a user of this name, if there is none."""
         if name in self.lines:
-            return f"the name {name.decode()} is that of line {self.lines[name]}"
+            return f"each name must come once, got {name.decode()}, which line {self.lines[name]} has too"
         if len(self.lines) == self._most:
-            return f"there are {self._most} users already, the most that a {'server' if self._most == MAX_USERS else 'store'} has"
+            return f"a {'server' if self._most == MAX_USERS else 'store'} must have at most {self._most} users, got more"
         self.lines[name] = number
         return None
 
     def cause_of_token(self, number: int, token: bytes) -> Optional[str]:
         """Why this token may not be that of one more user, if it may not."""
         line = self._tokens.setdefault(token, number)
-        return f"the token is that of line {line}, and each user has its own" if self._apart and line != number else None
+        return f"each user must have a token of its own, got the one of line {line}" if self._apart and line != number else None
 
 
 def cause_of_words(words: List[bytes]) -> Optional[str]:
-    """Why these words are no user, if they are none."""
+    """What is wrong with the words of a user, or None."""
     if words[-1].endswith(b"\r"):
-        return "it ends as lines of Windows do (CR LF); `tr -d '\\r'` takes that away"
+        return "a line must end with LF, got CR LF, as of Windows; use `tr -d '\\r'` to remove it"
     if words[0].startswith(b"\xef\xbb\xbf"):
-        return "the file begins with a byte order mark; save it as UTF-8 without one"
+        return "the file must not begin with a byte order mark; save it as UTF-8 without one"
     if len(words) != 5:
-        return f"it has {counted(len(words), 'word')}, and not 5: name, token, sessions, atoms, branches"
+        return f"a line must have 5 words (name, token, sessions, atoms, branches), got {len(words)}"
     if not NAME.fullmatch(words[0]):
-        return "the name is not 1 to 16 of A-Z a-z 0-9 _ -"
+        return "a name must be 1 to 16 of A-Z a-z 0-9 _ -"
     return cause_of_token(words[1]) or cause_of_numbers(words[2:])
 
 
 def cause_of_token(token: bytes) -> Optional[str]:
-    """Why this is no token, if it is none."""
+    """What is wrong with a token, or None. The text does not show it."""
     if len(token) != TOKEN_LENGTH:
-        size = "short" if len(token) < TOKEN_LENGTH else "long"
-        return f"the token is too {size}: it has {counted(len(token), 'character')}, and not {TOKEN_LENGTH}"
-    return None if TOKEN.fullmatch(token) else "the token has something else than letters and digits"
+        return f"a token must have {TOKEN_LENGTH} characters, got {len(token)}"
+    return None if TOKEN.fullmatch(token) else "a token must be letters and digits, got other characters"
 
 
 def cause_of_numbers(words: List[bytes]) -> Optional[str]:
-    """Why these words are no quota, if they are none."""
+    """What is wrong with the words of a quota, or None."""
     for word, (name, most) in zip(words, MAX_NUMBERS.items()):
         if not DIGITS.fullmatch(word):
-            return f"the number of {name} is no whole number"
+            return f"the number of {name} must be a whole number"
         if int(word) > most:
-            return f"{int(word)} {name} are more than {most}, the most that a user may have"
+            return f"the {name} of a user must be at most {most}, got {int(word)}"
     return None
 
 
@@ -337,6 +387,6 @@ def check(path: str, out: TextIO) -> int:
     if not checked.faults:
         print(counted(len(checked.lines), "user"), file=out)
     if stat.S_ISREG(mode) and openness_of(mode):
-        cure = f"`chmod 600 {shlex.quote(path)}` leaves it to its owner"
+        cure = f"use `chmod 600 {shlex.quote(path)}` to leave it to its owner"
         print(f"{path}: its mode lets others {openness_of(mode)} it, with all tokens; {cure}", file=out)
     return 1 if checked.faults else 0

@@ -1,4 +1,4 @@
-"""Connections that are passed on to a server, and what is shown of them: what `watch` and `class` share."""
+"""Connections that are passed on to a server, and the lines that show them, for `watch` and `class`."""
 import contextlib
 import re
 import resource
@@ -32,6 +32,8 @@ BEGAN_OR_ENDED = re.compile(rb"OK (LOAD|LOADMIX|DROP) (\S{1,16})(?: |\Z)")
 COUNTED = (b"ADVANCE", b"START")
 # The states of a connection that keeps a place of the server until its turn comes: also of one whose client is gone.
 WAITING = ("waits", "gone")
+# Those of who is in: by a connection, or by a page of the class.
+INSIDE = ("in", "page")
 # How the words of both begin, so that a thousand lines of SHOW are passed over at once.
 STEPPING = {b"ADVA", b"STAR", b"REVE", b"REST", b"LOAD", b"DROP"}
 Address = Tuple[str, int]
@@ -120,7 +122,7 @@ class Connection:
 
     def state_at_end(self) -> str:
         """What it is when it has ended, which tells whether its user was in."""
-        return {"in": "ended", "denied": "denied"}.get(self.state, "not in")
+        return {**dict.fromkeys(INSIDE, "ended"), "denied": "denied"}.get(self.state, "not in")
 
     def end(self) -> None:
         """Notes that it has ended, and whether its user was in."""
@@ -160,7 +162,7 @@ class Totals:
 
 
 class Board:
-    """All connections, how many there may be, and what is shown of them: a log, or on a terminal a screen that is drawn anew."""
+    """All connections, how many there may be, and what is shown of them: a log, or on a terminal a screen that is drawn again."""
 
     def __init__(self, out: Optional[TextIO], log: Optional[EventLog] = None, address: str = "", limits: Limits = Limits()):
         """`address` is where users connect to: it stands in the first line of the screen."""
@@ -172,6 +174,7 @@ class Board:
         self._is_screen = out is not None and out.isatty()
         self._open: List[Connection] = []
         self._drawn = 0
+        self._typed: Optional[str] = None
         self._lock = threading.Lock()
         self._passed = 0
         self._denied = 0
@@ -179,20 +182,32 @@ class Board:
         self._steps: Dict[str, int] = Counter()
         self.sessions: Dict[str, Dict[bytes, int]] = defaultdict(dict)
 
-    def says(self, text: str) -> None:
+    def say(self, text: str) -> None:
         """Writes a line that stays, above those of open connections."""
         with self._lock:
-            self._says(text)
+            self._say(text)
 
-    def _says(self, text: str) -> None:
+    def _say(self, text: str) -> None:
         """Writes such a line, for who has the lock."""
         line = f"{clock(time.time())}  {text}\n"
         self._write(self._erased() + line + self._table() if self._is_screen else line)
 
+    def types(self, text: str) -> None:
+        """Shows what is being typed at the terminal, below the lines of open connections."""
+        with self._lock:
+            self._typed = text
+            if self._is_screen:
+                self._write(self._table())
+
     def users_in(self) -> int:
         """How many users are in."""
         with self._lock:
-            return len({each.user for each in self._open if each.state == "in"})
+            return len({each.user for each in self._open if each.state in INSIDE})
+
+    def open(self) -> List[Connection]:
+        """The connections that are open."""
+        with self._lock:
+            return list(self._open)
 
     def totals(self) -> Totals:
         """What was seen until now."""
@@ -222,7 +237,7 @@ class Board:
     def admits(self, connection: Connection) -> bool:
         """Has a connection begin, unless there are too many of its address that are not in: then it is to be closed."""
         with self._lock:
-            same = [each for each in self._open if each.host == connection.host and each.state != "in"]
+            same = [each for each in self._open if each.host == connection.host and each.state not in INSIDE]
             if len(same) >= self._limits.of_an_address:
                 self._closings.add(Whose(host=connection.host))
                 return False
@@ -230,7 +245,7 @@ class Board:
             return True
 
     def lets_wait(self, connection: Connection, first: bytes) -> bool:
-        """Hears the first line of a connection, unless too many of its user wait: then it is to be closed, and is none any more."""
+        """Hears the first line of a connection, unless too many of its user wait: then it must be closed, and does not count any more."""
         account = self._limits.account_of(first)
         with self._lock:
             same = [each for each in self._open if account and each.account == account and each.state in WAITING]
@@ -247,15 +262,15 @@ class Board:
         with self._lock:
             self._closings.add(Whose(user=connection.user) if connection.user else Whose(host=connection.host))
 
-    def is_passed(self) -> None:
+    def note_passed(self) -> None:
         """Notes that the server has a connection more."""
         with self._lock:
             self._passed += 1
 
-    def is_let_in(self, connection: Connection) -> None:
+    def note_let_in(self, connection: Connection) -> None:
         self.notes("in", **connection.known())
         if not self._is_screen:
-            self.says(connection.text())
+            self.say(connection.text())
 
     def leaves_out(self, connection: Connection) -> None:
         """Has a connection counted no more, and nothing told of its end."""
@@ -270,7 +285,7 @@ class Board:
                 self._steps[connection.user] += connection.steps
             self._denied += connection.state == "denied"
             connection.end()
-            self._says(connection.text())
+            self._say(connection.text())
         self.notes(connection.state, **connection.known())
 
     def notes(self, event: str, **known: object) -> None:
@@ -279,7 +294,7 @@ class Board:
             self._log.note(event, **known)
 
     def draw_on(self) -> None:
-        """Tells how many connections were closed, and draws the screen anew, for as long as the program runs."""
+        """Tells how many connections were closed, and draws the screen again, for as long as the program runs."""
         while True:
             self.tell_closed()
             if self._is_screen:
@@ -292,13 +307,13 @@ class Board:
         with self._lock:
             ended = self._closings.take_ended()
         for each in ended:
-            self.says(each.text())
+            self.say(each.text())
             self.notes("closed", **{"user": each.whose.user, "from": each.whose.host}, count=each.count, seconds=each.seconds)
 
     def _erased(self) -> str:
         """What takes the lines of open connections away."""
         up, self._drawn = self._drawn, 0
-        return f"\033[{up}A\r\033[J" if up else ""
+        return f"\033[{up}A\r\033[J" if up else "" if self._typed is None else "\r\033[J"
 
     def _table(self) -> str:
         """The lines of open connections in place of those that were drawn before: as many as the terminal has room for."""
@@ -309,7 +324,8 @@ class Board:
         if len(rows) > height - 1:
             rows = [*rows[: height - 2], f".. and {len(rows) - height + 2} more"]
         self._drawn = len(rows)
-        return erased + "".join(row[: width - 1] + "\n" for row in rows)
+        typed = "" if self._typed is None else f"> {self._typed}"[-(width - 1) :]
+        return erased + "".join(row[: width - 1] + "\n" for row in rows) + typed
 
     def _write(self, text: str) -> None:
         """Writes a text. Where nobody reads it, connections are passed on all the same."""
@@ -342,7 +358,7 @@ def carry(client: socket.socket, server: Address, connection: Connection, board:
     them is broken."""
     try:
         with client, socket.create_connection(server, SECONDS_TO_CONNECT) as there:
-            board.is_passed()
+            board.note_passed()
             there.settimeout(None)
             there.setsockopt(socket.IPPROTO_TCP, socket.TCP_NODELAY, 1)
             up = threading.Thread(target=carry_up, args=(client, there, connection, first), daemon=True)
@@ -381,7 +397,7 @@ def carry_down(there: socket.socket, client: socket.socket, connection: Connecti
     with contextlib.suppress(OSError):
         while data := there.recv(PIECE):
             if connection.hear_server(data):
-                board.is_let_in(connection)
+                board.note_let_in(connection)
             if not sent(client, data):
                 shut(there, socket.SHUT_RDWR)
                 shut(client, socket.SHUT_RDWR)
@@ -478,7 +494,7 @@ def address_of(word: str) -> Address:
     """The address that a word says. Raises ValueError where it says none."""
     host, _, port = word.rpartition(":")
     if not host or not re.fullmatch("[0-9]{1,5}", port) or int(port) > 65535:
-        raise ValueError(f"{word} is no HOST:PORT")
+        raise ValueError(f"an address must be HOST:PORT, got {word}")
     return host.strip("[]"), int(port)
 
 

@@ -1,1 +1,1 @@
-"""A server that is kept: what its users do stands in a store, and a server that ended is begun again with it."""
+"""A kept server: what its users do is in a store, and if the server ends, it is started again from the store."""

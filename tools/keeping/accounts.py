@@ -1,4 +1,4 @@
-"""Who may come in: the users of a file or a store, and the first line of a connection."""
+"""Who may connect: the users of a file or a store, and the first line of a connection."""
 import hmac
 import pathlib
 from typing import Dict, Iterable, NamedTuple, Optional, Sequence
@@ -24,8 +24,8 @@ def accounts_at(path: pathlib.Path, most: int = MAX_USERS) -> Accounts:
 
 
 class Changes(NamedTuple):
-    """What has changed of the users of a store up to a change of this number: who is one, who is none any more, and of whom
-    something is to be put aside, who may be one anew."""
+    """What has changed of the users of a store up to a change of this number: who is one, who is not one any more, and of whom
+    something is to be put aside, who may be one again."""
 
     number: int
     accounts: Accounts

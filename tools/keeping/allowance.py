@@ -1,4 +1,4 @@
-"""How many steps each user may ask for in a day, where there is a limit."""
+"""The limit of the steps that a user may ask for in a day."""
 import json
 import time
 from typing import Any, Container, Dict, Iterable, List, Optional

@@ -1,4 +1,4 @@
-"""The ends of what passes: the connection of a client, and that of a user to the server, or of a client to another front."""
+"""The connections of a front: of a client, of a user to the server, and of a client to another front."""
 from __future__ import annotations
 
 import asyncio
@@ -47,7 +47,7 @@ class Client(asyncio.Protocol):
         self._transport = transport
         prepare(transport.get_extra_info("socket"))
         self.seen = self._front.new_connection(written(transport.get_extra_info("peername")))
-        self._timer = asyncio.get_running_loop().call_later(SECONDS_FOR_HELLO, self.abort)
+        self._timer = asyncio.get_running_loop().call_later(self._front.seconds_for_hello or SECONDS_FOR_HELLO, self.abort)
         self._front.begins(self)
 
     def data_received(self, data: bytes) -> None:
@@ -137,10 +137,11 @@ class Client(asyncio.Protocol):
             return True
         is_waiting = self.user is not None and self in self.user.waiting
         if self.user is None or self._is_over or is_waiting and not self._reader.held:
-            self._transport.close()
+            self._close()
         else:
             self.user.go_on()
-        return True
+        # In TLS no side ends alone.
+        return self._transport.can_write_eof()
 
     def connection_lost(self, error: Optional[Exception]) -> None:
         self._timer.cancel()
@@ -179,6 +180,15 @@ class Client(asyncio.Protocol):
     def _cut(self) -> Optional[Item]:
         return None if self.is_lost else self._reader.next()
 
+    def position(self) -> int:
+        """How many bytes of items have come."""
+        return self._reader.taken + self._reader.held
+
+    def has_item_before(self, position: int) -> bool:
+        """Whether the next item was whole when so many bytes had come."""
+        self._next = self._next or self._cut()
+        return self._next is not None and self._reader.taken <= position
+
     def take_no_more(self) -> None:
         """Takes no more items, so that the connection ends behind the last reply."""
         self._reader.end()
@@ -192,7 +202,7 @@ class Client(asyncio.Protocol):
 
     def let_in(self) -> None:
         self.tell(b"OK HELLO %s\n" % self.user.name.encode() if self.user else b"")
-        self._front.is_let_in(self)
+        self._front.note_let_in(self)
 
     def tell(self, replies: bytes) -> None:
         if not self.is_lost:
@@ -210,14 +220,20 @@ class Client(asyncio.Protocol):
         if self.is_lost or self._is_over:
             return
         self._is_over = True
-        asyncio.get_running_loop().call_later(SECONDS_TO_READ, self._transport.abort)
+        self._timer = asyncio.get_running_loop().call_later(SECONDS_TO_READ, self._transport.abort)
         if self._has_sent_all:
-            self._transport.close()
+            self._close()
             return
-        self._transport.write_eof()
+        if self._transport.can_write_eof():
+            self._transport.write_eof()
         if self._is_paused:
             self._transport.resume_reading()
-        asyncio.get_running_loop().call_later(SECONDS_AFTER_END, self._transport.close)
+        asyncio.get_running_loop().call_later(SECONDS_AFTER_END, self._close)
+
+    def _close(self) -> None:
+        """Closes it once: a transport of TLS that is closed twice cannot be aborted."""
+        if not self._transport.is_closing():
+            self._transport.close()
 
     def turn_away(self) -> None:
         """Ends the connection at once, since there are too many."""

@@ -1,4 +1,4 @@
-"""A front: it lets users in, has them at servers of its own (`hosts`), and keeps what they do."""
+"""A front: it lets users in, runs their servers (`hosts`), and keeps what they do."""
 import asyncio
 import contextlib
 import json
@@ -7,7 +7,7 @@ import pathlib
 import signal
 import socket
 import time
-from typing import Coroutine, Dict, NamedTuple, Optional, Sequence, Set
+from typing import Coroutine, Dict, NamedTuple, Optional, Protocol, Sequence, Set
 
 from keeping.accounts import Account, Accounts, accounts_at, changes_behind, is_one, user_of
 from keeping.allowance import Allowances
@@ -17,7 +17,7 @@ from keeping.place import Owner, Place
 from keeping.server import Words, how_it_ended, trial_of, version_of
 from keeping.status import Known
 from keeping.store import Damaged, Fenced, Store, StoreFault
-from keeping.user import User
+from keeping.user import Hear, User
 from keeping.writer import Writer
 from user_files import Fault
 from watching import Board, Connection
@@ -50,8 +50,17 @@ class Options(NamedTuple):
     steps_a_day: Optional[int]
 
 
+class Listening(Protocol):
+    """What lets clients come in until it is closed."""
+
+    def close(self) -> None:
+        ...
+
+
 class Front:
     """Lets users in, each to its own records and its own connection to a server."""
+
+    seconds_for_hello: Optional[float] = None
 
     def __init__(self, options: Options, board: Board):
         """Has one be at its place, which has begun."""
@@ -113,9 +122,9 @@ class Front:
                 await self._claimed(name)
 
     def _give_up(self, user: User, is_aside: bool) -> None:
-        """Lets go of a user that is none any more, or was stopped, unless something of it is being written."""
+        """Lets go of a user that was removed, or was stopped, unless something of it is being written."""
         if (user.name not in self._accounts or is_aside) and not user.stopped:
-            user.stop("it is no user any more")
+            user.stop("the user was removed")
         if user.stopped and not user.is_busy():
             self.forget(user)
 
@@ -168,7 +177,12 @@ class Front:
             if self._accounts.get(name) == account:
                 self._users[name] = user = User(name, kept, self._store, self._writer, self.note, self._hosts.renew)
                 user.allowance, user.quota = self._allowances.of(name, told), account.quota
+                user.on_reply = self.listener_of(user)
                 self.begin_task(self._hosts.lend(user))
+        return None
+
+    def listener_of(self, user: User) -> Optional[Hear]:
+        """Who is told each command of a user with its reply, if somebody is."""
         return None
 
     def begin_task(self, work: Coroutine[object, object, None]) -> "asyncio.Task[None]":
@@ -236,9 +250,9 @@ class Front:
                 raise
         client.abort()
 
-    def is_let_in(self, client: Client) -> None:
-        self._board.is_passed()
-        self._board.is_let_in(client.seen)
+    def note_let_in(self, client: Client) -> None:
+        self._board.note_passed()
+        self._board.note_let_in(client.seen)
 
     def new_connection(self, origin: str) -> Connection:
         return Connection(origin, self._board.sessions)
@@ -246,7 +260,7 @@ class Front:
     # The server.
 
     def heed_signals(self) -> None:
-        """Has signals begin it anew, or end it, in the loop that runs now."""
+        """Has signals begin it again, or end it, in the loop that runs now."""
         loop = asyncio.get_running_loop()
         loop.add_signal_handler(signal.SIGHUP, self._begin_anew)
         loop.add_signal_handler(signal.SIGTERM, self._end)
@@ -254,7 +268,6 @@ class Front:
 
     async def run(self) -> int:
         """Serves until it is told to end, and returns the exit status."""
-        loop = asyncio.get_running_loop()
         if not await self._take_stored():
             await self._take_users(accounts_at(pathlib.Path(self._options.words.users)))
         # What they did since their snapshots takes its time, so it is computed before they come.
@@ -262,7 +275,7 @@ class Front:
         if not self._users:
             self._hosts.add(next(iter(self._accounts.values()), NOBODY).quota)
         await self._hold()
-        listening = await loop.create_server(lambda: Client(self), sock=self._options.listener, backlog=128)
+        listening = await self.listen()
         works = self._writer.sync_on(), self._hold_on(), self._look_after(), self._take_changes()
         tasks = [asyncio.create_task(work) for work in works]
         await self._is_ending.wait()
@@ -276,6 +289,11 @@ class Front:
         await asyncio.gather(*tasks, return_exceptions=True)
         await self._close()
         return self._status
+
+    async def listen(self) -> Listening:
+        """Has clients come in from now on."""
+        loop = asyncio.get_running_loop()
+        return await loop.create_server(lambda: Client(self), sock=self._options.listener, backlog=128)
 
     async def _settle(self) -> None:
         """Has what was taken answered, and snapshots of all users, so that they are soon put back. Not all may come to it in time."""
@@ -322,10 +340,10 @@ class Front:
         """Whether there is a server that answers, and users are let in."""
         return self._hosts.is_well() and self.may_tell() and not self._is_ending.is_set()
 
-    def has_ended(self, ended: str, begun: int) -> None:
+    def note_server_end(self, ended: str, begun: int) -> None:
         """A server has ended, where so many were begun."""
         if ended == HAS_BAD_WORDS and begun == 1:
-            self._fail(f"the server cannot be begun: {ended}", BAD_WORDS)
+            self._fail(f"cannot start the server: {ended}", BAD_WORDS)
 
     async def note_version(self) -> None:
         """Has a file name the version of the program, and notes if that is another."""
@@ -337,10 +355,11 @@ class Front:
             await asyncio.to_thread(self._place.put, VERSION, version)
 
     async def try_program(self) -> None:
-        """Tries the program. Raises Fault if it computes otherwise than the first one did whose sessions are kept here."""
+        """Tries the program. Raises Fault if it computes differently from the first one whose sessions are kept here."""
         trial = await trial_of(self._options.words.program)
         if await asyncio.to_thread(self._place.first, TRIAL, trial) != trial:
-            raise Fault(f"{self._options.words.program} computes otherwise than the program before: begin that one, or another folder")
+            why = "it computes differently from the last program; use the last one, or another folder"
+            raise Fault(f"cannot go on by {self._options.words.program}: {why}")
 
     # What it is told from outside.
 
@@ -386,7 +405,7 @@ class Front:
     def note(self, event: str, **known: object) -> None:
         """Says what happens to users and servers, and has it in the log and in the status."""
         self._board.notes(event, **known)
-        self._board.says(" ".join([event, *(f"{name} {value}" for name, value in known.items())]))
+        self._board.say(" ".join([event, *(f"{name} {value}" for name, value in known.items())]))
         self._put_status()
 
     def known(self) -> Known:

@@ -1,4 +1,4 @@
-"""What is told of a front at an address of its own: whether its server answers, and figures as Prometheus reads them."""
+"""The health address of a front: whether its server answers, and figures for Prometheus."""
 import asyncio
 import concurrent.futures
 from collections import Counter
@@ -57,16 +57,16 @@ def of_front(known: Known, is_well: bool, users_in: int) -> Iterator[Metric]:
     users = [*known["users"].values()]
     states = Counter(user["state"] for user in users)
     yield "ljserve_up", "gauge", "Whether the server answers.", [({}, int(is_well))]
-    yield "ljserve_restarts_total", "counter", "Servers that were begun after one had ended.", [({}, known["restarts"])]
+    yield "ljserve_restarts_total", "counter", "How often the server was restarted after it had ended.", [({}, known["restarts"])]
     yield "ljserve_users", "gauge", "Users, by state.", [({"state": label}, states[state]) for label, state in STATES.items()]
     yield "ljserve_users_in", "gauge", "Users who are in.", [({}, users_in)]
     for name, key, about in (
-        ("ljserve_put_back_seconds_left", "left", "About how many seconds of computing are left of what is put back."),
-        ("ljserve_records", "records", "Commands that are kept since the last snapshots."),
+        ("ljserve_put_back_seconds_left", "left", "About how many seconds are left until all sessions are computed again."),
+        ("ljserve_records", "records", "Commands that were stored since the last snapshots."),
         ("ljserve_record_bytes", "bytes", "Bytes of these commands."),
     ):
         yield name, "gauge", about, [({}, round(sum(user.get(key, 0) for user in users), 1))]
     used_up = sum(user.get("today", {}).get("is_used_up", False) for user in users)
-    yield "ljserve_users_without_steps", "gauge", "Users who have asked for more steps than they may today.", [({}, used_up)]
-    yield "ljserve_syncs_total", "counter", "How often it was waited for the disk.", [({}, known["syncs"])]
-    yield "ljserve_sync_seconds_total", "counter", "How long it was waited for the disk.", [({}, known["sync_seconds"])]
+    yield "ljserve_users_without_steps", "gauge", "Users who have no steps left today.", [({}, used_up)]
+    yield "ljserve_syncs_total", "counter", "How often keep waited for the disk.", [({}, known["syncs"])]
+    yield "ljserve_sync_seconds_total", "counter", "How many seconds keep waited for the disk.", [({}, known["sync_seconds"])]

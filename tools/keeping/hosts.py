@@ -1,4 +1,4 @@
-"""The servers of a front: one for each quota in use, and a further one when all of its names are taken.
+"""The servers of a front: one for each quota in use, and another when all its names are taken.
 
 A server has users of the front's own, whose names it lends to users. A name is lent again when all sessions that it had were
 dropped, and who leaves with steps pending keeps it until they are done. A server has 64 places, of which two are left for who asks
@@ -71,12 +71,15 @@ class Host:
         self._hosts.front.note("server begun", process=server.process.pid, quota=self.quota)
         connections = [self.connect(user, True) for user in self.users.values() if not user.stopped]
         others = asyncio.gather(self._hosts.front.note_version(), self._watch(server), *connections, return_exceptions=True)
-        ended = await server.ended()
-        self.server = None
-        others.cancel()
-        for user in self.users.values():
-            user.lose_link()
-        await asyncio.gather(others, return_exceptions=True)
+        try:
+            ended = await server.ended()
+            self.server = None
+            for user in self.users.values():
+                user.lose_link()
+        finally:
+            server.kill()  # else `_watch`, whose cancellation may be lost at a reply that comes just then, would go on
+            others.cancel()
+            await asyncio.gather(others, return_exceptions=True)
         return ended
 
     async def _watch(self, server: Server) -> None:
@@ -217,7 +220,7 @@ class Hosts:
         """Takes it that a server has ended. One without users is begun again only if there is no other."""
         self._last_end = ended
         self.front.note("server ended", why=ended)
-        self.front.has_ended(ended, self.begun)
+        self.front.note_server_end(ended, self.begun)
         if not host.users and len(self.all) > 1:
             self.all.remove(host)
 

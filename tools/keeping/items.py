@@ -45,11 +45,12 @@ def body_of(words: Words) -> Optional[int]:
 
 
 class ItemReader:
-    """Cuts a stream into items, up to the one that ends it. `held` is how many bytes are not cut yet."""
+    """Cuts a stream into items, up to the one that ends it. `held` is how many bytes are not cut yet, and `taken` how many are."""
 
     def __init__(self, most: int = MAX_ITEMS) -> None:
         self._held = bytearray()
         self._left = most
+        self.taken = 0
         self.has_ended = False
 
     @property
@@ -69,6 +70,7 @@ class ItemReader:
         if item is None:
             return None
         self._left -= 1
+        self.taken += len(item.raw)
         del self._held[: len(item.raw)]
         if item.last_reply:
             self.end()

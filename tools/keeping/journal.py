@@ -1,4 +1,4 @@
-"""The journals of before there was a store, which are taken over: a file NAME.journal for each user.
+"""The journals of earlier versions, a file NAME.journal for each user, which are taken over into the store.
 
 It begins with a line that has the number of the format and the name of the user. A record is
 
@@ -31,7 +31,7 @@ def whole_records(data: bytes, name: str) -> Iterator[Told]:
     if not data.startswith(head):
         if len(data) < len(head) and head.startswith(data):
             return
-        raise Damaged("its first line is another")
+        raise Damaged("its first line was changed")
     at, check = len(head), hashlib.sha256(head)
     while len(data) >= at + BYTES_OF_HEAD:
         length = data[at : at + 7]
@@ -72,7 +72,7 @@ def put_in(folder: pathlib.Path, name: str, store: Store, records: List[Told]) -
         store.write([Change(name, records)])
         store.base.sync()
     elif found.seq or found.records != records:
-        raise Damaged(f"the store has other records: move {path_of(folder, name)} away, or begin with another folder")
+        raise Damaged(f"the store has other records; move {path_of(folder, name)} away, or use another folder")
     (folder / BEFORE).mkdir(mode=0o700, exist_ok=True)
     path_of(folder, name).rename(path_of(folder / BEFORE, name))
     sync_folder(folder / BEFORE)

@@ -1,5 +1,4 @@
-"""How an operator ends the connections of a user: by a file in the folder of a front, or a note in a database, NAME.kick, which the
-front takes away."""
+"""Ends the connections of a user, by a file NAME.kick in the folder of a front or a note in its database, which the front removes."""
 import contextlib
 import json
 import pathlib
@@ -22,7 +21,7 @@ def kick_in_folder(place: str, name: str) -> None:
     asked = pathlib.Path(place, f"{name}{KICK}")
     try:
         if name not in json.loads(pathlib.Path(place, STATUS).read_text())["users"]:
-            raise Fault(f"{place} has no user {name}")
+            raise Fault(f"cannot end the connections of {name}: {place} has no such user")
         # Also where root asks for it, no link of the folder's owner is followed.
         with contextlib.suppress(FileExistsError):
             asked.touch(0o600, exist_ok=False)
@@ -30,16 +29,16 @@ def kick_in_folder(place: str, name: str) -> None:
         raise Fault(f"cannot use {place}: {getattr(error, 'strerror', None) or 'it has no status'}") from error
     if not comes_to_end(asked.exists):
         asked.unlink(missing_ok=True)
-        raise Fault(f"no front uses {place}")
+        raise Fault(f"cannot end the connections of {name}: no front uses {place}")
 
 
 def kick_in_database(place: str, name: str) -> None:
     with contextlib.closing(database_at(place)) as base:
         if not base.ask_to_kick(name):
-            raise Fault(f"no front of {shown_place(place)} has {name}")
+            raise Fault(f"cannot end the connections of {name}: no front of {shown_place(place)} has this user")
         if not comes_to_end(lambda: base.is_to_kick(name)):
             base.take_back_kick(name)
-            raise Fault(f"the front that has {name} does not answer")
+            raise Fault(f"cannot end the connections of {name}: the front of this user does not answer")
 
 
 def comes_to_end(is_asked: Callable[[], bool]) -> bool:

@@ -1,4 +1,4 @@
-"""What an operator does with a store: copies it, cuts off what was changed, and moves a user from one to another."""
+"""Commands of an operator for a store: copies it, removes damaged records, and moves users between stores."""
 import contextlib
 import json
 import os
@@ -32,7 +32,7 @@ def opened(place: str, is_made: bool = False) -> Iterator[Store]:
         return
     file = pathlib.Path(place, FILE)
     if not file.exists() and not is_made:
-        raise Fault(f"{place} has no store: begin the front once, which makes it of journals too")
+        raise Fault(f"cannot use {place}: it has no store; use `tools/users NAME.. --store {place}` or start `tools/keep` to make one")
     if not file.exists():
         # Also where root makes it, it is of the folder's owner.
         with contextlib.closing(Folder(file.parent)):
@@ -47,7 +47,7 @@ def alone(place: str, name: str) -> Iterator[Store]:
     with contextlib.closing(place_of(place, True)) as own:
         own.begin(f"{socket.gethostname()}, process {os.getpid()}", False)
         if owner := own.claim(name):
-            raise Fault(f"the front at {owner.address} has {name}: end it first")
+            raise Fault(f"cannot change {name}: the front at {owner.address} has this user; end it first")
         yield Store(own.base)
 
 
@@ -60,20 +60,20 @@ def check_users(place: str, file: str) -> None:
         with opened(place, True) as store:
             if changes_behind(store.base, 0).number:
                 return
-    raise Fault(f"{shown_place(place)} has no users: add some by `tools/users --store`, or say --users FILE behind --")
+    raise Fault(f"cannot start: {shown_place(place)} has no users; use `tools/users --store` to add some, or --users FILE after --")
 
 
 def back_up(place: str, to: str) -> None:
     """Writes a copy of a store to a file, which is there when it is whole. A front may go on meanwhile."""
     copy = pathlib.Path(f"{to}.new")
     if pathlib.Path(to).exists():
-        raise Fault(f"{to} is there already: name another file")
+        raise Fault(f"cannot write {to}: it exists already; use another name")
     copy.unlink(missing_ok=True)
     with opened(place) as store, contextlib.closing(Sqlite(copy)) as base:
         store.copy_into(base)
     copy.replace(to)
     print(
-        f"{to} has all that is kept in {shown_place(place)}. To go back to it, put it into an empty folder as {FILE}, and begin with that"
+        f"{to} has all that is kept in {shown_place(place)}. To return to it, put it into an empty folder as {FILE}, and start keep there"
     )
 
 
@@ -92,7 +92,7 @@ def repair(place: str, name: str) -> None:
         if is_changed:
             # What was done since a snapshot means nothing without it.
             whole, fault = [], fault or "nothing else is damaged"
-            print(f"{name}: {len(parts)} sessions and branches stay, and {len(gone)} go: those of records {gone}")
+            print(f"{name}: {len(parts)} sessions and branches stay, and {len(gone)} are removed: those of records {gone}")
         tell_loss(name, whole, fault, [Told(item, reply) for _, item, reply, _ in rows[len(whole) :]])
         store.cut(name, rows[len(whole) - 1][0] if whole else 0)
         if is_changed:
@@ -126,9 +126,9 @@ def export(place: str, name: str) -> None:
         try:
             kept = store.read_whole(name)
         except Damaged as damage:
-            raise Fault(f"what is kept of {name} is damaged: {damage}") from damage
+            raise Fault(f"cannot export {name}: the store is damaged ({damage}); use --repair {name}") from damage
     if not kept.seq and not kept.records:
-        raise Fault(f"{shown_place(place)} has nothing of {name}")
+        raise Fault(f"cannot export {name}: {shown_place(place)} has nothing of this user")
     parts, records = [[texted(each) for each in part] for part in kept.parts], [[texted(each) for each in told] for told in kept.records]
     known = {
         "format": FORMAT,
@@ -160,12 +160,12 @@ def import_user(place: str, file: str) -> None:
     except OSError as error:
         raise Fault(f"cannot read {file}: {error.strerror}") from error
     except (ValueError, KeyError, TypeError, AttributeError) as error:
-        raise Fault(f"{file} is not what --export prints") from error
+        raise Fault(f"cannot import {file}: it is not a file of --export") from error
     if not is_whole:
-        raise Fault(f"{file} was changed, or is of another format than {FORMAT!r}")
+        raise Fault(f"cannot import {file}: it was changed, or its format is not {FORMAT!r}")
     with alone(place, name) as store:
         if name in store.names() or name in names_in(pathlib.Path(place)):
-            raise Fault(f"{shown_place(place)} has something of {name} already")
+            raise Fault(f"cannot import {name}: {shown_place(place)} has something of this user already")
         store.read(name)
         store.write([Change(name, kept.records, Snapshot(seq, parts, [part.id for part in parts], kept.running) if seq else None)])
     print(f"{shown_place(place)} has {name} now")

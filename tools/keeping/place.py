@@ -1,4 +1,4 @@
-"""The place where a front has what it keeps: a folder of its own, or what it shares with other fronts."""
+"""The place of a store: a folder of one front, or a database that fronts share."""
 import contextlib
 import fcntl
 import math
@@ -6,6 +6,7 @@ import os
 import pathlib
 import re
 import socket
+import ssl
 from typing import TYPE_CHECKING, Callable, Dict, List, NamedTuple, Optional
 
 from keeping.accounts import DENIED
@@ -98,11 +99,11 @@ class Folder(Place):
         try:
             path.mkdir(mode=0o700, exist_ok=True)
             if path.stat().st_mode & 0o077:
-                raise Fault(f"the mode of {path} lets others in: `chmod 700` leaves it to its owner")
+                raise Fault(f"cannot use {path}: its mode lets others in; use `chmod 700` to leave it to its owner")
             self._lock = os.open(path / LOCK, os.O_RDWR | os.O_CREAT | os.O_CLOEXEC, 0o600)
             fcntl.flock(self._lock, fcntl.LOCK_EX | fcntl.LOCK_NB)
         except BlockingIOError as error:
-            raise Fault(f"{path} is in use") from error
+            raise Fault(f"cannot use {path}: it is in use") from error
         except OSError as error:
             raise Fault(f"cannot use {path}: {error.strerror}") from error
         self.base = Sqlite(path / FILE, sync_each)
@@ -143,16 +144,24 @@ class Folder(Place):
         os.close(self._lock)
 
 
-def answer_of(at: str, has_header: bool) -> Optional[bytes]:
+def answer_of(at: str, has_header: bool, has_tls: bool = False) -> Optional[bytes]:
     """What a front replies to a check, or None where none listens. It is DENIED where its server answers. Raises OSError if nothing
     comes, not even an end."""
     try:
-        with socket.create_connection(address_of(at), SECONDS_TO_ANSWER) as stream:
-            stream.settimeout(SECONDS_TO_ANSWER)
+        with socket.create_connection(address_of(at), SECONDS_TO_ANSWER) as plain:
+            plain.settimeout(SECONDS_TO_ANSWER)
+            stream = encrypted(plain) if has_tls else plain
             stream.sendall((b"PROXY UNKNOWN\r\n" if has_header else b"") + b"HELLO - -\n")
             return stream.recv(len(DENIED))
     except ConnectionRefusedError:
         return None
+
+
+def encrypted(plain: socket.socket) -> socket.socket:
+    """A connection over TLS to a front of this machine, whose certificate needs no look."""
+    context = ssl.SSLContext(ssl.PROTOCOL_TLS_CLIENT)
+    context.check_hostname, context.verify_mode = False, ssl.CERT_NONE
+    return context.wrap_socket(plain)
 
 
 def is_address(place: str) -> bool:
@@ -170,7 +179,7 @@ def database_at(address: str, sync_each: bool = True) -> "Postgres":
     try:
         from keeping.postgres import Postgres
     except ImportError as error:
-        raise Fault("psycopg2 is not installed, which a database needs: apt-get install python3-psycopg2") from error
+        raise Fault("cannot use a database: psycopg2 is not installed; use apt-get install python3-psycopg2") from error
     return Postgres(address, sync_each)
 
 

@@ -1,4 +1,4 @@
-"""A database of PostgreSQL that several fronts share: what is kept, whose each user is, and what is known of each front.
+"""A database of PostgreSQL that several fronts share: the store, the front of each user, and the state of each front.
 
 A front has a row, and as long as it is connected the advisory lock of its number. It writes for as long as its row does not say that it
 is dead, which each of its transactions sees to. Whoever takes a user from a front that has its lock no more, and does not answer, says
@@ -63,13 +63,13 @@ BYTES = extensions.new_type(psycopg2.BINARY.values, "BYTES", lambda value, curso
 
 
 class Line:
-    """A connection to a database, which is made anew when it was lost. Threads have it one at a time."""
+    """A connection to a database, which is made again when it was lost. Threads have it one at a time."""
 
     def __init__(self, url: str, settings: Mapping[str, str] = {}):
         try:
             self._ways = {**WAYS, **extensions.parse_dsn(url)}
         except psycopg2.Error as error:
-            raise StoreFault(f"that is no address of a database: {str(error).strip()}") from error
+            raise StoreFault(f"cannot read the address of the database: {str(error).strip()}") from error
         self._settings = "; ".join(f"set {name} = {value}" for name, value in {**SETTINGS, **settings}.items())
         self._lock = threading.RLock()
         self._connection: Any = None
@@ -158,7 +158,7 @@ class Postgres(Place):
         schema = TABLES + SCHEMA.replace(" blob", " bytea").replace(" without rowid", VACUUM)
         ((format,),) = self._owning.ask(f"{schema} select number from format", seconds=0)
         if format != FORMAT:
-            raise StoreFault(f"the database has format {format}, and this program has {FORMAT}")
+            raise StoreFault(f"the database must have format {FORMAT}, got {format}; use the keep that made it")
 
     def begin(self, address: str, has_header: bool) -> None:
         self.make()

@@ -1,4 +1,4 @@
-"""The users of a store, as `users --store` has them: they are the ones that may come in, where there are any."""
+"""The users of a store, which `users --store` changes. If a store has users, only these may connect."""
 import contextlib
 import os
 import pathlib
@@ -10,7 +10,7 @@ from keeping.accounts import Account, Accounts, accounts_at, accounts_in
 from keeping.maintenance import opened
 from keeping.place import is_address, shown_place
 from keeping.store import Row, Store, StoreFault
-from user_files import MAX_STORED, Fault, Files, Way, new_users, slip_of, warn_of_output, write_secrets
+from user_files import MAX_STORED, Fault, Files, User, Way, new_users, slip_of, warn_of_output, write_secrets
 
 ROWS_OF_A_STATEMENT = 500
 # A user of the name is put in its place. Who was removed has a date until what is kept is put aside, also who is a user anew.
@@ -30,6 +30,10 @@ def opened_roll(place: str, is_made: bool) -> "Iterator[Roll]":
         raise Fault(str(fault)) from fault
 
 
+def users_of(accounts: Accounts) -> List[User]:
+    return [User(name, each.token.decode()) for name, each in accounts.items()]
+
+
 class Roll:
     """The users of a store."""
 
@@ -44,15 +48,25 @@ class Roll:
 
     def make(self, names: Sequence[str], quota: Optional[Sequence[int]], way: Way, files: Files) -> None:
         """Adds users of a quota, or without one gives users new tokens. Their slips are written or printed."""
-        self._check(names, quota is None)
-        users = new_users(names)
-        slips = "\n".join(slip_of(user, way) for user in users)
-        quotas = {name: self._there[name].quota if quota is None else " ".join(map(str, quota)) for name in names}
-        accounts = {user.name: Account(user.token.encode(), quotas[user.name]) for user in users}
+        accounts = self._new(names, quota)
+        slips = "\n".join(slip_of(user, way) for user in users_of(accounts))
         write_secrets({files.slips: slips} if files.slips else {}, files.may_replace, lambda: self._put(accounts))
         if not files.slips:
             print(slips, end="", flush=True)
             warn_of_output(sys.stdout, "--slips")
+
+    def add(self, names: Sequence[str], quota: Optional[Sequence[int]]) -> None:
+        """Does the same without slips."""
+        self._put(self._new(names, quota))
+
+    def _new(self, names: Sequence[str], quota: Optional[Sequence[int]]) -> Accounts:
+        self._check(names, quota is None)
+        quotas = {name: self._there[name].quota if quota is None else " ".join(map(str, quota)) for name in names}
+        return {user.name: Account(user.token.encode(), quotas[user.name]) for user in new_users(names)}
+
+    def users(self) -> List[User]:
+        """The users by name, with their tokens, as they were when the store was opened."""
+        return users_of(self._there)
 
     def put(self, file: str) -> None:
         """Adds the users of a file, or puts them in the place of those of the same names."""

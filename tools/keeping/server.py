@@ -1,4 +1,4 @@
-"""The server that is owned: a child that is ended with its parent, whatever ends that."""
+"""The server of a front: a child process that ends with the front, however that ends."""
 import asyncio
 import contextlib
 import hashlib
@@ -27,16 +27,16 @@ class Words:
     """The command line of a server: its program, and the file of users, which is not handed on."""
 
     def __init__(self, words: Sequence[str]):
-        """Raises ValueError if they are none of a server to be owned."""
+        """Raises ValueError if they are not those of a server."""
         if len(words) < 2 or words[1] != "serve":
-            raise ValueError("say the server behind --, such as bin/ljserve serve --users FILE --workers 4 --pool queue")
+            raise ValueError("the server must follow --; use -- bin/ljserve serve --users FILE --workers 4 --pool queue")
         for option in OWN:
             if option in words:
-                raise ValueError(f"leave out {option}: it is said to the server by what begins it")
+                raise ValueError(f"{option} must not be among the words of the server: keep sets it")
         if words.count("--users") > 1 or words[-1] == "--users":
-            raise ValueError("say --users FILE once behind --")
+            raise ValueError("--users must come once among the words of the server, with a FILE")
         if shutil.which(words[0]) is None:
-            raise ValueError(f"there is no program {words[0]}")
+            raise ValueError(f"cannot start {words[0]}: there is no such program")
         at = words.index("--users") if "--users" in words else len(words)
         self.program, self.users = words[0], "".join(words[at + 1 : at + 2])
         self._before, self._behind = list(words[:at]), list(words[at + 2 :])
@@ -100,18 +100,23 @@ async def begin(words: Words, quota: str) -> Server:
 
 
 async def output_of(program: str, word: str, sent: bytes, seconds: float) -> bytes:
-    """What a program prints that is called with a word, or nothing if it does not end in time."""
-    try:
-        process = await begun([program, word], stdin=subprocess.PIPE, stdout=subprocess.PIPE, stderr=subprocess.DEVNULL)
-    except OSError:
-        return b""
-    try:
-        out, _ = await asyncio.wait_for(process.communicate(sent), seconds)
-    except asyncio.TimeoutError:
-        return b""
-    finally:
-        kill_group(process)
-    return out
+    """What a program prints that is called with a word, or nothing if it does not end in time. It has ended in any case."""
+    with open(os.memfd_create("sent"), "w+b") as source, open(os.memfd_create("printed"), "w+b") as printed:
+        source.write(sent)
+        source.seek(0)
+        try:
+            process = await begun([program, word], stdin=source, stdout=printed, stderr=subprocess.DEVNULL)
+        except OSError:
+            return b""
+        try:
+            await asyncio.wait_for(process.wait(), seconds)
+        except asyncio.TimeoutError:
+            return b""
+        finally:
+            kill_group(process)
+            await process.wait()
+        printed.seek(0)
+        return printed.read()
 
 
 async def version_of(program: str) -> str:

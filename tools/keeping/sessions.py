@@ -1,4 +1,4 @@
-"""A user's sessions: where each of them is, and the commands by which one is read, and put back at another server to the bit.
+"""A user's sessions: the state of each, and the commands that read one and load it exactly at another server.
 
 A LOAD begins at step 0, so a session that was put back has an offset, and each of its branches one of its own: how far its step is
 beyond the server's. By it the steps in replies are changed, so that each is as if no server had ended.
@@ -328,7 +328,7 @@ def frames_of(session: Session, direction: int) -> Task[Frames]:
 
 
 def measured(session: Session) -> Task[bytes]:
-    """What MEASURE tells behind the step, by which the offset is set: a server that was told the session anew counts from 0."""
+    """What MEASURE tells behind the step, by which the offset is set: a server that has loaded the session again counts from 0."""
     (reply,) = yield from asked([b"MEASURE %s\n" % session.name])
     _, _, _, step, *others = reply.split()
     session.place.offset = session.place.step - int(step)

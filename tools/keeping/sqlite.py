@@ -27,7 +27,7 @@ class Sqlite:
             self._base.execute("pragma synchronous=full")
             (version,) = self._base.execute("pragma user_version").fetchone()
             if version > FORMAT:
-                raise StoreFault(f"{path} has format {version}, and this program has {FORMAT}")
+                raise StoreFault(f"{path} must have format {FORMAT}, got {version}; use the keep that made it")
             if version < FORMAT:
                 self._base.executescript(f"begin immediate; {SCHEMA} pragma user_version={FORMAT}; commit")
                 sync_folder(path.parent)

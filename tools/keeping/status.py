@@ -1,4 +1,4 @@
-"""How the status of a front is told."""
+"""The status of a front, as it is shown."""
 import json
 import pathlib
 import time
@@ -21,7 +21,7 @@ def statuses_of(place: str) -> List[Known]:
     except ValueError as error:
         raise Fault(f"cannot read {place}: it has no status") from error
     if not all("servers" in known for known in statuses):
-        raise Fault(f"cannot read {place}: its status is of a keep of before, which may still run there: begin this one in its place")
+        raise Fault(f"cannot read {place}: its status is of an older keep, which may still run there; start this keep instead")
     return statuses
 
 
@@ -33,7 +33,7 @@ def tell_status(place: str) -> int:
         print("no front runs")
     for known in statuses:
         try:
-            answer = answer_of(known["at"], known["has_header"])
+            answer = answer_of(known["at"], known["has_header"], known.get("has_tls", False))
         except OSError:
             answer = b""
         is_fine = is_fine and answer == DENIED and not any(each["state"] == "stopped" for each in known["users"].values())

@@ -1,4 +1,4 @@
-"""What is kept of users, in a database: for each a snapshot, and the records of what was done since.
+"""The store in a database: for each user a snapshot, and the records of the commands since.
 
 A snapshot has a part for each session and each branch, with the number of the record that made it. Records are numbered from 1. The
 hash of each is over the one before it too, and that of the snapshot over all of its parts, so a row that was changed or is missing is

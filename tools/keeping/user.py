@@ -1,5 +1,5 @@
-"""One user: whose turn it is, which items are on their way, what was replied, what is written before it is told, and when a snapshot
-of its sessions is taken.
+"""One user: whose turn it is, which items are on their way, which replies wait until they are written, and when a snapshot of the
+sessions is taken.
 
 It does no reading and writing of its own, and knows ends (`ends`), the store and its writer by the methods that it calls.
 """
@@ -7,11 +7,12 @@ import asyncio
 import time
 from collections import deque
 from functools import partial
-from typing import TYPE_CHECKING, Callable, Deque, Dict, List, Optional
+from typing import TYPE_CHECKING, Callable, Deque, Dict, List, Optional, Set
 
 from keeping.allowance import Allowance
 from keeping.ends import Client, Link
 from keeping.items import Item, Told, words_of
+from keeping.local import LocalClient
 from keeping.sessions import KEPT, Long, NoMemory, Otherwise, Sessions, Task, drop_all, put_back, read_all, shown, tell_again, wait_for
 from keeping.store import Change, Damaged, Kept, Snapshot, Store, StoreFault
 from keeping.writer import Writer
@@ -33,6 +34,7 @@ BUDGETS_TO_WAIT = 4
 # What found no memory is put back again after so long.
 SECONDS_BETWEEN_TRIES = 1.0
 Note = Callable[..., None]
+Hear = Callable[[Item, bytes], None]
 
 
 class User:
@@ -44,14 +46,21 @@ class User:
         self.seat: Optional[Seat] = None
         self.away_since = time.monotonic()
         self.allowance: Optional[Allowance] = None
+        # Is told each command with its reply, if somebody wants to know.
+        self.on_reply: Optional[Hear] = None
         self.waiting: Deque[Client] = deque()
         self.client: Optional[Client] = None
+        # Clients within this process: all, those that wait for their transactions, and the one whose transaction is under way.
+        self.locals: Set[LocalClient] = set()
+        self._asking: Deque[LocalClient] = deque()
+        self.local: Optional[LocalClient] = None
         self.link: Optional[Link] = None
         self.is_ready = self.is_settling = False
         self.sessions = Sessions()
         self._seq, self._parts = kept.seq, {part.id: part for part in kept.parts}
         self._store, self._writer, self._note, self._renew = store, writer, note, renew
         self._task: Optional[Task[None]] = None
+        self._reading: Optional[Task[None]] = None
         self._burst: List[bytes] = []
         self._heard: List[bytes] = []
         self._burst_sent = 0
@@ -62,6 +71,7 @@ class User:
         self._bytes_sent = 0
         self._written: List[Told] = []
         self._held: List[bytes] = []
+        self._ended: List[LocalClient] = []
         self._bytes_held = 0
         self._snapshot: Optional[Snapshot] = None
         self._is_writing = self._is_near_an_end = self._is_over = self._is_to_try_again = False
@@ -88,6 +98,17 @@ class User:
         """A client is gone. What was sent of it is still done."""
         if client in self.waiting:
             self.waiting.remove(client)
+        self.go_on()
+
+    def ask_for_turn(self, local: LocalClient) -> None:
+        """A client within this process asks for a transaction, which is done behind all that has come."""
+        local.behind = (self.client, self.client.position() if self.client is not None else 0)
+        self._asking.append(local)
+        self.go_on()
+
+    def read(self, task: Task[None]) -> None:
+        """Has a task that changes nothing be done between two commands, where no steps are pending, in place of one that still waits."""
+        self._reading = task
         self.go_on()
 
     def begin(self, link: Link, is_new: bool) -> None:
@@ -140,6 +161,10 @@ class User:
         self.stopped = why
         self._again.clear()
         self.abort_clients()
+        for local in [*self.locals]:
+            local.abort(f"{self.name} is not let in: {why}")
+        self.local = None
+        self._asking.clear()
         self._note("stopped", user=self.name, why=why)
 
     def abort_clients(self, has_right: bool = False) -> None:
@@ -160,12 +185,13 @@ class User:
             self._send()
             self._answer_last()
             self._keep()
-            if self.link is None or self._sent or not (self._begin_task() or self._end_client() or self._admit()):
+            if self.link is None or self._sent or not (self._begin_task() or self._change_turn() or self._end_client() or self._admit()):
                 break
         if self.link is not None and not self.link.left and not self._sent and len(self._heard) == self._burst_sent:
             self._renew_link()
         if self.link is not None:
-            self.link.hold(self._bytes_held > MAX_BYTES or self.client is not None and self.client.is_full)
+            is_full = self.local is None and self.client is not None and self.client.is_full
+            self.link.hold(self._bytes_held > MAX_BYTES or is_full)
 
     def _send(self) -> None:
         """Sends items, as many as may be on their way."""
@@ -174,7 +200,7 @@ class User:
             if link is not None:
                 self._send_burst(link)
             return
-        if not self.is_ready or self.is_settling or self._is_due():
+        if not self.is_ready or self.is_settling and self.local is None or self._is_due() or self._is_to_read():
             return
         items = []
         most = 1 if self._is_near_an_end else MAX_SENT
@@ -192,13 +218,43 @@ class User:
     def _next(self) -> Optional[Item]:
         if self._long is not None:
             return None if self._sent else self._long.next_piece(self.sessions, time.monotonic())
-        item = self._again.popleft() if self._again else self._of_client()
+        item = self._again.popleft() if self._again else self._of_clients()
         if item is None or self._is_near_an_end:
             return item and item._replace(last_reply=self.sessions.refusal(item.words) or item.last_reply)
         if item.words and item.words[0] == b"ADVANCE" and (long := Long.of(item, self.sessions)):
             self._long = long
             return long.next_piece(self.sessions, time.monotonic())
         return item
+
+    def _of_clients(self) -> Optional[Item]:
+        """The next item of the client whose turn it is: none where a transaction begins when all before it is done."""
+        if self.local is not None:
+            return self.local.next_item()
+        return None if self._is_next() else self._of_client()
+
+    def _is_next(self) -> bool:
+        """Whether a transaction is what comes next: no item of the client that came before it is left."""
+        if not self._asking:
+            return False
+        client, position = self._asking[0].behind
+        return client is None or client is not self.client or not client.has_item_before(position)
+
+    def _change_turn(self) -> bool:
+        """Has a transaction begin or end, if it is its turn or all of it is done. Both are where nothing is on its way."""
+        if self.local is not None:
+            if self._again or self._long is not None or not self.local.has_ended():
+                return False
+            self.local.end(self.number)
+            self._ended.append(self.local)
+            self.local = None
+            return True
+        if not self._is_next() or not self.is_ready or self.is_settling or not self._is_idle():
+            return False
+        local = self._asking.popleft()
+        if not local.is_lost:
+            self.local = local
+            local.begin(self.number)
+        return True
 
     def _of_client(self) -> Optional[Item]:
         """The next item of the client, whose connection ends in its place if it asks for more steps than are left today."""
@@ -231,6 +287,8 @@ class User:
                 self._is_near_an_end = self.sessions.are_near_an_end()
         elif self.allowance is not None:
             self.allowance.gives_back(item.words)
+        if self.on_reply is not None:
+            self.on_reply(item, reply)
         self._hold(reply)
         self._answer_last()
 
@@ -244,37 +302,42 @@ class User:
             self._hold(self._sent.popleft().last_reply)
 
     def _keep(self) -> None:
-        """Has what was replied written, and tells it then."""
-        has_change = bool(self._written or self._snapshot)
-        if self._is_writing or not (has_change or self._held and self._writer.may_tell()):
+        """Has what was replied written, and tells it then. Within a transaction it is told at once, and written at its end."""
+        has_change = self.local is None and bool(self._written or self._snapshot)
+        is_told = bool(self._held or self._ended) and (self.local is not None or self._writer.may_tell())
+        if self._is_writing or not (has_change or is_told):
             return
         held, self._held = self._held, []
+        ended, self._ended = self._ended, []
         if not has_change:
-            self._tell(held)
+            self._tell(held, ended)
             return
         change = Change(self.name, self._written, self._snapshot)
         self._written, self._snapshot, self._is_writing = [], None, True
-        if self._writer.write(change, partial(self._is_written, held)):
-            self._tell(held)
+        if self._writer.write(change, partial(self._note_written, held, ended)):
+            self._tell(held, ended)
 
-    def _is_written(self, held: List[bytes]) -> None:
-        self._tell(held)
+    def _note_written(self, held: List[bytes], ended: List[LocalClient]) -> None:
+        self._tell(held, ended)
         self.go_on()
 
-    def _tell(self, held: List[bytes]) -> None:
-        """Tells replies, before which all is written that they are about."""
+    def _tell(self, held: List[bytes], ended: List[LocalClient]) -> None:
+        """Tells replies, and that transactions have ended, before which all is written that they are about."""
         self._is_writing = False
         self._bytes_held -= sum(map(len, held))
-        if self.client is not None and held:
-            self.client.tell(b"".join(held))
+        client = self.local or self.client
+        if client is not None and held:
+            client.tell(b"".join(held))
+        for local in ended:
+            local.note_written()
 
     def _is_quiet(self) -> bool:
         """Whether nothing is on its way, nothing is being written, and nothing waits to be told."""
-        return not (self._sent or self._task or self._is_writing or self._written or self._held or self._snapshot)
+        return not (self._sent or self._task or self._is_writing or self._written or self._held or self._ended or self._snapshot)
 
     def _is_idle(self) -> bool:
         """Whether nothing more is to be done of what was taken."""
-        return self._is_quiet() and not self._again and self._long is None
+        return self._is_quiet() and not self._again and self._long is None and self.local is None
 
     def _end_client(self) -> bool:
         """Ends the connection of a client that has no more items. Then a snapshot is wanted."""
@@ -303,12 +366,19 @@ class User:
     # What is put back, and snapshots.
 
     def _begin_task(self) -> bool:
-        """Begins to put all back, or to take a snapshot, if that is due and nothing is on its way."""
-        if self._task is not None or (not self._is_due() if self.is_ready else self._is_writing or self._timer is not None):
+        """Begins to put all back, or to take a snapshot or to read, if that is due and nothing is on its way."""
+        if self._task is not None:
             return False
-        self._task = self._take_snapshot() if self.is_ready else self._put_back()
-        self._step(None)
-        return True
+        if not self.is_ready:
+            self._task = None if self._is_writing or self._timer is not None else self._put_back()
+        elif self._is_due():
+            self._task = self._take_snapshot()
+        elif self._is_to_read():
+            self._task, self._reading = self._reading, None
+        if self._task is not None:
+            self._step(None)
+            return True
+        return False
 
     def _step(self, replies: Optional[List[bytes]]) -> None:
         """Has the task go on to what it asks next, or to its end."""
@@ -361,8 +431,8 @@ class User:
         self._note("ready", user=self.name)
 
     def _is_due(self) -> bool:
-        """Whether a snapshot is to be taken as soon as nothing is on its way."""
-        if not (self._is_over or self._is_wanted):
+        """Whether a snapshot is to be taken as soon as nothing is on its way. Within a transaction none is."""
+        if self.local is not None or not (self._is_over or self._is_wanted):
             return False
         if self.number == self._seq and (self._long is None or self._long.left == self._long.left_at_snapshot):
             return False
@@ -370,6 +440,12 @@ class User:
             return True
         most = max(self._seconds / SECONDS_OF_BUDGET, len(self.records) / MAX_RECORDS, self._bytes / MAX_RECORD_BYTES)
         return most > BUDGETS_TO_WAIT
+
+    def _is_to_read(self) -> bool:
+        """Whether something is to be read as soon as nothing is on its way. Within a transaction nothing is."""
+        if self._reading is None or self.local is not None or self._long is not None or self._again or self.is_settling:
+            return False
+        return not self.sessions.have_pending()
 
     def _take_snapshot(self) -> Task[None]:
         """Reads what has changed, and has it written in place of the records since the snapshot before."""
@@ -392,7 +468,7 @@ class User:
 
     def is_settled(self) -> bool:
         """Whether a server may end without that anything is lost but time."""
-        return bool(self.stopped) or self.link is None or self._is_quiet() and not self._is_due()
+        return bool(self.stopped) or self.link is None or self.local is None and self._is_quiet() and not self._is_due()
 
     def known(self) -> Dict[str, object]:
         """What the status has of it."""
@@ -409,11 +485,11 @@ class User:
 
     def is_away(self) -> bool:
         """Whether it has no connection, and nothing is on its way."""
-        return self.client is None and not self.waiting and self.link is not None and self.is_ready and self._is_idle()
+        return self.client is None and not (self.waiting or self.locals) and self.link is not None and self.is_ready and self._is_idle()
 
     def is_leaving(self) -> bool:
         """Whether it is away, or will be when a snapshot is taken, or was stopped."""
-        return self.client is None and not self.waiting and not self.sessions.have_pending()
+        return self.client is None and not (self.waiting or self.locals) and not self.sessions.have_pending()
 
     def is_kept(self) -> bool:
         """Whether all is in its snapshot, so that it may be forgotten while it is away."""

@@ -1,4 +1,4 @@
-"""When changes are written, and when they are on the disk: before the replies are told, or within a second."""
+"""Writes changes, and has them on the disk before the replies are sent, or within a second."""
 import asyncio
 import contextlib
 import queue
@@ -46,7 +46,7 @@ class Writer:
         try:
             self._store.write([change])
         except StoreFault as fault:
-            self._has_failed_by(str(fault))
+            self._note_failure(str(fault))
             return False
         self._is_dirty = True
         return True
@@ -73,7 +73,7 @@ class Writer:
         try:
             self._timed(lambda: self._store.write([work.change for work in works]))
         except Exception as error:
-            self._loop.call_soon_threadsafe(self._has_failed_by, str(error) or repr(error))
+            self._loop.call_soon_threadsafe(self._note_failure, str(error) or repr(error))
             return
         self._loop.call_soon_threadsafe(self._are_done, works)
 
@@ -92,7 +92,7 @@ class Writer:
             except Exception as error:
                 self._loop.call_exception_handler({"message": "what follows a write", "exception": error})
 
-    def _has_failed_by(self, why: str) -> None:
+    def _note_failure(self, why: str) -> None:
         if not self._has_failed:
             self._has_failed = True
             self._fail(why)
@@ -106,7 +106,7 @@ class Writer:
                 try:
                     await asyncio.get_running_loop().run_in_executor(None, self._timed, self._store.base.sync)
                 except StoreFault as fault:
-                    self._has_failed_by(str(fault))
+                    self._note_failure(str(fault))
 
     def close(self) -> None:
         """Waits until what was begun is written and on the disk."""
