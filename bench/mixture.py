@@ -1,4 +1,4 @@
-"""Two species of atoms, half of each: how two of the first interact, one of each, and two of the second."""
+"""Two species of atoms, half of each: how two atoms interact by their species."""
 from __future__ import annotations
 
 import math

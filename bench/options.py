@@ -1,4 +1,4 @@
-"""The words of a measurement's command line."""
+"""The command line of a measurement."""
 from __future__ import annotations
 
 import argparse
@@ -11,7 +11,7 @@ def path_of(program: str) -> str:
     """The whole path of a program, which may be one on the PATH."""
     found = shutil.which(program)
     if found is None:
-        raise argparse.ArgumentTypeError(f"there is no program {program}")
+        raise argparse.ArgumentTypeError(f"must be a program, got {program}")
     return os.path.abspath(found)
 
 
@@ -43,11 +43,11 @@ class Parser(argparse.ArgumentParser):
             if not {"-h", "--help"}.isdisjoint(parts):
                 self.print_help()
                 self.exit()
-            self.error("no `--` stands behind the words of the program")
+            self.error("the words of the program must be followed by `--`")
         at = parts.index("--")
         options = self.parse_args(parts[at + 1 :])
         if at == 0:
-            self.error("no program stands before the `--`")
+            self.error("a program must stand before the `--`")
         if shutil.which(parts[0]) is None:
-            self.error(f"there is no program {parts[0]}")
+            self.error(f"a program must stand before the `--`, got {parts[0]}")
         return parts[:at], options

@@ -46,5 +46,5 @@ def rate_of(runs: Sequence[Sequence[float]], piece: float, near: float, far: flo
     """The rate of all runs that have three distances in the range."""
     rates: List[float] = [rate for run in runs if (rate := rate_within(run, piece, near, far)) is not None]
     if len(rates) < 2:
-        raise ValueError(f"too few runs have three distances from {near} to {far}")
+        raise ValueError(f"at least two runs must have three distances from {near} to {far}, got {len(rates)}")
     return Rate(statistics.fmean(rates), statistics.stdev(rates) / math.sqrt(len(rates)))

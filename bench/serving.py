@@ -1,4 +1,4 @@
-"""The program as `run` and as a server, and conversations with it, for measurements."""
+"""Starts the program as `run` and as a server, and talks to it, for measurements."""
 from __future__ import annotations
 
 import os
@@ -169,7 +169,7 @@ class Calls(NamedTuple):
 
 def calls_of(child: Child, work: Callable[[], object]) -> Optional[List[Calls]]:
     """The calls of each thread of a program while something is done, in the order in which they began, as strace tells them. None
-    where it is not on the PATH, or cannot follow the program."""
+    if it is not on the PATH, or cannot follow the program."""
     if shutil.which("strace") is None:
         return None
     threads = threads_of(child)

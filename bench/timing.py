@@ -1,4 +1,4 @@
-"""Best-of-n timing: rounds in turn and the best of each, what was found as JSON beside the table that is printed, and streams to time.
+"""Best-of-n timing: rounds in turn, the best of each, the results as JSON beside the printed table, and streams to time.
 
 A figure that is told is the best of some rounds, in each of which all ways run once. `--json FILE` keeps each with the rounds that it
 is the best of, the command, the program with the hashes of its sources (bin/measured.py), and the machine: its processor and cores, the
@@ -54,8 +54,8 @@ class Host(NamedTuple):
 
 
 def add_words(parser: argparse.ArgumentParser, rounds: int) -> None:
-    """The options of a measurement that has so many rounds where none are said."""
-    parser.add_argument("--rounds", metavar="N", type=at_least_one, default=rounds, help=f"how many rounds: {rounds}")
+    """The options of a measurement that has so many rounds by default."""
+    parser.add_argument("--rounds", metavar="N", type=at_least_one, default=rounds, help=f"number of rounds (default: {rounds})")
     add_file(parser)
 
 
@@ -67,7 +67,7 @@ def add_file(parser: argparse.ArgumentParser) -> None:
 def at_least_one(word: str) -> int:
     """The number that a word says."""
     if not word.isdecimal() or int(word) < 1:
-        raise argparse.ArgumentTypeError(f"{word} is no whole number from 1 on")
+        raise argparse.ArgumentTypeError(f"must be a whole number from 1 on, got {word}")
     return int(word)
 
 

@@ -1,1 +1,1 @@
-"""Trials of `tools/keep`: what `bench/keep` and the tests of the tool share."""
+"""Trials of `tools/keep`, for `bench/keep` and the tests of the tool."""

@@ -1,4 +1,4 @@
-"""What a user may be told, by the reference. Of commands whose replies were lost it is not known which were done."""
+"""The replies that a user may get, by the reference. If replies were lost, it is unknown which of their commands were done."""
 import copy
 import io
 import sys

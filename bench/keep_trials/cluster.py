@@ -1,4 +1,4 @@
-"""A PostgreSQL of its own, whose databases are for trials alone. It ends with this process, whatever ends that."""
+"""A PostgreSQL whose databases are only for trials. It ends with this process, however that ends."""
 import contextlib
 import ctypes
 import glob

@@ -1,24 +1,29 @@
-"""What a front takes beside a server: commands one at a time, and many users at once."""
+"""The time of a front beside that of a server: commands one at a time, and many users at once."""
 import contextlib
 import pathlib
 import socket
 import statistics
+import sys
 import tempfile
 import time
 from concurrent.futures import ThreadPoolExecutor
-from typing import Dict, Iterator, List, Mapping, Sequence
+from functools import partial
+from typing import Callable, Dict, Iterator, List, Optional, Sequence
 
-from keep_trials.keeper import TOKEN, USUAL, Keeper, until
+from keep_trials.cluster import Cluster, missing
+from keep_trials.fronts import Fronts
+from keep_trials.keeper import TOKEN, TOOL, USUAL, Keeper, until
 from serving import processor_seconds
 from shared.loads import LOAD, LOADED
 from shared.program import end_of
 from shared.serving import begun, options_of, user_line
-from timing import Findings
+from timing import Findings, in_turn
 
-USERS = 62
+NAMES = [f"user{number}" for number in range(62)]
 SECONDS_OF_A_LESSON = 10
 ADVANCES_A_SECOND = 5
 COMMANDS = {"SHOW a 0": b"SHOW a 0\n", "ADVANCE a 1": b"ADVANCE a 1\n", "TUG a 0 1 0 0": b"TUG a 0 1 0 0\n"}
+Ways = Dict[str, Callable[[], Dict[str, float]]]
 
 
 class Talk:
@@ -50,29 +55,51 @@ class Talk:
         self._stream.close()
 
 
-def cost(found: Findings, program: str, syncs: Sequence[str], folder: pathlib.Path, commands: int) -> Iterator[str]:
-    """The lines that are printed."""
-    yield kept(found, "without the tool", of_server(program, commands))
+def ways_of(program: str, syncs: Sequence[str], folder: pathlib.Path, commands: int, before: Optional[str]) -> Ways:
+    """Each way to a server, and what measures it: that of `before` is another `tools/keep`."""
+    ways: Ways = {"without the tool": partial(of_server, program, commands)}
+    tools = {"": TOOL, **({", before": (sys.executable, before)} if before else {})}
     for sync in syncs:
-        with tempfile.TemporaryDirectory(dir=folder) as top:
-            names = [f"user{number}" for number in range(USERS)]
-            with Keeper(pathlib.Path(top), program, dict.fromkeys(names, USUAL), ["--sync", sync]) as keeper:
-                until(keeper.is_ready)
-                talk = Talk(keeper.raw(names[0]), names[0])
-                before = processor_seconds(keeper.child)
-                yield kept(found, f"--sync {sync}", of_talk(talk, commands))
-                spent = (processor_seconds(keeper.child) - before) / commands / len(COMMANDS)
-                yield f"--sync {sync}: processor time of the front {spent * 1e6:.0f} us a command"
-                talk.ask(b"DROP a\n", b"OK DROP a\n")
-                talk.end()
-                yield f"--sync {sync}: {of_lesson(keeper, names)}"
+        for which, tool in tools.items():
+            ways[f"--sync {sync}{which}"] = partial(of_folder, program, sync, tool, folder, commands)
+    if not missing():
+        ways["over PostgreSQL"] = partial(of_database, program, folder, commands)
+    return ways
 
 
-def kept(found: Findings, way: str, medians: Mapping[str, float]) -> str:
-    """Keeps what commands take one at a time, and tells it."""
-    for name, median in medians.items():
-        found.add(f"{way}, {name}", "us", median)
-    return f"{way}: one at a time " + ", ".join(f"{name} {median:.0f} us" for name, median in medians.items())
+def cost(found: Findings, ways: Ways, rounds: int) -> Iterator[str]:
+    """Measures all ways in turn, keeps the least of each figure, and tells it."""
+    for way, measured in in_turn(ways, rounds, to_and_fro=True).items():
+        for name in measured[0]:
+            unit = "ms" if name.startswith("a lesson") else "us"
+            least = found.add_best(f"{way}, {name}", unit, [each[name] for each in measured])
+            yield f"{way}: {name} {least:.{2 if unit == 'ms' else 0}f} {unit}"
+
+
+def of_folder(program: str, sync: str, tool: Sequence[str], folder: pathlib.Path, commands: int) -> Dict[str, float]:
+    """A front over a folder."""
+    with tempfile.TemporaryDirectory(dir=folder) as top:
+        with Keeper(pathlib.Path(top), program, dict.fromkeys(NAMES, USUAL), ["--sync", sync], tool) as keeper:
+            return of_keeper(keeper, commands)
+
+
+def of_database(program: str, folder: pathlib.Path, commands: int) -> Dict[str, float]:
+    """A front over a PostgreSQL of its own."""
+    with tempfile.TemporaryDirectory(dir=folder) as top, contextlib.closing(Cluster()) as cluster:
+        with Fronts(pathlib.Path(top), cluster, program, dict.fromkeys(NAMES, USUAL), count=1) as fronts:
+            return of_keeper(fronts.each[0], commands)
+
+
+def of_keeper(keeper: Keeper, commands: int) -> Dict[str, float]:
+    """Commands one at a time, the processor time of the front for each, and how long users wait who work at the same time."""
+    until(keeper.is_ready)
+    talk = Talk(keeper.raw(NAMES[0]), NAMES[0])
+    before = processor_seconds(keeper.child)
+    told = of_talk(talk, commands)
+    told["processor time of a command"] = (processor_seconds(keeper.child) - before) / commands / len(COMMANDS) * 1e6
+    talk.ask(b"DROP a\n", b"OK DROP a\n")
+    talk.end()
+    return {**told, **of_lesson(keeper, NAMES)}
 
 
 def of_server(program: str, commands: int) -> Dict[str, float]:
@@ -102,15 +129,12 @@ def times_of_a_lesson(talk: Talk, begin: float) -> List[float]:
     return times
 
 
-def of_lesson(keeper: Keeper, names: Sequence[str]) -> str:
-    """How long replies take while all users ask for some ADVANCEs a second, each at times of its own."""
+def of_lesson(keeper: Keeper, names: Sequence[str]) -> Dict[str, float]:
+    """How many milliseconds replies take while all users ask for some ADVANCEs a second, each at times of its own."""
     talks = [Talk(keeper.raw(name), name) for name in names]
     begin = time.monotonic() + 1
     with ThreadPoolExecutor(len(names)) as threads:
         begins = [begin + number / len(names) / ADVANCES_A_SECOND for number in range(len(names))]
-        times = [each for told in threads.map(times_of_a_lesson, talks, begins) for each in told]
-        spent = time.monotonic() - begin
+        times = [each / 1000 for told in threads.map(times_of_a_lesson, talks, begins) for each in told]
         list(threads.map(Talk.end, talks))
-    high = statistics.quantiles(times, n=100)[-1]
-    rate = f"{len(times) / spent:.0f} ADVANCEs a second of {len(names)} users"
-    return f"{rate}, median {statistics.median(times) / 1000:.2f} ms, 99 of 100 within {high / 1000:.1f} ms"
+    return {"a lesson, median": statistics.median(times), "a lesson, 99 of 100": statistics.quantiles(times, n=100)[-1]}

@@ -1,4 +1,4 @@
-"""Fronts that share a database, at any of which a user may come in."""
+"""Fronts that share a database; a user may connect to any of them."""
 import contextlib
 import itertools
 import json

@@ -1,4 +1,4 @@
-"""A front that owns a server, in a folder of its own, and whose ends can be had."""
+"""A front with its server and its folder, which trials start, kill and end."""
 import contextlib
 import json
 import os
@@ -31,7 +31,7 @@ def until(holds: Callable[[], Any]) -> Any:
     end = time.monotonic() + SECONDS
     while not (found := holds()):
         if time.monotonic() > end:
-            raise TimeoutError("it does not come to hold")
+            raise TimeoutError("it must hold in time, and does not")
         time.sleep(0.01)
     return found
 

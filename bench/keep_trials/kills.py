@@ -1,4 +1,4 @@
-"""Kills of servers and fronts while users work: none of them may be told anything that cannot be."""
+"""Kills servers and fronts while users work: no user may get a reply that is not possible."""
 import contextlib
 import pathlib
 import random
@@ -33,7 +33,7 @@ OFTEN = patched(
 
 def kill(program: str, kind: str, kills: int, seed: str, options: Sequence[str] = (), is_often: bool = False) -> Dict[str, int]:
     """Has users work while so many kills of a kind happen, with many snapshots or as many as is usual. Returns what was done. Raises
-    what a user found at fault."""
+    the first fault that a user found."""
     users = {name: quota_of(seed, name) for name in (f"user{number}" for number in range(USERS))}
     rnd, tool = random.Random(seed), OFTEN if is_often else TOOL
     with tempfile.TemporaryDirectory() as top:

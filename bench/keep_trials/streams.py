@@ -1,4 +1,4 @@
-"""The streams of conformance/ through a front, with kills of the server in the middle of each."""
+"""Sends the streams of conformance/ through a front, and kills the server in the middle of each."""
 import contextlib
 import pathlib
 import socket
@@ -46,7 +46,7 @@ class Player:
                 self._socket.shutdown(socket.SHUT_WR)
 
     def found(self) -> str:
-        """What is told otherwise than it should be, when all is told."""
+        """The wrong replies, when all have come."""
         self._reader.join(SECONDS_OF_A_STREAM)
         self._socket.close()
         told = bytes(self._told)

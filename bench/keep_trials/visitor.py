@@ -1,4 +1,4 @@
-"""A user with random commands, each reply of which is held against an account."""
+"""A user with random commands; each reply is compared with an account."""
 import contextlib
 import random
 import socket
@@ -148,7 +148,7 @@ class Visitor(threading.Thread):
             self.commands += 1
 
     def end(self) -> None:
-        """Ends it. Raises what it found at fault."""
+        """Ends it. Raises the fault that it found."""
         self.is_to_end = True
         self.join(SECONDS)
         if self.fault:

@@ -45,7 +45,7 @@ class Liquid(NamedTuple):
         return f"{(len(self.present) / DENSITY) ** (1 / 3):.9f}"
 
     def in_order(self, order: Order) -> Liquid:
-        return self._replace(before=list(order.for_server(self.before)), present=list(order.for_server(self.present)))
+        return self._replace(before=list(order._for_server(self.before)), present=list(order._for_server(self.present)))
 
     def in_space(self) -> Liquid:
         """The same atoms in the order in which the client has them."""

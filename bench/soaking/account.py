@@ -1,4 +1,4 @@
-"""What `run` is documented to reply to a stream of bytes: places and what is measured are any numbers."""
+"""The documented replies of `run` to a stream of bytes, with any numbers for places and measurements."""
 import re
 from dataclasses import dataclass, field
 from typing import Callable, Dict, Iterator, List, Optional, Sequence, Tuple, Union

@@ -1,4 +1,4 @@
-"""A `run` of one user, and how many tiles a server computes for the same items."""
+"""The replies of `run` to one user, and the number of tiles of a server for the same items."""
 import os
 import select
 import subprocess

@@ -1,4 +1,4 @@
-"""A connection to a server, as a random user has it."""
+"""A connection of a random user to a server."""
 import random
 import select
 import socket

@@ -1,4 +1,4 @@
-"""What a connection is to say, and how it is to end."""
+"""Plans of connections: what they send, and how they end."""
 import itertools
 import random
 from typing import List, Optional, Tuple

@@ -1,4 +1,4 @@
-"""Processes that work side by side, and the faults that they find."""
+"""Parallel processes, and the faults that they find."""
 import multiprocessing
 from multiprocessing.connection import Connection as Pipe
 from typing import Any, Callable, Iterable, List, Sequence, Tuple

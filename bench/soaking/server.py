@@ -1,4 +1,4 @@
-"""The server of a soak, and what it holds."""
+"""The server of a soak, and its memory, threads and descriptors."""
 import argparse
 import select
 import socket
@@ -39,7 +39,7 @@ class Server:
         try:
             self.child, self.port = begun(options.program, lines, options_of(options.workers, bound, options.pool))
         except NotBegun as ended:
-            sys.exit(f"soak: the server does not listen: {ended}")
+            sys.exit(f"soak: cannot start the server: it does not listen ({ended})")
 
     def is_there(self) -> bool:
         return self.child.poll() is None

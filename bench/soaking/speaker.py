@@ -1,4 +1,4 @@
-"""Random items of a user, and items that ask where a user stands."""
+"""Random items of a user, and items that ask for the state of the sessions."""
 import random
 from typing import Callable, List, Tuple, Union
 

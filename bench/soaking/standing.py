@@ -1,4 +1,4 @@
-"""Where a user stands."""
+"""The state of the sessions of a user."""
 from typing import List, Optional
 
 from shared.program import Quota

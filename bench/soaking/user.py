@@ -1,4 +1,4 @@
-"""Random users, each of which has connections one after the other and compares what it is told."""
+"""Random users: each has connections one after the other, and compares the replies."""
 import argparse
 import os
 import random
@@ -256,7 +256,7 @@ class User:
 
     def keep(self, plan: Optional[Plan], connection: Optional[Connection]) -> None:
         """Keeps the dialogue of a fault in files: what the user is known to have said, what it may have said after that, and
-        the connection at fault."""
+        the connection of the fault."""
         folder = os.path.join(self.job.folder, f"user_{self.number}")
         os.makedirs(folder, exist_ok=True)
         parts = {"known": b"".join(self.standing.known), "tail": b"".join(self.standing.tail)}

@@ -27,7 +27,7 @@ def first_words(item: bytes) -> List[bytes]:
 
 
 def reply_end(data: bytes, at: int) -> int:
-    """Where the reply that begins at `at` ends, or -1 where it is not whole yet."""
+    """Where the reply that begins at `at` ends, or -1 if it is not whole yet."""
     end = data.find(b"\n", at)
     if end < 0:
         return -1
