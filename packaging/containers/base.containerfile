@@ -1,0 +1,3 @@
+# What mmdebstrap has made of Debian's packages.
+FROM scratch
+ADD base.tar /
