@@ -48,7 +48,7 @@ def options_of(words: Optional[Sequence[str]], text: str, steps: int, piece: int
     if options.server and not options.user:
         parser.error("--server needs --user")
     if options.server and not options.server.rpartition(":")[2].isdecimal():
-        parser.error(f"{options.server} is no HOST:PORT")
+        parser.error(f"--server must be HOST:PORT, got {options.server}")
     prepare_picture(options.plot)
     return options
 
