@@ -12,13 +12,13 @@ import pytest
 from blocks import TOP
 
 import ljclient
-from ljclient import refusals, units
+from ljclient import refusals
 
 pytest.importorskip("sphinx", reason="sphinx is not installed")
 pytest.importorskip("myst_parser", reason="myst-parser is not installed")
 
 SECONDS = 300
-SESSION = "clients/python/ljclient/session.py"
+CHANGES = "clients/python/ljclient/changes.py"
 
 
 def made(folder: Any, make: Any = TOP / "docs" / "api" / "make") -> Any:
@@ -57,10 +57,11 @@ def test_each_method_of_users_and_sessions_is_there(page: Any) -> None:
     users = "advance ask ask_all close closed load load_mix load_saved session sessions".split()
     sessions = """
         advance start reverse branch restore forget saved heat save resort order tug measure places place positions dump write
-        symbols sample thermo write_trajectory to_ase step target atoms edge h dt scale drop
+        symbols sample thermo write_trajectory to_ase get_step get_target n_atoms edge h dt scale drop
     """.split()
     assert {f"User.{name}" for name in users} | {f"Session.{name}" for name in sessions} <= shown
-    assert not any(name.split(".")[-1].startswith("_") or name == "User.ask_commands" for name in shown)
+    old = {"Session.step", "Session.target", "Session.atoms", "User.known", "Order.for_user", "Motion.tugs", "ClientError.rescued"}
+    assert not any(name.split(".")[-1].startswith("_") or name in old for name in shown)
 
 
 def test_each_refusal_is_told(page: Any) -> None:
@@ -78,7 +79,7 @@ def test_modules_that_say_what_is_public_are_there(page: Any) -> None:
     shown = names_in(page("modules"))
     assert {"units.ARGON", "units.step_factor"} <= set(shown) and "units.Scale" not in shown
     assert {"reversal.echo", "state_points.lattice", "state_points.StatePoint"} <= set(shown)
-    assert all(f"units.{name}" not in shown for name in vars(units) if name.startswith("checked"))
+    assert not any(name.startswith(("units.checked", "units.nano", "units.word")) for name in shown)
 
 
 def test_sections_of_numpydoc_are_fields(page: Any) -> None:
@@ -88,23 +89,30 @@ def test_sections_of_numpydoc_are_fields(page: Any) -> None:
 
 
 def test_how_docstrings_are_shown(page: Any) -> None:
-    """Tables are lists of definitions, what is indented is code, and what stands in backquotes leads to what it names."""
+    """Parameters are fields, what is indented is code, and what stands in backquotes leads to what it names."""
     text = page("package")
     load = text.split('id="ljclient.User.load">')[1].split('id="ljclient.User.load_mix"')[0]
-    assert re.search(r"<dt><code[^>]*><span class=.pre.>sigma</span></code></dt><dd><p>the distance sigma, in the same", load)
-    assert "below a fifth of the edge" in load and "sigma    the distance" not in load
+    assert re.search(r"<strong>sigma</strong> \(<em>float</em>\) . The distance sigma, in the same unit", load)
+    assert "below a fifth of the edge" in load and "Parameters\n" not in load and "----" not in load
     assert re.search(r'<a [^>]*href="#ljclient.Session.order"[^>]*><code[^>]*><span class="pre">Session.order</span>', load)
     assert re.search(r"edge: Optional\[(units\.)?Number\] = None", re.sub(r"<[^>]+>", "", load))
+    analysis = page("modules").split('id="module-ljclient.analysis"')[1]
+    assert re.search(r"<dt>[^\n]*>rdf<[^\n]*</dt><dd><p>The radial distribution", analysis)
+
+
+def test_members_stand_in_the_order_of_the_sources(page: Any) -> None:
+    shown = [name for name in names_in(page("package")) if name.startswith("Session.")]
+    some = ["advance", "start", "reverse", "sample", "write_trajectory", "save", "get_step", "measure", "places", "tug", "heat", "branch"]
+    assert [name for name in shown if name.split(".")[1] in some] == [f"Session.{name}" for name in some]
 
 
 @pytest.mark.parametrize(
     "path, text, spoilt, told",
     [
         ("docs/api/errors.md", "\n- `Refused`", "\n[none](none.md)\n- `Refused`", "none.md"),
-        (SESSION, "\n        seed         velocities", "\n        seed        velocities", "Session.heat: the texts"),
-        (SESSION, '"""Gives up what was saved', '"""Gives ``up what was saved', "without end-string"),
+        (CHANGES, '"""Deletes a saved simulation', '"""Deletes ``a saved simulation', "without end-string"),
     ],
-    ids=["link", "table", "mark"],
+    ids=["link", "mark"],
 )
 def test_a_warning_is_an_error(tmp_path: pathlib.Path, path: Any, text: Any, spoilt: Any, told: Any) -> None:
     for folder in ("docs/api", "docs/pictures", "clients/python/ljclient"):

@@ -12,17 +12,18 @@ import shutil
 import socket
 import subprocess
 import time
+from fractions import Fraction
 from typing import Any, Iterator, List, Tuple
 
 import pytest
 from blocks import TOP, all_blocks
-from ljclient import connect, units
-from support import EXAMPLES, RING, SECONDS, TOKEN, Server, free_port, present
+from class_blocks import after_the_lesson, before_the_lesson, lesson_at_the_prompt, lesson_in_python, prompt_of_a_student
+from study_blocks import compared_records, verified_study
+from support import EXAMPLES, SECONDS, Server, free_port, present
 from terminals import PROMPT, Terminal, environment
 
 LOADED = "LOAD a 256 1 131072 rest 28\n2\ndimer\nAr 0 0 0\nAr 1.5 0 0\n"
 USERS = (EXAMPLES / "users").read_text()
-CODE = re.compile(r"`([^`]+)`")
 
 
 def contents(document: str) -> str:
@@ -61,9 +62,9 @@ def prints(*wanted: Any, needs: str = "ljclient") -> Any:
     return check
 
 
-def is_printed_by(command: Any) -> Any:
+def prints_the_file(path: Any) -> Any:
     def check(block: Any, folder: Any) -> None:
-        assert folder.shell(command) == block.text
+        assert folder.shell(block.text) == contents(path)
 
     return check
 
@@ -105,15 +106,6 @@ def is_dialogue(before: str = "") -> Any:
     return check
 
 
-def is_frame_after(steps: Any) -> Any:
-    """Holds that DUMP shows this frame after so many steps of the two atoms."""
-
-    def check(block: Any, folder: Any) -> None:
-        assert folder.shell("bin/ljserve", f"{LOADED}ADVANCE a {steps}\nDUMP a\n").endswith(block.text)
-
-    return check
-
-
 # README.md
 
 
@@ -135,22 +127,9 @@ def lines_of_protocol(block: Any, folder: Any) -> None:
 # docs/
 
 
-def first_dialogue(block: Any, folder: Any) -> None:
-    """The replies are those of the table below, behind that of DUMP the four lines that are shown at its end."""
-    below = contents("docs/PROTOCOL.md").split(block.text)[1]
-    table, frame = below.split("The four lines behind `OK DUMP a 1 4`:\n\n```\n")
-    told = [word for row in table.splitlines() if row.startswith("| `") for word in CODE.findall(row.split("|")[3])]
-    told[told.index("OK DUMP a 1 4") + 1 : 1 + told.index("OK DUMP a 1 4")] = frame.split("```")[0].splitlines()
-    assert replies(folder, block.text) == told
-
-
 def commands_of_a_checkpoint(block: Any, folder: Any) -> None:
     told = present(re.search(r"The replies are `(.*?)`, `(.*?)` and `(.*?)`", contents(block.document))).groups()
     assert replies(folder, block.text) == list(told)
-
-
-def recorded_run(block: Any, folder: Any) -> None:
-    assert folder.python(block.text) == ["True"]
 
 
 def played_record(block: Any, folder: Any) -> None:
@@ -274,11 +253,6 @@ def dialogue_of_a_connection(block: Any, _: Any) -> None:
         assert is_told(socket.create_connection(("127.0.0.1", server.port), SECONDS), commands) == told
 
 
-def small_client(block: Any, folder: Any) -> None:
-    with Server(lines=USERS) as server:
-        assert folder.shell(at_port(block.text, server.port)).splitlines()[:2] == ["256", "step 1000"]
-
-
 def prompt_of_a_server(block: Any, folder: Any) -> None:
     with Server(lines=USERS) as server:
         assert folder.shell(at_port(block.text, server.port), "LIST\n") == "OK LIST 0\n"
@@ -289,53 +263,6 @@ def users_in_a_store(block: Any, folder: Any) -> None:
     names = [line.split()[0] for line in folder.shell("tools/users --store kept --list").splitlines()]
     assert len(names) == len(set(names)) == 200
     assert sorted(re.findall(r"^(\w+) at ", (folder.path / "slips").read_text(), re.M)) == names
-
-
-def before_the_lesson(block: Any, folder: Any) -> None:
-    *made, served = block.text.splitlines()
-    told = folder.shell("\n".join(made))
-    assert "22 users" in told
-    assert (folder.path / "slips.txt").read_text().count("192.0.2.10:4000") >= 22
-    name, token = present(re.search(r"^(student\d+) (\S+)", (folder.path / "users").read_text(), re.M)).groups()
-    with begun(served, folder) as connection:
-        assert is_told(connection, f"HELLO {name} {token}\n") == f"OK HELLO {name}\n"
-
-
-def lesson_at_the_prompt(block: Any, folder: Any) -> None:
-    """The lines are a file that is read at the prompt. All atoms that are shown move, and are back at their places at the end."""
-    (folder.path / "lesson.txt").write_text(block.text.replace("examples/", f"{EXAMPLES}/"))
-    words = {**environment(), "PYTHONPATH": str(TOP / "clients" / "python")}
-    with contextlib.closing(Terminal(PROMPT, words, cwd=folder.path)) as terminal:
-        terminal.until("ljserve> ")
-        terminal.type(".read lesson.txt\r")
-        told = terminal.until("OK ADVANCE argon 0\n.*OK SHOW argon 0 4 [^\n]*\nljserve> ")
-    shown = re.findall(r"^OK SHOW argon (\d+) (\d) (\d+) (\d+) (\d+)$", told, re.M)
-    assert [(step, atom) for step, atom, *_ in shown] == [(step, str(atom)) for step in ("0", "1000", "0") for atom in range(5)]
-    start, away, back = ([place for _, _, *place in shown[at : at + 5]] for at in (0, 5, 10))
-    assert back == start
-    assert all(moved > 0.1 for moved in map(farthest, away, start))
-
-
-def farthest(place: Any, other: Any) -> float:
-    """How far two places are from each other along an axis at most, round the box the nearer way, in angstrom."""
-    apart = [abs(int(one) - int(two)) for one, two in zip(place, other)]
-    return max(min(each, RING - each) for each in apart) * 21.04 / RING
-
-
-def lesson_in_python(block: Any, folder: Any) -> None:
-    with Server(users=("student01",)) as server:
-        text = block.text.replace('"192.0.2.10", 4000', f'"127.0.0.1", {server.port}').replace("TOKEN", f'"{TOKEN}"')
-        away, back = folder.python(text)
-    assert float(away) > 1
-    assert back == "0.0"
-
-
-def after_the_lesson(block: Any, folder: Any) -> None:
-    with Server(users=("student01",)) as server:
-        with connect("127.0.0.1", server.port, "student01", TOKEN) as user:
-            user.load("argon", EXAMPLES / "argon_256.xyz", edge=21.04, dt=2, **units.ARGON)
-        folder.python(block.text.replace('"192.0.2.10", 4000', f'"127.0.0.1", {server.port}').replace("TOKEN", f'"{TOKEN}"'))
-    assert (folder.path / "argon.saved").read_text().startswith("ljserve checkpoint 1\n")
 
 
 # clients/python/README.md and docs/api/
@@ -365,25 +292,9 @@ def on_the_way(block: Any, folder: Any) -> None:
     assert (folder.path / "argon_way.xyz").read_text().count("step=") == 5
 
 
-def other_kinds_of_files(block: Any, folder: Any) -> None:
-    """Both files have the frames, as the library reads them, of which the first is the crystal."""
-    mda = pytest.importorskip("MDAnalysis", reason="MDAnalysis is not installed")
-    assert folder.python(block.text) == []
-    way = mda.Universe(str(folder.path / "argon.gro"), str(folder.path / "argon.xtc")).trajectory
-    crystal = mda.Universe(str(EXAMPLES / "argon_256.xyz")).atoms.positions
-    assert len(way) == 5 and way[0].dimensions[0] == pytest.approx(21.04)
-    assert abs((way[0].positions - crystal + 10.52) % 21.04 - 10.52).max() < 0.02
-
-
 def to_a_temperature(block: Any, folder: Any) -> None:
     (told,) = folder.python(block.text)
     assert abs(float(told) - 94.4) < 1.5
-
-
-def echo_of_a_liquid(block: Any, folder: Any) -> None:
-    pytest.importorskip("numpy", reason="numpy is not installed")
-    (told,) = folder.python(block.text)
-    assert told.startswith("100 steps there and back, with atom 0 kicked by (1, 0, 0): ")
 
 
 def driver_of_ase(block: Any, folder: Any) -> None:
@@ -394,8 +305,11 @@ def driver_of_ase(block: Any, folder: Any) -> None:
 
 
 def two_species(block: Any, folder: Any) -> None:
+    """Sigma of each pair, the mean of both for unlike atoms, is rounded down to ring units."""
     *told, energy = folder.python(block.text)
-    assert "\n".join(["```", *told, "```"]) in contents(block.document)
+    assert [row.split(":")[0] for row in told] == ["Ar with Ar", "Ar with Kr", "Kr with Kr"]
+    sigmas = [int(Fraction(text) / Fraction("21.04") * 2**32) for text in ("3.4", "3.525", "3.65")]
+    assert [int(present(re.search(r"\((\d+) ring units\)", row))[1]) for row in told] == sigmas
     assert float(energy) < -1
 
 
@@ -418,9 +332,8 @@ def prompt_at_a_terminal(block: Any, folder: Any) -> None:
 
 
 def prompt_in_a_pipe(block: Any, folder: Any) -> None:
-    told = folder.shell(block.text).splitlines()
-    assert told[:2] == ["OK LOAD a 0 256", "OK ADVANCE a 100"]
-    assert f"`{told[2]}`" in contents("docs/api/examples.md")
+    *told, place = folder.shell(block.text).splitlines()
+    assert told == ["OK LOAD a 0 256", "OK ADVANCE a 100"] and f"`{place}`" in contents("docs/api/examples.md")
 
 
 # conformance/README.md
@@ -449,49 +362,39 @@ DRAWING = "a drawing"
 FORM = "the form of a line"
 NEEDS_KIT = "needs a kit of the toolchain, and minutes of proofs"
 TAKES_HOURS = "takes hours"
-ELSEWHERE = "an address that stands for another machine's"
 BLOCKS = {
     "README.md": {
-        "bytes in": DRAWING,
         "bin/try < examples/dimer.txt": stored_run,
         "rattle-kit": "the kit, as `rt version` tells it",
-        "step       n - 1": DRAWING,
         "bin/ljserve << 'END'": lines_of_protocol,
         "for _ in range(2)": prints("0.0"),
     },
-    "CONTRIBUTING.md": {
-        "/// Returns whether a user has all sessions": NEEDS_KIT,
-        "rt check": NEEDS_KIT,
-        "rt try": NEEDS_KIT,
-        "bin/release": NEEDS_KIT,
-    },
+    "CONTRIBUTING.md": dict.fromkeys(("/// Returns whether a user has all sessions", "rt check", "rt try", "bin/release"), NEEDS_KIT),
     "docs/ARCHITECTURE.md": {"                      lock: DirectoryState": DRAWING},
-    "docs/api/ase.md": {"ReversibleVerlet(": driver_of_ase, "Ljserve(": prints("True", needs="ase")},
+    "docs/api/ase.md": {"ReversibleVerlet(": driver_of_ase},
     "docs/api/ensemble.md": {"partial(begin": many_runs},
     "docs/api/examples.md": {"(examples/load": own_file},
     "docs/api/files.md": {
         "argon.save(": prints("500 1000", "0.0"),
         "ljserve checkpoint 1": "clients/python/tests/test_checkpoint.py compares it with a file that is written by hand",
         "LOAD a 4294.967296": commands_of_a_checkpoint,
-        "argon.advance(100, piece=100)": recorded_run,
-        "python3 -m ljclient verify": played_record,
+        "argon.advance(100, piece=100)": prints("True"),
+        "python3 -m ljclient verify argon": played_record,
         "ljserve record 2": file_of_a_record,
+        "s.advance(fluid": prints("finished", needs="numpy"),
+        "python3 -m ljclient verify fluid-study": verified_study,
+        "python3 -m ljclient diff": compared_records,
     },
-    "docs/api/loading.md": {
-        "user.load_mix(": two_species,
-        "Ar with Ar": "compared with what the block above it prints",
-    },
+    "docs/api/loading.md": {"user.load_mix(": two_species},
     "docs/api/prompt.md": {
         "python3 -m ljclient\n": runs(),
         "ljserve> LOAD": prompt_at_a_terminal,
+        "python3 -m ljclient check": "clients/python/tests/test_lessons.py runs it, over the record of the command that stands above it",
         "printf": prompt_in_a_pipe,
     },
     "docs/api/steps.md": {
         "fine.start(100)": prints("[200, 100]", "300", "300 300"),
         "argon.equilibrate(": to_a_temperature,
-        "state_points.equation_of_state(": "takes minutes; clients/python/tests/test_state_points.py has one of few steps",
-        "print(reversal.echo(": echo_of_a_liquid,
-        "ljclient.mdanalysis import": other_kinds_of_files,
     },
     "docs/api/view.md": {
         "python3 -m ljclient view  ": "needs a browser; clients/python/tests/test_view_program.py begins it without one",
@@ -499,14 +402,10 @@ BLOCKS = {
         "python3 -m ljclient view --listen": "needs a browser; clients/python/tests/test_view_listening.py begins it without one",
     },
     "docs/CLASS.md": {
-        "tools/class": "clients/python/tests/test_class.py begins it, at ports that are free",
-        "22 users in": "clients/python/tests/test_class.py compares such lines, whose times and addresses differ",
-        "tools/users 22": before_the_lesson,
-        "tools/watch": "clients/python/tests/test_watch.py runs it, at ports that are free",
-        "python3 -m ljclient 192.0.2.10": ELSEWHERE,
+        "tools/class": before_the_lesson,
+        "22 users in": "compared with what the block above it shows",
+        "python3 -m ljclient 192.0.2.10": prompt_of_a_student,
         "LOAD argon": lesson_at_the_prompt,
-        "python3 -m ljclient view 192.0.2.10": ELSEWHERE,
-        "python3 -m ljclient view --listen": "clients/python/tests/test_view_listening.py begins it, at a port that is free",
         "from ljclient import connect, distance": lesson_in_python,
         "from ljclient import connect, units": after_the_lesson,
     },
@@ -514,44 +413,40 @@ BLOCKS = {
         "pub fn image": stands_in("crates/lj_ring/src/coordinates.rt"),
         "-- z is the least image": stands_in("crates/lj_ring/specs/Ring.antt"),
         "pub fn steps_are_undone": stands_in("crates/lj_step/src/motion_laws.rt"),
-        "pub fn hello": stands_in("crates/lj_access/src/directory.rt"),
-        "cd crates/lj_step": NEEDS_KIT,
     },
     "docs/PROTOCOL.md": {
-        LOADED: first_dialogue,
-        "2\nstep 1": is_frame_after(1),
+        LOADED: is_dialogue(),
         "LOADMIX m": is_dialogue(),
         "START a 2": is_dialogue(LOADED + LOADED.replace("LOAD a", "LOAD b")),
         "TUG a 0 -2147483648": is_dialogue(LOADED),
         "ljserve run": runs(),
-        "bin/ljserve replay": runs(),
-        "A 1 OK LOAD c": is_printed_by("bin/ljserve replay examples/two_users.schedule"),
+        "bin/ljserve replay": prints_the_file("examples/two_users.replies"),
         "user NAME": FORM,
     },
     "docs/SERVER.md": {
         "bin/ljserve serve": serves,
-        "examples/session": small_client,
         "python3 -m ljclient 127.0.0.1": prompt_of_a_server,
         "NAME TOKEN": FORM,
         "$ nc": dialogue_of_a_connection,
         "apt-get install python3": first_server,
         "apt-get install haproxy": servers_behind_haproxy,
-        "tools/keep 127.0.0.1": "clients/python/tests/test_keep.py runs it, at ports that are free",
+        "tools/keep 127.0.0.1": "tests/tools/test_keep.py runs it, at ports that are free",
         "tools/users 200": users_in_a_store,
-        "tools/keep 192.0.2.1": "clients/python/tests/test_keep_fronts.py runs two, over a database of its own",
-        "0.0.0.0:4000  2 open": "clients/python/tests/test_watch.py compares such lines, whose times and addresses differ",
-        "tools/watch --metrics": "clients/python/tests/test_watch_metrics.py runs it, at ports that are free",
-        "apt install ./": "clients/python/tests/test_debian_packages.py installs both, in a root of its own",
-        "cat /etc/ljserve/users": "clients/python/tests/test_debian_packages.py reads the token there, and lets the prompt read it",
+        "tools/keep 192.0.2.1": "tests/tools/test_keep_fronts.py runs two, over a database of its own",
+        "0.0.0.0:4000  2 open": "tests/tools/test_watch.py compares such lines, whose times and addresses differ",
+        "tools/watch --metrics": "tests/tools/test_watch_metrics.py runs it, at ports that are free",
+        "apt install ./": "tests/packaging/test_debian_packages.py installs both, in a root of its own",
+        "apt-get install buildah": "tests/containers/test_kept_image.py makes such an image, and begins a container by the last line",
+        "cat /etc/ljserve/users": "tests/packaging/test_debian_packages.py reads the token there, and lets the prompt read it",
     },
     "bench/README.md": {
         "bench/soak serve": TAKES_HOURS,
         "bench/soak bytes": TAKES_HOURS,
-        "bench/keep kills": "takes minutes; clients/python/tests/test_keep_trials.py has a few kills and streams",
+        "bench/keep kills": "takes minutes; tests/tools/test_keep_trials.py has a few kills and streams",
     },
     "clients/python/README.md": {
         "export PYTHONPATH": path_of_the_client,
-        "python3 -m venv": "clients/python/tests/test_wheels.py runs it, in a folder with the wheels",
+        "python3 -m venv": "tests/packaging/test_wheels.py runs it, in a folder with the wheels",
         "print(argon.dt": five_minutes,
         'argon.branch("warm")': server_that_keeps,
         "argon.thermo(": on_the_way,
@@ -562,7 +457,7 @@ BLOCKS = {
         "conformance/run --first": first_difference,
         "lines: 63 of 63": "compared with what the block above it prints",
         "conformance/reference.py <": reference,
-        "conformance/random": "takes an hour; clients/python/tests/test_conformance.py plays 300 streams",
+        "conformance/random": "takes an hour; tests/conformance/test_conformance.py plays 300 streams",
     },
 }
 NAMED = [(document, word) for document, words in BLOCKS.items() for word in words]
@@ -584,7 +479,7 @@ def test_block(block: Any, folder: Any) -> None:
 
 def test_the_comparison_that_is_silent(folder: Any) -> None:
     """Both files are among the examples, since a release has no crates."""
-    (command,) = re.findall(r"`(bin/ljserve < \S+ \| cmp - \S+)` is silent", contents("README.md"))
+    (command,) = re.findall(r"`(bin/ljserve < \S+ \| cmp - \S+)` finds no difference", contents("README.md"))
     assert folder.shell(command) == ""
     assert contents("examples/dimer.txt") == contents("crates/ljserve/stdin")
     assert contents("examples/dimer.replies") == contents("crates/ljserve/stdout")

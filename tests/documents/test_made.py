@@ -30,11 +30,12 @@ WITH_PARTS = sorted(path for path in (TOP / "docs").glob("*.md") if documents.PA
 MOST_BY_HAND = {
     "docs/PROOFS.md": 8000,
     "docs/ARCHITECTURE.md": 8000,
-    "docs/PROTOCOL.md": 26_000,
-    "docs/FILES.md": 1024,
-    "docs/SPEED.md": 4000,
+    "docs/PROTOCOL.md": 23_000,
+    "docs/SPEED.md": 2000,
 }
-MOST_OF_ALL = 172_000
+MOST_OF_ALL = 150_000
+# The most bytes of all that is made.
+MOST_MADE = 40_000
 
 
 def by_hand(path: Path) -> int:
@@ -78,6 +79,42 @@ def test_each_promise_has_its_row() -> None:
     ]
 
 
+def printed(*words: str) -> List[List[str]]:
+    """The rows of a part that bin/documents prints."""
+    done = subprocess.run([TOP / "bin" / "documents", *words], capture_output=True, text=True, timeout=60, check=True)
+    return rows(done.stdout)
+
+
+def test_files_of_folders_are_printed() -> None:
+    assert [name for name, _ in printed("files", "crates/lj_quota")] == ["`crates/lj_quota/src/lib.rt`"]
+    all_files = {name.strip("`"): text for name, text in printed("files")}
+    assert all_files["bin/documents"] == "Makes the parts of the documents that come from the sources, or prints one"
+    assert {"crates/lj_ring/src/lib.rt", "clients/python/ljclient/user.py", "tests/documents/test_made.py"} < set(all_files)
+
+
+def test_modules_and_types_are_printed_by_crate() -> None:
+    assert printed("types", "lj_quota", "lj_branch") == [
+        ["`lj_quota`", "`lib`: Quota, Used, Over"],
+        ["`lj_branch`", "`branch_faults`: SaveFault, NoBranch; `branches`: Branches; `lib`"],
+    ]
+    assert {row[0].strip("`") for row in printed("types")} == set(documents.sources.crates()) - {"lj_tests"}
+
+
+WRONG_WORDS = {
+    "a crate that is not there": (["types", "lj_other"], "documents: lj_other must be a crate of the repository\n"),
+    "a folder that is not there": (["files", "bin", "other"], "documents: other must be a folder of the repository\n"),
+    "a part that is not there": (["functions"], "invalid choice: 'functions'"),
+    "a check of one part": (["--check", "types"], "not allowed with argument --check"),
+}
+
+
+@pytest.mark.parametrize("words, text", WRONG_WORDS.values(), ids=WRONG_WORDS)
+def test_wrong_words_print_no_part(words: List[str], text: str) -> None:
+    done = subprocess.run([TOP / "bin" / "documents", *words], capture_output=True, text=True, timeout=60)
+    assert (done.returncode, done.stdout) == (2, "")
+    assert text in done.stderr
+
+
 def test_each_file_of_definitions_has_its_row() -> None:
     files = {f"`{path.parts[-3]}/specs/{path.stem}`" for path in TOP.glob("crates/*/specs/*.antt") if path.stem != "Lib"}
     found = rows(documents.definitions())
@@ -93,8 +130,13 @@ def test_each_crate_stands_on_those_below() -> None:
 
 
 def test_limits_are_numbers() -> None:
-    """Of some of them, by arithmetic: those that are sums, and powers of two and of ten."""
-    found = {name: value for _, value, name in rows(documents.limits())}
+    """Of some of them, by arithmetic: those that are sums, and powers of two and of ten. Each is in one of the two tables."""
+    tables = {kind: {name: value for _, value, name in documents.limits_of(kind)} for kind in ("protocol", "inside")}
+    assert [len(row) for row in rows(documents.limits("protocol"))] == [2] * len(tables["protocol"])
+    assert not set(tables["protocol"]) & set(tables["inside"])
+    assert {"`lj_wire::line_limits::MAX_ITEMS`", "`ljserve::option_limits::MAX_WORKERS`"} < set(tables["protocol"])
+    assert {"`lj_book::book_entry::MAX_ENTRIES`", "`lj_end::pool::MAX_STRAYS`"} < set(tables["inside"])
+    found = {**tables["protocol"], **tables["inside"]}
     constants = [line for path in TOP.glob("crates/*/src/**/*.rt") for line in path.read_text().splitlines()]
     assert len(found) == len([line for line in constants if re.match(r"(pub(\(crate\))? )?const (MAX|MIN)_", line)])
     assert found["`lj_xyz::writer::MAX_LINE_BYTES`"] == str(16 + 3 * (1 + 32))
@@ -127,6 +169,14 @@ def test_what_is_written_by_hand_is_short(name: str) -> None:
     assert by_hand(TOP / name) <= MOST_BY_HAND[name]
 
 
-def test_all_that_is_written_by_hand() -> None:
+def documents_listed() -> List[Path]:
     listed = subprocess.run(["git", "-C", TOP, "ls-files", "*.md"], capture_output=True, text=True, check=True).stdout.split()
-    assert sum(by_hand(TOP / name) for name in listed) <= MOST_OF_ALL
+    return [TOP / name for name in listed if (TOP / name).is_file()]
+
+
+def test_all_that_is_written_by_hand() -> None:
+    assert sum(map(by_hand, documents_listed())) <= MOST_OF_ALL
+
+
+def test_all_that_is_made() -> None:
+    assert sum(len(path.read_bytes()) - by_hand(path) for path in documents_listed()) <= MOST_MADE

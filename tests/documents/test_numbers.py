@@ -17,7 +17,7 @@ def force(square: Any) -> Any:
 
 
 def test_the_pair_that_is_worked_out() -> None:
-    worked = re.findall(r"in? bin (\d+).*?`(\d+) \* ([\d.]+) / 2\^(\d+)` is (\d+)", README.replace("is where bin", "in bin"))
+    worked = re.findall(r"in? bin (\d+).*?`(\d+) \* ([\d.]+) / 2\^(\d+)` is (\d+)", README)
     assert [int(bin) for bin, *_ in worked] == [288, 287]
     distances = [Fraction(3, 2), Fraction(3 * SIGMA // 2 - 2 * 589, SIGMA)]
     for (bin, entry, factor, power, push), distance in zip(worked, distances):
@@ -31,11 +31,10 @@ def test_the_pair_that_is_worked_out() -> None:
 
 def test_the_energies_are_those_of_accuracy() -> None:
     measured = (TOP / "docs" / "ACCURACY.md").read_text()
-    rows = re.findall(r"^\| (\d+) \| ([\d.]+) \| ([\d.]+ fs) \| ([\d.]+)(?: epsilon per atom)? \| (.*?) \|$", README, re.M)
-    assert len(rows) == 4
-    for h, step, argon, gained, last in rows:
-        (row,) = re.findall(rf"^\| {h} \| {step} \| {argon} \| (.*) \|$", measured, re.M)
-        cells = row.split(" | ")
-        assert cells[1] == f"+{gained}"
-        burst = re.fullmatch(r"bursts after (\d+),(\d+)", last)
-        assert cells[-1] == "".join(burst.groups()) if burst else (cells[4], cells[-1]) == (f"+{last}", "no")
+    (head,) = re.findall(r"^\| h \| Time step \| For argon \| (.*) steps \| T \| Burst \|$", measured, re.M)
+    columns = head.split(" steps | ")
+    told = re.findall(r"([\d.]+)(?: epsilon per atom)? in ([\d,]+) steps at h = (\d+)", README)
+    assert [h for _, _, h in told] == ["4295", "131072"]
+    for gained, steps, h in told:
+        (row,) = re.findall(rf"^\| {h} \| [\d.]+ \| [\d.]+ fs \| (.*) \|$", measured, re.M)
+        assert row.split(" | ")[columns.index(steps.replace(",", ""))] == f"+{gained}"

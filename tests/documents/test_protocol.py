@@ -59,7 +59,7 @@ def test_the_bits_hold_the_range_and_are_no_more(least: Any, most: Any, bits: An
     "name, least, most",
     [
         ("step, target", -(10**12), 10**12),
-        ("place", 0, reference.RING - 1),
+        ("coordinate in ring units", 0, reference.RING - 1),
         ("momentum, for each axis", 4096 * reference.image(0, 2**31), 4096 * reference.image(2**31 - 1, 0)),
         ("kinetic number", 0, 4096 * 3 * reference.image(0, 2**31) ** 2),
         ("potential after LOAD", PAIRS * LEAST, PAIRS * GREATEST),
@@ -100,7 +100,7 @@ def test_the_longest_line() -> None:
     measured = [step, atoms, momentum, momentum, momentum, most["kinetic number"], most["potential after LOADMIX"]]
     lines = [
         ["OK MEASURE", name, *measured],
-        ["OK SHOW", name, step, most["number of an atom"], *[most["place"]] * 3],
+        ["OK SHOW", name, step, most["index of an atom"], *[most["coordinate in ring units"]] * 3],
         ["OK RESTORE", name, name, step],
         [name, step, atoms, most["number of branches"]],
         [name, *["999999.999767"] * 3],

@@ -8,8 +8,8 @@ MOST_KILOBYTES = {
     "SECURITY.md": 2,
     "docs/ACCURACY.md": 9,
     "docs/CLASS.md": 7,
-    "docs/DECISIONS.md": 20,
-    "docs/SERVER.md": 20,
+    "docs/DECISIONS.md": 12,
+    "docs/SERVER.md": 18,
     "docs/WORDS.md": 4,
 }
 

@@ -37,10 +37,15 @@ def folder(tmp_path: Path, monkeypatch: pytest.MonkeyPatch) -> Path:
     return tmp_path
 
 
+def measurements_of(kind: str, words: List[str]) -> List[str]:
+    """Those of a mark: a table of steps names what the measurements of all liquids begin with."""
+    return [f"{word}_{liquid}" for word in words for liquid in speed_tables.LIQUIDS] if kind == "steps" else words
+
+
 @pytest.mark.parametrize("name", NAMES)
 def test_each_measurement_is_told(name: str) -> None:
     marks = [line.split() for line in PAGE.splitlines() if line.startswith("<!-- made by bin/documents: begin speed ")]
-    assert [name for words in marks if name in words[7:-1]] == [name]
+    assert [each for words in marks for each in measurements_of(words[6], words[7:-1]) if each == name] == [name]
 
 
 @pytest.mark.parametrize("name", NAMES)
@@ -50,21 +55,36 @@ def test_what_is_kept_names_no_place_of_a_machine(name: str) -> None:
     assert [word for word in words if word.startswith("/")] in ([], ["/dev/shm"])
 
 
-def test_a_step_beside_its_twin(folder: Path) -> None:
-    program = "crates/ljserve/out/ljserve"
-    kept(folder, "a", f"bench/ratio {program} run -- 64 9 --rounds 7 --json a.json", {"program, per step": 0.5, "plain, per step": 2.0})
-    kept(folder, "b", f"bench/ratio {program} run -- 8 9 --sorted --rounds 7 --json b.json", {"program, per step": 1, "plain, per step": 3})
-    assert speed_tables.speed("steps", "a", "b") == (
-        "`bench/ratio PROGRAM run -- ..` (2026-01-02, load 0.2 to 1.5):\n\n"
-        "| Words | ms a step | To the twin |\n|---|---|---|\n| `64 9` | 0.500 | 0.25 |\n| `8 9 --sorted` | 1.00 | 0.33 |\n"
-    )
+def test_a_step_beside_its_twin(folder: Path, monkeypatch: pytest.MonkeyPatch) -> None:
+    """A row for each liquid, and two columns for each program."""
+    monkeypatch.setattr(speed_tables, "LIQUIDS", {"64": "64 atoms", "8": "8 atoms, sorted"})
+    for name, program in (("a", "ljserve"), ("b", "v3/ljserve")):
+        for liquid, ours, plain in ((64, 0.5, 2.0), (8, 1.0, 3.0)):
+            command = f"bench/ratio crates/ljserve/out/{program} run -- {liquid} 9 --rounds 7 --json a.json"
+            kept(folder, f"{name}_{liquid}", command, {"program, per step": ours, "plain, per step": plain})
+    assert speed_tables.speed("steps", "a", "b").splitlines() == [
+        "`bench/ratio PROGRAM run -- ..` (2026-01-02, load average 0.2 to 1.5) and "
+        "`bench/ratio PROGRAM_V3 run -- ..` (2026-01-02, load average 0.2 to 1.5):",
+        "",
+        "| Liquid | `PROGRAM`: ms per step | divided by the twin's time | `PROGRAM_V3`: ms per step | divided by the twin's time |",
+        "|---|---|---|---|---|",
+        "| 64 atoms | 0.500 | 0.25 | 0.500 | 0.25 |",
+        "| 8 atoms, sorted | 1.00 | 0.33 | 1.00 | 0.33 |",
+    ]
 
 
 def test_a_step_beside_lammps(folder: Path) -> None:
     kept(folder, "a", "bench/lammps/step X --json a.json", {"plain": 4.0, "OPT": 2.0, "run": 3.0}, "ms per step")
-    rows = speed_tables.speed("lammps", "a").splitlines()
-    assert rows[0] == "`bench/lammps/step X` (2026-01-02, load 0.2 to 1.5):"
-    assert rows[4:] == ["| plain | 4.00 | 1.00 | 2.00 |", "| OPT | 2.00 | 0.50 | 1.00 |", "| run | 3.00 | 0.75 | 1.50 |"]
+    kept(folder, "b", "bench/lammps/step Y --json b.json", {"plain": 5.0, "OPT": 3.0, "run": 2.0}, "ms per step")
+    rows = speed_tables.speed("lammps", "a", "b").splitlines()
+    moment = "(2026-01-02, load average 0.2 to 1.5)"
+    assert rows[0] == f"`bench/lammps/step X` {moment} and `bench/lammps/step Y` {moment}:"
+    assert rows[2] == "| Program | `X`: ms per step | divided by the time of lj/cut | `Y`: ms per step | divided by the time of lj/cut |"
+    assert rows[4:] == [
+        "| plain | 4.00 | 1.00 | 5.00 | 1.00 |",
+        "| OPT | 2.00 | 0.50 | 3.00 | 0.60 |",
+        "| run | 3.00 | 0.75 | 2.00 | 0.40 |",
+    ]
 
 
 def test_workers_beside_processes_of_lammps(folder: Path) -> None:
@@ -76,12 +96,12 @@ def test_workers_beside_processes_of_lammps(folder: Path) -> None:
     told["figures"] += [{"name": name, "unit": "ms of processor time per step", "value": value} for name, value in spent.items()]
     (folder / "a.json").write_text(json.dumps(told))
     assert speed_tables.speed("cores", "a").splitlines()[2:] == [
-        "| ms a step, by processes or workers | 1 | 2 | 3 |",
+        "| ms per step, by processes or workers | 1 | 2 | 3 |",
         "|---|---|---|---|",
         "| LAMMPS | 4.00 | 2.00 | - |",
         "| v2, lock | 3.00 | - | 1.50 |",
         "| v2, lock: processor time of the connection | 0.250 | - | 0.500 |",
-        "| v2, lock: that of the first worker | 2.50 | - | - |",
+        "| v2, lock: processor time of the first worker | 2.50 | - | - |",
     ]
 
 
@@ -101,17 +121,20 @@ def test_a_pool_beside_four_runs(folder: Path) -> None:
             f"1 x 4096 atoms, {pool}, 1 workers": 160,
             f"{what}, processor time": 1.5,
             f"{what}, connections": 0.875,
-            f"{what}, workers, wakes": 0.25,
+            f"{what}, workers": 2.25,
         }
     kept(folder, "a", "bench/scale X --json a.json", figures, "")
     assert speed_tables.speed("scale", "a").splitlines()[4:] == [
-        "| one session of 4,096 atoms, steps a second to those of four runs, which are 4.00 of one | 0.50 | 0.10 |",
-        "| 8 users of 512 atoms, steps a second to those of four runs, which are 4.00 of one | 0.90 | 0.30 |",
-        "| one worker: time of a step of 4,096 atoms to `run`'s | 1.25 | 1.25 |",
-        "| 4 workers: a step of 4,096 atoms, ms | 2.50 | 12.5 |",
-        "| 4 workers: processor time of all threads to `run`'s | 1.50 | 1.50 |",
-        "| 4 workers: us of the connection's thread for a tile | 0.88 | 0.88 |",
-        "| 4 workers: wakes of the workers for a tile | 0.25 | 0.25 |",
+        "| one session of 4,096 atoms | 0.50 | 0.10 | 4.00 |",
+        "| 8 users of 512 atoms each | 0.90 | 0.30 | 4.00 |",
+        "",
+        "| One session of 4,096 atoms | `--pool queue` | `--pool lock` |",
+        "|---|---|---|",
+        "| time of a step with one worker, divided by the time of `ljserve run` | 1.25 | 1.25 |",
+        "| time of a step with 4 workers, in ms | 2.50 | 12.5 |",
+        "| processor time of a step with 4 workers, divided by the time of `ljserve run` | 1.50 | 1.50 |",
+        "| processor time of the connection's thread per pair of blocks of 64 atoms, in µs, with 4 workers | 0.88 | 0.88 |",
+        "| processor time of all workers per pair of blocks of 64 atoms, in µs, with 4 workers | 2.25 | 2.25 |",
     ]
 
 
@@ -120,14 +143,37 @@ def test_commands_one_at_a_time(folder: Path) -> None:
         folder,
         "a",
         "bench/keep cost X --json a.json",
-        {"without, SHOW": 11, "without, TUG": 12, "with, SHOW": 101, "with, TUG": 1234},
+        {"without the tool, SHOW": 11, "without the tool, TUG": 12, "--sync group, SHOW": 101, "--sync group, TUG": 1234},
         "us",
     )
     assert speed_tables.speed("keep", "a").splitlines()[2:] == [
-        "| us | `SHOW` | `TUG` |",
+        "| Median time in µs | `SHOW` | `TUG` |",
         "|---|---|---|",
-        "| without | 11.0 | 12.0 |",
-        "| with | 101 | 1,234 |",
+        "| without `tools/keep` | 11.0 | 12.0 |",
+        "| through `tools/keep --sync group` | 101 | 1,234 |",
+    ]
+
+
+def test_a_table_names_what_is_measured(folder: Path, monkeypatch: pytest.MonkeyPatch) -> None:
+    monkeypatch.setattr(speed_tables, "ABOUT", {"a": "the memory of a server"})
+    kept(folder, "a", "bench/memory X --json a.json", {"no users": 23.4}, "MB")
+    assert speed_tables.speed("figures", "a").splitlines() == [
+        "The memory of a server, measured by `bench/memory X` (2026-01-02, load average 0.2 to 1.5):",
+        "",
+        "| Measured | Figure |",
+        "|---|---|",
+        "| no users | 23.4 MB |",
+    ]
+
+
+def test_figures_in_rows_and_columns(folder: Path) -> None:
+    figures = {"frames sent: 256 atoms": 752.0, "time: 256 atoms": 1.04, "frames sent: 1000 atoms": 214.0, "time: 1000 atoms": 4.1}
+    kept(folder, "a", "bench/view X --json a.json", figures, "us")
+    assert speed_tables.speed("grid", "a").splitlines()[2:] == [
+        "| Measured | 256 atoms | 1000 atoms |",
+        "|---|---|---|",
+        "| frames sent | 752 µs | 214 µs |",
+        "| time | 1.04 µs | 4.10 µs |",
     ]
 
 
@@ -137,17 +183,16 @@ def test_three_digits(value: float, text: str) -> None:
 
 
 def test_a_table_names_the_program(folder: Path) -> None:
-    """By its version and commit, as far as they are known; several where steps are of several."""
-    words, figures = "bench/ratio X run -- 64 9 --rounds 7 --json a.json", {"program, per step": 1.0, "plain, per step": 2.0}
+    """By its version and commit, as far as they are known; several where it is made of several measurements."""
     for name, commit in (("a", "01234567"), ("b", "01234567"), ("c", "89abcdef, with changes"), ("d", None)):
-        kept(folder, name, words, figures, program={"version": "1.1.0", "commit": commit, "sources": {}})
+        kept(folder, name, "bench/one X --json a.json", {}, program={"version": "1.1.0", "commit": commit, "sources": {}})
 
-    def head(*names: str) -> str:
-        return speed_tables.speed("steps", *names).split("\n")[0]
+    def moment(*names: str) -> str:
+        return speed_tables.moment(*map(speed_tables.Found, names))
 
-    assert head("a", "b") == "`bench/ratio X run -- ..` (1.1.0 of 01234567, 2026-01-02, load 0.2 to 1.5):"
-    assert head("c") == "`bench/ratio X run -- ..` (1.1.0 of 89abcdef, with changes, 2026-01-02, load 0.2 to 1.5):"
-    assert head("a", "d") == "`bench/ratio X run -- ..` (1.1.0 of 01234567, 1.1.0, 2026-01-02, load 0.2 to 1.5):"
+    assert moment("a", "b") == "1.1.0 of 01234567, 2026-01-02, load average 0.2 to 1.5"
+    assert moment("c") == "1.1.0 of 89abcdef, with changes, 2026-01-02, load average 0.2 to 1.5"
+    assert moment("a", "d") == "1.1.0 of 01234567, 1.1.0, 2026-01-02, load average 0.2 to 1.5"
 
 
 # What is stale.

@@ -171,5 +171,5 @@ def test_wrong_words(tmp_path: Path) -> None:
 def test_an_error_of_no_example_is_no_answer(tmp_path: Path) -> None:
     (tmp_path / "rt").write_text("#!/bin/sh\necho 'src/shown.rt:2:5: error[unknown-name]: there is none' >&2\nexit 2\n")
     (tmp_path / "rt").chmod(0o755)
-    line = "src/shown.rt:2:5: error[unknown-name]: there is none\nexamples: there was no answer\n"
+    line = "src/shown.rt:2:5: error[unknown-name]: there is none\nexamples: cannot run the examples: the toolchain gave no answer\n"
     assert begun(tmp_path) == (70, "", line)

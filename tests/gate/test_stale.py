@@ -43,7 +43,7 @@ def released(clone: pathlib.Path, *words: str) -> "subprocess.CompletedProcess[s
 
 def test_a_release_stops_at_stale_figures(clone: pathlib.Path) -> None:
     done = released(clone)
-    line = "figures of docs/SPEED.md are stale: measure them anew by `bench/speeds NAME..`, or go on by `bin/release --with-stale`"
+    line = "figures of docs/SPEED.md are stale: measure them again by `bench/speeds NAME..`, or go on by `bin/release --with-stale`"
     assert (done.returncode, done.stdout, done.stderr) == (65, "", f"{STALE}\nrelease: {line}\n")
 
 

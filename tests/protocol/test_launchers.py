@@ -1,4 +1,5 @@
 """The commands of bin/ that stand before the program."""
+import hashlib
 import os
 import shutil
 import subprocess
@@ -38,25 +39,29 @@ def tree(tmp_path: Path, program: Program) -> Tree:
     return Tree(tmp_path, program)
 
 
-def told(commit: str) -> bytes:
-    return f"ljserve {newest_version()}\nkit kit-of-the-test logic 00\ncommit {commit}\n{PROCESSORS}".encode()
+def sum_of(program: Program) -> str:
+    return f"sha256 {hashlib.sha256(Path(program.path).read_bytes()).hexdigest()}\n"
 
 
-def test_the_version_outside_of_a_commit(tree: Tree) -> None:
-    assert tree.launched("--version") == (0, told("unknown"), b"")
+def told(commit: str, program: Program) -> bytes:
+    return f"ljserve {newest_version()}\nkit kit-of-the-test logic 00\ncommit {commit}\n{PROCESSORS}{sum_of(program)}".encode()
 
 
-def test_the_version_of_a_commit(tree: Tree) -> None:
+def test_the_version_outside_of_a_commit(tree: Tree, program: Program) -> None:
+    assert tree.launched("--version") == (0, told("unknown", program), b"")
+
+
+def test_the_version_of_a_commit(tree: Tree, program: Program) -> None:
     commit = tree.commit()
-    assert tree.launched("-V") == (0, told(commit), b"")
+    assert tree.launched("-V") == (0, told(commit, program), b"")
 
 
-def test_the_version_of_a_changed_tree(tree: Tree) -> None:
+def test_the_version_of_a_changed_tree(tree: Tree, program: Program) -> None:
     tree.commit()
     put("# changed\n", tree.folder / "crates.txt")
     os.utime(tree.folder / "crates.txt", (0, 0))
     status, out, _ = tree.launched("--version")
-    assert (status, out.endswith(f", with changes\n{PROCESSORS}".encode())) == (0, True), out
+    assert (status, out.endswith(f", with changes\n{PROCESSORS}{sum_of(program)}".encode())) == (0, True), out
 
 
 def test_other_words_are_the_programs(tree: Tree) -> None:
@@ -69,7 +74,7 @@ def test_a_release_needs_no_toolchain(tmp_path: Path, program: Program) -> None:
     for name in ["ljserve-v2", "ljserve-v3"]:
         put("", tmp_path / "libexec" / name)
         shutil.copy(program.path, tmp_path / "libexec" / name)
-    assert launched(tmp_path, ["--version"], "/usr/bin:/bin", release) == (0, f"{version}cpu x86-64-v3\n".encode(), b"")
+    assert launched(tmp_path, ["--version"], "/usr/bin:/bin", release) == (0, f"{version}cpu x86-64-v3\n{sum_of(program)}".encode(), b"")
     assert launched(tmp_path, [], "/usr/bin:/bin", release) == (0, b"OK LIST 0\n", b"")
 
 

@@ -94,7 +94,7 @@ def test_short_connections_leave_nothing_behind(serve: Servers, pytestconfig: py
     connections = int(pytestconfig.getoption("--connections"))
     first = min(200, connections)
     server = serve(user("A"), connections, workers=2)
-    begun = wait_until(lambda: server.status("Threads") == 3, AT_ONCE)
+    begun = wait_until(lambda: server.threads() == 3, AT_ONCE)
     assert begun, f"descriptors and threads: {server.held()}"
     idle = server.held()
     for _ in range(first):

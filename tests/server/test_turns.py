@@ -134,8 +134,8 @@ def test_users_come_in_turn_round_after_round(serve: Servers, count: int, rounds
     for name in names[::2]:
         inside[name].says(LOAD.replace(b" a ", f" {name} ".encode()), f"OK LOAD {name} 0 2\n".encode())
     for _ in range(rounds):
-        have_ended = wait_until(lambda: server.status("Threads") == 2 + count, AT_ONCE)
-        assert have_ended, f"{server.status('Threads')} threads for {count} connections"
+        have_ended = wait_until(lambda: server.threads() == 2 + count, AT_ONCE)
+        assert have_ended, f"{server.threads()} threads for {count} connections"
         waiting = {name: server.connect() for name in names}
         for name in names:
             waiting[name].send(hello(name) + b"LIST\n")

@@ -7,6 +7,7 @@ import importlib.util
 import os
 import pathlib
 import re
+import shutil
 import subprocess
 import sys
 from collections import defaultdict
@@ -28,11 +29,15 @@ SEARCHED = {
     "examples": "clients/python",
     ".": "tests",
     "tests": "conformance",
-    "tests/bench": "bench tests bin",
-    "tests/client": "tests",
+    "tests/bench": "bench tests bin clients/python clients/python/tests conformance",
+    "tests/client": "tests clients/python clients/python/tests bench tools conformance",
+    "tests/conformance": "tests clients/python clients/python/tests bench tools conformance",
+    "tests/containers": "bench tests clients/python conformance tools",
     "tests/documents": "bin clients/python clients/python/tests conformance tests",
     "tests/faults": "tests conformance",
     "tests/gate": "bin",
+    "tests/packaging": "packaging tests clients/python clients/python/tests bench tools conformance bin",
+    "tests/tools": "tests clients/python clients/python/tests bench tools conformance bin",
     "tests/wasm": "tests conformance bin clients/python/tests clients/python",
     "tests/protocol": "tests conformance",
     "tests/replay": "tests conformance",
@@ -118,4 +123,8 @@ def test_mypy_finds_nothing(group: str) -> None:
     words += [] if group in ALONE else ["--scripts-are-modules"]
     with (cache / "lock").open("w") as lock:
         fcntl.flock(lock, fcntl.LOCK_EX)
-        assert told("mypy", *words, *GROUPS[group], MYPYPATH=searched) == ""
+        found = told("mypy", *words, *GROUPS[group], MYPYPATH=searched)
+        if "Traceback" in found:  # mypy fails over what it kept of a tree whose modules had other names
+            shutil.rmtree(cache / f"{sys.version_info.major}.{sys.version_info.minor}", ignore_errors=True)
+            found = told("mypy", *words, *GROUPS[group], MYPYPATH=searched)
+        assert found == ""
