@@ -1,4 +1,4 @@
-"""How the gate tries the must-fail edits of a crate in less time: by the functions that they name, and several in one check.
+"""Tries the must-fail edits of a crate in less time: by the functions that they name, and several in one check.
 
 The kit checks a whole crate for each edit. An edit names the functions by whose clauses it is refused, in lines `only: PATH`. Edits that
 change the bodies of different functions, and nothing else, are tried in one check: a proof reads the contracts of other functions and

@@ -1,4 +1,4 @@
-"""What makes the kit's gate cheaper and the first build faster: another order of tasks, edits by named functions, libraries side by side.
+"""Makes the kit's gate and the first build faster: another order of tasks, edits by named functions, libraries in parallel.
 
 `rt ci` is the judge, until it has words for these. Each proof, edit and test is checked by the kit's own functions. CALLED lists those
 that are called here. Where one of them is not there, or takes other arguments, bin/gate runs a plain `rt ci`, and bin/build `rt lib`.
@@ -37,7 +37,7 @@ CALLED |= {"build": [*LANES, "need(crate)", *CRATES, *MADE, *KEPT], "compile": [
 
 
 def load(asker: str) -> Any:
-    """The kit's command `rt`; ends the command that asks with status 69 where it is not on the PATH."""
+    """The kit's command `rt`; ends the command that asks with status 69 if it is not on the PATH."""
     found = shutil.which("rt")
     if found is None:
         print(f"{asker}: the Rattle toolchain (the command rt) is not on the PATH", file=sys.stderr)

@@ -1,4 +1,4 @@
-"""What a measurement has measured: the program's version and commit, and a hash of each source that its figures depend on.
+"""Notes what a measurement was made of: the program's version and commit, and a hash of each source that its figures depend on.
 
 Each command of bench/ that writes JSON keeps it there (bench/timing.py). Where a source has another hash now, the figures are stale
 (bin/speeds). A hash is that of code alone: no comment, contract or docstring changes it.
@@ -32,7 +32,9 @@ SHOW = code_of_crates("lj_fixed", "lj_session", "lj_wire", "lj_engine")
 USERS = code_of_crates("lj_access", "lj_visit", "lj_program")
 WIRE = modules_of_client("wire.py", "replies.py", "transport.py")
 PLACES = modules_of_client("reading.py", "frames.py", "xyz.py", "columns.py", "digits.py", "decimals.py", "arrays.py", "exact.py")
-START = modules_of_client("__init__.py", "user.py", "session.py", "loading.py")
+PAGE = ("packaging/page", "packaging/wasm", "clients/javascript/src", *modules_of_client("view/page"))
+START = modules_of_client("__init__.py", "user.py", "connecting.py", "loading.py", "load_options.py")
+START += modules_of_client("session.py", "changes.py", "looks.py", "handle.py")
 # What takes the time that a command of bench/ measures: files, and folders with all their code.
 HOT = {
     "bench/ratio": STEP,
@@ -52,6 +54,7 @@ HOT = {
     "bench/start": (*START, *WIRE, *modules_of_client("prompt")),
     "bench/prompt": (*START, *WIRE, *modules_of_client("prompt")),
     "bench/view": (*STEP, *WIRE, *PLACES, *modules_of_client("view")),
+    "bench/page": (*STEP, *PAGE),
 }
 
 
@@ -78,7 +81,12 @@ def code_in_python(text: str) -> Iterator[str]:
             yield line
 
 
-CODE_IN: dict[str, Callable[[str], Iterable[str]]] = {".rt": code_in_rattle, ".py": code_in_python, ".js": str.splitlines}
+CODE_IN: dict[str, Callable[[str], Iterable[str]]] = {
+    ".rt": code_in_rattle,
+    ".py": code_in_python,
+    ".js": str.splitlines,
+    ".c": str.splitlines,
+}
 
 
 def code_of(file: Path) -> str:
@@ -92,7 +100,7 @@ def files_of(source: str) -> list[Path]:
 
 
 def hash_of(source: str) -> str:
-    """The first 16 digits of a hash over the code of a file or of a folder with its files' names; none where it is not there."""
+    """The first 16 digits of a hash over the code of a file or of a folder with its files' names; none if it does not exist."""
     if not (TOP / source).exists():
         return ""
     code = "\0".join(f"{file.relative_to(TOP)}\0{code_of(file)}" for file in files_of(source))

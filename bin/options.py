@@ -1,4 +1,4 @@
-"""The words of the commands of this folder."""
+"""The command line of the scripts of this folder."""
 
 import argparse
 from typing import Any, NoReturn

@@ -1,4 +1,4 @@
-"""What can be read off the files of the crates without the kit: functions with their contracts, comments and constants."""
+"""Reads the files of the crates without the kit: functions with their contracts, comments and constants."""
 
 import re
 from pathlib import Path

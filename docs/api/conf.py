@@ -1,19 +1,18 @@
-"""Settings of Sphinx for the reference of the Python client. What is public is read from the package; INTERNAL says what is not."""
+"""Settings of Sphinx for the reference of the Python client. What is public is read from the package."""
 import importlib.util
 import inspect
 import pathlib
 import pkgutil
 import re
 import sys
-from typing import Any, Iterator, List, Optional, Sequence, Tuple
+from typing import Any, Iterator, List, Optional, Tuple
 
 CLIENT = pathlib.Path(__file__).resolve().parents[2] / "clients" / "python"
 sys.path.insert(0, str(CLIENT))
 sys.dont_write_bytecode = True
 
-from sphinx.util import logging  # noqa: E402
-
 import ljclient  # noqa: E402
+from ljclient.renamed import Renamed  # noqa: E402
 
 project = "ljclient"
 release = version = ljclient.__version__
@@ -37,13 +36,8 @@ python_use_unqualified_type_names = True
 OPTIONAL = ("ase", "numpy", "matplotlib", "MDAnalysis", "prompt_toolkit", "aiohttp", "tqdm")
 # MDAnalysis gives warnings of its own as it is imported, and no warning is let pass here.
 autodoc_mock_imports = [name for name in OPTIONAL if name == "MDAnalysis" or importlib.util.find_spec(name) is None]
-# What only the package itself calls.
-INTERNAL = {
-    "User": "ask_commands ask_text ask_rows known has_dropped state_of row restore resort is_free make_room outlasts_connections",
-    "Session": "measured is_free",
-    "Order": "for_user for_server",
-    "units": "checked_positive real_of checked_length nano word plain_float is_on_ring",
-}
+# Classes that are made of several ones.
+MANY = ("User", "Session")
 # What classes have of Python's own.
 PLAIN = "tuple, dict, Exception, Warning, ConnectionError, TimeoutError, ValueError"
 # Types that have names in the package, and what stands for them.
@@ -59,14 +53,24 @@ TYPES = {
     "files.Path": "Path",
     "sampling.Progress": "Progress",
 }
-TABLE = re.compile(r"(\S(?:.*?\S)?) {2,}(?=\S)")
+UNDERLINE = re.compile(r"-{4,}$")
+
+
+def in_order(kind: type) -> Iterator[str]:
+    """The directives of the public members of a class, then of those that it is made of, the first one last, as they stand in the
+    sources. Autodoc itself has members of other files in the order of their names."""
+    bases = [each for each in kind.__mro__[1:] if each.__module__.startswith("ljclient.")]
+    for name, member in [member for each in (kind, *reversed(bases)) for member in vars(each).items()]:
+        if name[0] != "_" and (inspect.isfunction(member) or isinstance(member, property)) and getattr(kind, name) is member:
+            yield f"   .. auto{'property' if isinstance(member, property) else 'method'}:: ljclient.{kind.__name__}.{name}"
 
 
 def members_of(kind: str) -> List[str]:
     """The directive of a class with its members."""
+    if kind in MANY:
+        return [f".. autoclass:: ljclient.{kind}", "", *in_order(getattr(ljclient, kind)), ""]
     lines = [f".. autoclass:: ljclient.{kind}", "   :members:", f"   :inherited-members: {PLAIN}"]
-    hidden = ", ".join(["of", *INTERNAL.get(kind, "").split()])
-    return [*lines, f"   :exclude-members: {hidden}", ""]
+    return [*lines, "   :exclude-members: of", ""]
 
 
 def is_raised(value: object) -> bool:
@@ -77,7 +81,7 @@ def package() -> Iterator[str]:
     """The directives of all public names of the package, those of modules left out."""
     values = {name: getattr(ljclient, name) for name in ljclient.__all__}
     raised = [name for name, value in values.items() if is_raised(value)]
-    first = ["User", "Session"]
+    first = list(MANY)
     classes = [name for name, value in values.items() if inspect.isclass(value) and name not in [*raised, *first]]
     others = [name for name, value in values.items() if not inspect.isclass(value) and not inspect.ismodule(value)]
     kinds = {name: "function" if inspect.isroutine(values[name]) else "data" for name in others}
@@ -102,50 +106,17 @@ def modules() -> Iterator[str]:
     for module in public_modules():
         name = module.partition(".")[2]
         shown = [each for each in ljclient.__all__ if hasattr(vars(ljclient).get(name), each)]
-        hidden = ", ".join([*shown, *INTERNAL.get(name, "").split()])
+        hidden = ", ".join(shown)
         yield from [module, "-" * len(module), "", f".. automodule:: {module}", "   :members:", "   :undoc-members:"]
         yield from [*([f"   :exclude-members: {hidden}"] if hidden else []), ""]
 
 
-def table_of(lines: Sequence[str]) -> Optional[List[Tuple[str, List[str]]]]:
-    """The rows of a table, each a name and the lines of its text, if lines are one: all texts begin at one column."""
-    column = found.end() if (found := TABLE.match(lines[0])) else 0
-    rows: List[Tuple[str, List[str]]] = []
-    for line in lines:
-        name, text = line[:column].strip(), line[column:]
-        if not column or not text or text[0] == " " or (name and line[column - 2 : column] != "  "):
-            return None
-        if name:
-            rows.append((name, []))
-        rows[-1][1].append(text)
-    return rows
-
-
-def restructured(paragraph: Sequence[str], name: str) -> List[str]:
-    """A paragraph of a docstring in reStructuredText: tables are definition lists there, and what is indented is code."""
-    if paragraph[0].startswith(" "):
-        return ["::", "", *paragraph, ""]
-    if paragraph[0].startswith(">>> "):
-        return [*paragraph, ""]
-    if rows := table_of(paragraph):
-        terms = [("`{}`".format(names.replace(", ", "`, `")), text) for names, text in rows]
-        return [line for term, text in terms for line in [term, *("    " + part for part in text)]] + [""]
-    if any(map(TABLE.match, paragraph)):
-        logging.getLogger(__name__).warning("%s: the texts of a table do not begin at one column: %s", name, paragraph[0])
-    return [*paragraph, ""]
-
-
-def paragraphs_of(lines: Sequence[str]) -> List[List[str]]:
-    """The paragraphs of a docstring."""
-    return [part.split("\n") for part in re.split(r"\n(?:\s*\n)+", "\n".join(lines).strip("\n")) if part]
-
-
 def converted(app: Any, what: str, name: str, obj: Any, options: Any, lines: List[str]) -> None:
-    """Has Sphinx read a docstring as it is written here. A refusal without one says what the protocol does."""
-    if inspect.isclass(obj) and obj.__doc__ is None:
-        lines[:] = [f"``ERR {obj.number:02} {obj.name}``: {obj.meaning}."] if issubclass(obj, ljclient.Refused) else []
-    else:
-        lines[:] = [line for paragraph in paragraphs_of(lines) for line in restructured(paragraph, name)]
+    """Has Sphinx show as code what stands indented in the text of a docstring, above its sections."""
+    end = next((at for at, line in enumerate(lines) if UNDERLINE.match(line)), len(lines))
+    for at in reversed(range(1, end)):
+        if lines[at].startswith(" ") and not lines[at - 1].strip():
+            lines[at:at] = ["::", ""]
 
 
 def signed(
@@ -160,9 +131,9 @@ def signed(
 
 
 def skipped(app: Any, what: str, name: str, obj: Any, skip: bool, options: Any) -> Optional[bool]:
-    """Leaves out what Python itself says of the fields of a tuple, and what refusals have for the client."""
+    """Leaves out old names, what Python itself says of the fields of a tuple, and what refusals have for the client."""
     is_of_python = str(getattr(obj, "__doc__", "")).startswith("Alias for field number")
-    return is_of_python or (what == "exception" and name in ("number", "name", "meaning", "by_number")) or None
+    return is_of_python or isinstance(obj, Renamed) or (what == "exception" and name in ("number", "name", "meaning", "by_number")) or None
 
 
 def filled(app: Any, name: str, source: List[str]) -> None:
@@ -174,6 +145,6 @@ def filled(app: Any, name: str, source: List[str]) -> None:
 
 def setup(app: Any) -> None:
     app.connect("source-read", filled)
-    app.connect("autodoc-process-docstring", converted)
+    app.connect("autodoc-process-docstring", converted, priority=400)  # before napoleon
     app.connect("autodoc-process-signature", signed)
     app.connect("autodoc-skip-member", skipped)
