@@ -23,7 +23,7 @@ class Function(NamedTuple):
 def owner_of(head: str) -> str:
     """The type that an impl is of, or `Trait for Type`, without parameters, bounds and supertraits."""
     shorter = re.sub(r"<[^<>]*>", "", head)
-    return owner_of(shorter) if shorter != head else shorter.split(" where ")[0].split(":")[0].strip()
+    return owner_of(shorter) if shorter != head else re.split(r" where |(?<!:):(?!:)", shorter)[0].strip()
 
 
 def end_of_signature(lines: list[str], place: int) -> int:

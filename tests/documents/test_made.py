@@ -92,18 +92,27 @@ def test_files_of_folders_are_printed() -> None:
     assert {"crates/lj_ring/src/lib.rt", "clients/python/ljclient/user.py", "tests/documents/test_made.py"} < set(all_files)
 
 
-def test_modules_and_types_are_printed_by_crate() -> None:
+def test_modules_with_types_and_functions_are_printed_by_crate() -> None:
     assert printed("types", "lj_quota", "lj_branch") == [
         ["`lj_quota`", "`lib`: Quota, Used, Over"],
         ["`lj_branch`", "`branch_faults`: SaveFault, NoBranch; `branches`: Branches; `lib`"],
     ]
-    assert {row[0].strip("`") for row in printed("types")} == set(documents.sources.crates()) - {"lj_tests"}
+    assert printed("functions", "lj_branch") == [
+        [
+            "`lj_branch`",
+            "`branch_faults`: SaveFault::fmt, SaveFault::from, NoBranch::fmt; `branches`: Branches::new, Branches::save, "
+            "Branches::restore_into, Branches::forget, Branches::count_of, Branches::len, Branches::is_empty, Branches::name_at, "
+            "Branches::step_at; `lib`",
+        ]
+    ]
+    for part in ("types", "functions"):
+        assert {row[0].strip("`") for row in printed(part)} == set(documents.sources.crates()) - {"lj_tests"}
 
 
 WRONG_WORDS = {
     "a crate that is not there": (["types", "lj_other"], "documents: lj_other must be a crate of the repository\n"),
     "a folder that is not there": (["files", "bin", "other"], "documents: other must be a folder of the repository\n"),
-    "a part that is not there": (["functions"], "invalid choice: 'functions'"),
+    "a part that is not there": (["methods"], "invalid choice: 'methods'"),
     "a check of one part": (["--check", "types"], "not allowed with argument --check"),
 }
 
