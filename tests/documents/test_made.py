@@ -109,6 +109,13 @@ def test_modules_with_types_and_functions_are_printed_by_crate() -> None:
         assert {row[0].strip("`") for row in printed(part)} == set(documents.sources.crates()) - {"lj_tests"}
 
 
+def test_python_files_are_printed_with_their_names() -> None:
+    names = {row[0].strip("`"): row[1] for row in printed("python", "bin")}
+    assert names["bin/sources.py"].startswith("Function, owner_of, end_of_signature, functions_of, ")
+    assert {"bin/documents", "bin/page"} < set(names) and all(name.startswith("bin/") for name in names)
+    assert "Lanes (__init__, run, begin_all, begin, jobs, call)" in names["bin/kit.py"]
+
+
 WRONG_WORDS = {
     "a crate that is not there": (["types", "lj_other"], "documents: lj_other must be a crate of the repository\n"),
     "a folder that is not there": (["files", "bin", "other"], "documents: other must be a folder of the repository\n"),
