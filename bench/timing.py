@@ -35,6 +35,14 @@ class Run(NamedTuple):
     seconds: float
 
 
+def of_a_user(program: str, folder: str) -> Dict[str, str]:
+    """The environment in which a user begins the client: it finds the client and the program, and keeps compiled modules in a folder."""
+    kept = {name: value for name, value in os.environ.items() if name != "PYTHONDONTWRITEBYTECODE"}
+    path = os.path.join(TOP, "clients", "python")
+    own = {"LJSERVE": program, "PYTHONPATH": path, "PYTHONPYCACHEPREFIX": folder, "LJCLIENT_HISTORY": os.path.join(folder, "typed")}
+    return {**kept, **own}
+
+
 class Host(NamedTuple):
     """What all processors have spent, in clock ticks, and what of it the host took away."""
 
