@@ -6,6 +6,7 @@ from typing import TYPE_CHECKING, Optional
 
 from keeping.accounts import DENIED
 from keeping.items import MAX_BODY, MAX_ITEMS, MAX_LINE, Item, ItemReader, ReplyReader, words_of
+from keeping.receiving import Receiver
 from proxy_header import NotWhole, source_of_bytes
 from watching import address_of, prepare, written
 
@@ -24,7 +25,7 @@ CHECK = (b"HELLO", b"-", b"-")
 MAX_BYTES_WAITING = MAX_BODY + MAX_LINE + 1
 
 
-class Client(asyncio.Protocol):
+class Client(Receiver):
     """The connection of a client, from its first line on."""
 
     def __init__(self, front: Front):
@@ -246,7 +247,7 @@ class Client(asyncio.Protocol):
         self._transport.abort()
 
 
-class Passed(asyncio.Protocol):
+class Passed(Receiver):
     """The connection of a client to the front that has its user. What comes passes as it is."""
 
     def __init__(self, client: Client, first: bytes):
@@ -276,7 +277,7 @@ class Passed(asyncio.Protocol):
         self._client.read_on()
 
 
-class Link(asyncio.Protocol):
+class Link(Receiver):
     """The connection of a user to the server, from its first line on. `left` is how many items it still may have: with the last one
     of those that a connection may have the server would end it."""
 

@@ -11,6 +11,7 @@ import socket
 from typing import TYPE_CHECKING, Any, Coroutine, Iterator, Optional, Tuple
 
 from keeping.items import Item, ItemReader
+from keeping.receiving import Receiver
 
 if TYPE_CHECKING:
     from keeping.ends import Client
@@ -20,7 +21,7 @@ if TYPE_CHECKING:
 NO_LIMIT = 1 << 62
 
 
-class LocalClient(asyncio.Protocol):
+class LocalClient(Receiver):
     """Such a client. `behind` is the client that was in when its transaction was asked for, and up to where that had sent its items:
     these are done before. `has_changed` is whether others have changed something since its last transaction, and `is_typed` whether
     what it sends was typed."""
