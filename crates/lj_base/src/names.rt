@@ -35,7 +35,7 @@ impl Model for Name {
 impl Name {
     /// Parses a name; `None` if `word` is not one.
     ///
-    /// Promise: a word that is a name gives that name; any other word gives nothing.
+    /// Promise: if the word is a name, the result is this name; otherwise it is `None`.
     pub fn parse(word: &[u8]) -> Option<Name>
         ensures { result ≡ name_of word.now }
     {

@@ -189,7 +189,7 @@ impl Numeral {
 /// assert_eq!(parse_nano(b"15D-1")?.get(), 1_500_000_000);
 /// ```
 ///
-/// Promise: the result is the value of the word times 10^9, with halves rounded away from zero, or what is wrong with the word.
+/// Promise: the result is either the fault of the word, or the value of the word times 10^9, with halves rounded away from zero.
 pub fn parse_nano(word: &[u8]) -> Result<Nano, NumberFault>
     ensures { result ≡ nano_of word.now }
 {

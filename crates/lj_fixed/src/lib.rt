@@ -1,4 +1,4 @@
-//! Parses decimal numbers, in units of 10^-9, and whole numbers, and prints numbers with six decimals.
+//! Parses whole numbers and decimal numbers (in units of 10^-9), and prints numbers with six decimals.
 #![tactic(auto)]
 
 mod decimal_words;

@@ -6,7 +6,7 @@ ghost use Rattle.lj_fixed.specs.Millionths.{last_digits, millionths};
 use arrayvec::ArrayString;
 use itoa::Buffer;
 
-/// Maximum number of bytes in a printed number of millionths.
+/// Maximum number of bytes in the text of a number with six decimals.
 pub const MAX_MICRO_BYTES: usize = 32;
 
 const MILLION: u64 = 1_000_000;
@@ -28,7 +28,7 @@ fn push_six_digits(text: &mut ArrayString<MAX_MICRO_BYTES>, number: u64)
 /// assert_eq!(micro_text(1_499_894).as_str(), "1.499894");
 /// ```
 ///
-/// Promise: the text is the number, given in millionths, with a point and six decimals.
+/// Promise: the text is the given number of millionths as a decimal number with six digits after the point.
 #[tactic(auto, unfolding(crate::specs::Millionths::millionths))]
 pub fn micro_text(micros: u64) -> ArrayString<MAX_MICRO_BYTES>
     ensures { result.bytes ≡ millionths micros }

@@ -15,7 +15,7 @@ const MAX_DIGITS: usize = 19;
 /// assert_eq!(parse_number(b"+1"), None);
 /// ```
 ///
-/// Promise: a word of 1 to 19 digits gives its value; any other word gives nothing.
+/// Promise: if the word consists of 1 to 19 digits, the result is its value; otherwise it is `None`.
 #[tactic(auto, unfolding(crate::specs::Numbers::number_of))]
 pub fn parse_number(word: &[u8]) -> Option<u64>
     ensures { result ≡ number_of word.now }

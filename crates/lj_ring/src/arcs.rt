@@ -71,7 +71,7 @@ impl Arcs {
 /// assert_eq!(gap(&Arc { start: 4_294_967_290, len: 10 }, &Arc { start: 9, len: 2 }), 5);
 /// ```
 ///
-/// Promise: the gap between two arcs is at most the distance of any coordinate on the one from any coordinate on the other.
+/// Promise: the gap between two arcs is at most the distance between any coordinate on one arc and any coordinate on the other.
 #[inline]
 pub fn gap(a: &Arc, b: &Arc) -> u32
     ensures value { result ≡ arcs.gap a.now b.now }

@@ -9,7 +9,7 @@ use std::fmt;
 use std::marker::Model;
 use thiserror::Error;
 
-/// Maximum weight of the energies of a class of pairs, in units of 1/256.
+/// Maximum energy weight of a class of pairs, in units of 1/256.
 const MAX_WEIGHT: u32 = 65_536;
 
 /// The weight of energies that leaves them as they are, in 256ths.
@@ -275,7 +275,7 @@ impl Mix {
     /// assert_eq!(mix.reach(), 83_886_080 * 83_886_080); // 2.5 times the greatest sigma
     /// ```
     ///
-    /// Promise: pairs of some class interact below this squared distance, and no pair interacts from it on.
+    /// Promise: pairs of at least one class interact at each squared distance below the result; no pair interacts at or above it.
     #[inline]
     pub fn reach(&self) -> u64
         ensures value { (s : ℕ) → can_interact self.now s ≡ nat_lt s result }

@@ -14,10 +14,10 @@ use std::marker::Model;
 use std::simd::prelude::*;
 use thiserror::Error;
 
-/// Minimum edge of a box, in nano.
+/// Minimum edge of a box, in nano (10^-9 of the length unit).
 const MIN_EDGE: u64 = 1_000_000;
 
-/// Maximum edge of a box, in nano.
+/// Maximum edge of a box, in nano (10^-9 of the length unit).
 const MAX_EDGE: u64 = MAX_NANO;
 
 /// Minimum sigma, in ring units.
@@ -247,7 +247,7 @@ impl Scale {
     /// assert_eq!(scale.bins(x, zero, zero), u32x8::splat(288));
     /// ```
     ///
-    /// Promise: each bin is the bin of its pair's squared distance, or 800 beyond the cutoff.
+    /// Promise: for each pair the result is the bin of its squared distance, or 800 beyond the cutoff.
     #[inline(always)]
     pub fn bins(&self, x: u32x8, y: u32x8, z: u32x8) -> u32x8
         ensures value { (k : ℕ) → k < 8 → slice_index result k

@@ -12,7 +12,7 @@ ghost use Rattle.lj_step.specs.OpenSteps.{cover_tiles, tile_task, tile_of};
 ghost use Rattle.lj_step.specs.TileTasks.{HasEnergy, HasForces};
 ghost use Rattle.lj_step.specs.MotionLaws.{IsFrameOnRing, IsWellFormed, IsMixture, drift, opposite_push, next_simulation_by, tiles_energy};
 
-/// Promise: for every n and every simulation, n steps, a reversal, n steps and a reversal give back the simulation.
+/// Promise: for every n, every simulation is the same again after n steps, a reversal, n steps and a reversal.
 pub fn steps_are_undone()
     ensures { (u : Composition) (n : ℕ) (sim : Simulation) → IsWellFormed sim
         → reversal (steps u n (reversal (steps u n sim))) ≡ sim }
@@ -25,8 +25,8 @@ pub fn drift_is_conserved()
     ensures reverse { (sim : Simulation) → IsWellFormed sim → drift (reversal sim) ≡ opposite_push (drift sim) }
 {}
 
-/// Promise: a step computed from any cover, with its tiles in any order, is the step over all pairs, and the energies of the tiles
-/// add up to the potential.
+/// Promise: a step computed from any cover, with its tiles in any order, equals the step over all pairs. The energies of the tiles
+/// of a cover add up to the potential.
 pub fn covers_are_all_pairs()
     ensures step { (u : Composition) (sim : Simulation) (tiles : List Tile) → IsForceCover u sim.cur tiles
         → next_simulation_by u tiles sim ≡ next_simulation u sim }
@@ -34,7 +34,8 @@ pub fn covers_are_all_pairs()
         → tiles_energy u frame tiles ≡ potential u frame }
 {}
 
-/// Promise: for up to `MAX_ATOMS` atoms, all on the ring, the tiles of a step are a cover, for forces and for energies.
+/// Promise: the tiles of a force step, and those of an energy step, are a cover if there are at most `MAX_ATOMS` atoms, all on the
+/// ring.
 pub fn tasks_are_a_cover()
     ensures force { (u : Composition) (frame : List Place) → IsFrameOnRing frame → length frame ≤ MAX_ATOMS
         → IsForceCover u frame (cover_tiles Force u frame) }
@@ -42,7 +43,7 @@ pub fn tasks_are_a_cover()
         → IsEnergyCover u frame (cover_tiles Energy u frame) }
 {}
 
-/// Promise: the value of a tile's task is what the tile adds to each atom, or its energy.
+/// Promise: the sums of a tile's task are the pushes of the tile on the atoms or, in an energy step, the energy of the tile.
 pub fn tasks_are_the_tiles()
     ensures force { (live : Sim) (label : Label) (k : ℕ)
         → HasForces live.composition live.sim.cur (tile_of Force k) (tile_task live label Force k) }
