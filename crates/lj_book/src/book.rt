@@ -74,8 +74,8 @@ impl Book {
     /// # Errors
     /// `Full`, with the task, if there are `MAX_ENTRIES` entries, or 2^64 - 1 tasks have been posted.
     ///
-    /// Promise: if the book has room, the task is then open under a key that was vacant. Otherwise it is returned, and the book is
-    /// unchanged.
+    /// Promise: if the book has room, the task becomes open under a key that was vacant. Otherwise the task is returned, and the
+    /// book is unchanged.
     pub fn post(&mut self, task: Task) -> Result<(), Full>
         ensures room { IsOk result ↔ ((entry_count self.old < MAX_ENTRIES) × (self.old.posted < 2 ^ 64 - 1)) }
         ensures posts { OnOk result ((key : ℕ) × Posts self.old self.new task key) }
@@ -108,8 +108,8 @@ impl Book {
 
     /// Takes the open task of the least key from `pick` on, else of the least key. It is then out.
     ///
-    /// Promise: the open task with the smallest key from `pick` on is handed out; if there is none, the open task with the smallest
-    /// key; if no task is open, none.
+    /// Promise: the open task with the smallest key at or above `pick` is handed out, or else the one with the smallest key of all.
+    /// If no task is open, nothing changes.
     pub fn take(&mut self, pick: usize) -> Option<(Key, Task)>
         ensures some { IfSome result (λ taken. Takes self.old self.new taken.0 taken.1) }
         ensures picked { IfSome result (λ taken. IsPick (IsOpenAt self.old) pick taken.0) }
@@ -144,8 +144,8 @@ impl Book {
     /// # Errors
     /// The result, if that very task is not out under that key. Nothing has changed then.
     ///
-    /// Promise: a result is accepted if and only if its task is handed out under its key. Otherwise it is returned, and nothing
-    /// changes.
+    /// Promise: a result is accepted if and only if its task is handed out under the given key. Otherwise the result is returned,
+    /// and nothing changes.
     pub fn give(&mut self, key: Key, done: Done) -> Result<(), Done>
         ensures given { IsOk result ↔ (entry_at self.old key ≡ Some (BookEntry.Out done)) }
         ensures gives { OnOk result (Gives self.old self.new key done) }
@@ -196,8 +196,8 @@ impl Book {
 
     /// Fetches the user's result of the least key from `pick` on, else of the least key, and removes its entry.
     ///
-    /// Promise: the user's result with the smallest key from `pick` on leaves the book; if there is none, the user's result with
-    /// the smallest key; if the user has no result, none.
+    /// Promise: the user's result with the smallest key at or above `pick` leaves the book, or else the one with the smallest key
+    /// of all. If the user has no result, nothing changes.
     pub fn fetch(&mut self, user: u8, pick: usize) -> Option<Done>
         ensures some { IfSome result (λ done. (key : ℕ) × Fetches self.old self.new done key
             × IsPick (IsDoneAt user self.old) pick key) }
@@ -213,7 +213,7 @@ impl Book {
 
     /// Removes every entry of the user, also those of tasks that are out.
     ///
-    /// Promise: all entries of the user leave the book, with those that workers have, and no others.
+    /// Promise: exactly the user's entries leave the book, including those of tasks that workers have.
     pub fn withdraw(&mut self, user: u8)
         ensures { Withdraws user self.old self.new }
     {
@@ -233,8 +233,8 @@ impl Book {
 
     /// Returns the counts. Each posted task has been fetched or withdrawn, or is still in the book.
     ///
-    /// Promise: every task that was posted was fetched, was withdrawn, or is in the book. No more results were given than tasks
-    /// posted.
+    /// Promise: every posted task has been fetched or withdrawn, or is still in the book. The number of given results is at most
+    /// the number of posted tasks.
     pub fn counts(&self) -> Counts
         ensures posted { result.posted ≡ self.now.posted }
         ensures given { result.given ≡ self.now.given }

@@ -85,8 +85,8 @@ impl BoxBook {
     /// The box, if there are `MAX_ENTRIES` entries, 2^64 - 1 tasks have been posted, or no box is lent, so that this
     /// one comes from elsewhere. Nothing has changed then.
     ///
-    /// Promise: if the book has room and has handed out a box, the task is then open in its box, under a new number. Otherwise the
-    /// box is returned, and the book is unchanged.
+    /// Promise: if the book has room and has handed out a box, the task in the given box becomes open under a new number. Otherwise
+    /// the box is returned, and the book is unchanged.
     pub fn post_box(&mut self, task: TaskBox) -> Result<(), TaskBox>
         ensures room { IsOk result ↔ (HasRoom self.old.inner × (boxes_of self.old < self.old.made)) }
         ensures posts { OnOk result ((key : ℕ) × PostsBox self.old self.new task key) }
@@ -103,8 +103,8 @@ impl BoxBook {
 
     /// Takes the open task of the least key from `pick` on, else of the least key, in its box. It is then out.
     ///
-    /// Promise: the box of the open task with the smallest key from `pick` on is handed out; if there is none, the box of the open
-    /// task with the smallest key; if no task is open, none.
+    /// Promise: the open task with the smallest key at or above `pick` is handed out in its box, or else the one with the smallest
+    /// key of all. If no task is open, nothing changes.
     pub fn take_box(&mut self, pick: usize) -> Option<LentTask>
         ensures some { IfSome result (λ lent. TakesBox self.old self.new lent) }
         ensures picked { IfSome result (λ lent. IsPick (IsOpenAt self.old.inner) pick lent.key) }
@@ -126,8 +126,8 @@ impl BoxBook {
     /// # Errors
     /// The box, if no task is out under that key with that number. Nothing has changed then.
     ///
-    /// Promise: a result is accepted if and only if its box is the one that is handed out under its key. Otherwise the box is
-    /// returned, and nothing changes.
+    /// Promise: a result is accepted if and only if its task is handed out under its key and number. Otherwise the box is returned,
+    /// and nothing changes.
     pub fn give_box(&mut self, lent: LentDone) -> Result<(), DoneBox>
         ensures given { IsOk result ↔ IsOut self.old lent }
         ensures gives { OnOk result (GivesBox self.old self.new lent) }
@@ -161,8 +161,8 @@ impl BoxBook {
 
     /// Fetches the user's result of the least key from `pick` on, else of the least key, in its box, and removes its entry.
     ///
-    /// Promise: the box of the user's result with the smallest key from `pick` on leaves the book; if there is none, the one with
-    /// the smallest key; if the user has no result, none.
+    /// Promise: the user's result with the smallest key at or above `pick` leaves the book in its box, or else the one with the
+    /// smallest key of all. If the user has no result, nothing changes.
     pub fn fetch_box(&mut self, user: u8, pick: usize) -> Option<DoneBox>
         ensures some { IfSome result (λ done. (key : ℕ) × FetchesBox self.old self.new done key
             × IsPick (IsDoneAt user self.old.inner) pick key) }
@@ -174,7 +174,7 @@ impl BoxBook {
 
     /// Removes every entry of the user, also those of tasks that are out. The boxes in them are spare then.
     ///
-    /// Promise: all entries of the user leave the book, with those that workers have, and no others. No box is lost.
+    /// Promise: exactly the user's entries leave the book, including those of tasks that workers have. No box is lost.
     pub fn withdraw(&mut self, user: u8)
         ensures { WithdrawsBox user self.old self.new }
     {
@@ -222,8 +222,8 @@ impl BoxBook {
 
     /// Returns the counts. Each posted task has been fetched or withdrawn, or is still in the book.
     ///
-    /// Promise: every task that was posted was fetched, was withdrawn, or is in the book. No more results were given than tasks
-    /// posted.
+    /// Promise: every posted task has been fetched or withdrawn, or is still in the book. The number of given results is at most
+    /// the number of posted tasks.
     pub fn counts(&self) -> Counts
         ensures posted { result.posted ≡ self.now.inner.posted }
         ensures given { result.given ≡ self.now.inner.given }

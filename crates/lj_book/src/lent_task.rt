@@ -129,7 +129,7 @@ impl Lent<TaskBox> {
 
     /// Computes the task, in its box.
     ///
-    /// Promise: the result belongs to the given task, with its key and number.
+    /// Promise: the result is that of the given task, and has the same key and number.
     pub fn compute<K: Kernel>(self, kernel: &K) -> LentDone
         ensures { result ≡ self }
     {

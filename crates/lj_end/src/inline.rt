@@ -14,7 +14,7 @@ use std::marker::Model;
 
 /// A pool that computes each task as it is posted, in its one slot. It allocates no memory.
 ///
-/// Promise: an `InlinePool` keeps all clauses of `PoolEnd`, and is never closed.
+/// Promise: an `InlinePool` satisfies all clauses of `PoolEnd`, and is never closed.
 #[derive(Drop)]
 pub struct InlinePool {
     table: Table,

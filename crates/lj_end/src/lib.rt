@@ -1,4 +1,5 @@
-//! The interface of a pool of workers: ends, which post tasks and fetch results; the counts of workers; and who is woken.
+//! The interface of a pool of workers: its ends (which post tasks and fetch results), the counts of its workers, and the rules for
+//! waking threads.
 #![tactic(auto)]
 
 mod account;

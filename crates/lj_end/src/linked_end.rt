@@ -86,8 +86,8 @@ pub trait Finish {
 
 /// An end of a pool, over its link to the pool. It keeps a copy of each task that is owed to it, and allocates no memory.
 ///
-/// Promise: a `LinkedEnd` keeps all clauses of `PoolEnd`, for every number of workers. So the replies of `serve` are the same over
-/// it.
+/// Promise: a `LinkedEnd` satisfies all clauses of `PoolEnd`, for any number of workers. So `serve` writes the same replies over a
+/// `LinkedEnd` as over any other pool.
 #[derive(Drop)]
 pub struct LinkedEnd<X, C> {
     link: X,

@@ -10,16 +10,16 @@ use crate::task_list::TaskList;
 use lj_task::{Done, DoneRef, Task, TaskRef};
 use thiserror::Error;
 
-/// Maximum number of ends at once for which a pool has boxes. With more of them a post may be refused before the book is full.
+/// Maximum number of simultaneous ends for which a pool has boxes. With more of them a post may be refused before the book is full.
 pub const MAX_ENDS: usize = 64;
 
-/// Maximum number of tasks of an end that are posted and not fetched.
+/// Maximum number of tasks that one end of a pool has posted and not fetched yet.
 pub const MAX_OWED: usize = 64;
 
 /// Maximum number of tasks that one call posts.
 pub const MAX_POSTS: usize = 16;
 
-/// The number of consecutive stray results that ends the work for a user.
+/// The number of consecutive stray results after which the work for a user ends.
 pub const MAX_STRAYS: u64 = 4096;
 
 /// Maximum number of unfinished tasks while a connection waits for its next command. 63 waiting connections then leave room for the
@@ -51,8 +51,8 @@ pub enum Refused {
 ///
 /// Tasks and results are large, so they are passed by reference.
 ///
-/// Promise: a posted task is owed until its result is handed out. Each result that is handed out is counted, as owed or as a stray;
-/// until then it is the next result again.
+/// Promise: a posted task is owed until its result is handed out. Each result handed out is counted, as owed or as a stray; until
+/// it is counted, it is handed out again.
 pub trait PoolEnd {
     /// The token of the pool's close. Only a closed pool makes one.
     type Closed: Drop;

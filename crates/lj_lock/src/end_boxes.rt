@@ -13,13 +13,13 @@ use lj_task::{Done, DoneRef, SharedFrame, TaskRef};
 use std::marker::Model;
 use std::mem;
 
-/// Maximum number of results that an end has fetched and not handed out yet.
+/// Maximum number of results that one end of a pool has fetched and not handed out yet.
 pub const MAX_IN_HAND: usize = 16;
 
-/// Maximum number of such results and spare boxes of an end together.
+/// Maximum number of results that one end of a pool has fetched and not handed out yet, plus its spare boxes.
 pub const MAX_SPARE: usize = MAX_IN_HAND + 1;
 
-/// Maximum number of boxes of an end: those, and the one of the last result that was handed out.
+/// Maximum number of boxes of one end of a pool, including the box of the result that was handed out last.
 pub const MAX_END_BOXES: usize = MAX_SPARE + 1;
 
 /// Copies of tasks that are to be posted, in their boxes. The place of a box that was posted is empty.

@@ -38,7 +38,7 @@ pub fn work<L: Ledger, G: Gate, R: Wait>(
 
 /// Returns the number of results accepted from all workers together, which is the number given to the book of the pool.
 ///
-/// Promise: the result is the sum of what all workers are credited.
+/// Promise: the result is the sum of the credits of all workers.
 pub fn gather<L: Ledger, R: Wait>(rt: &R, pool: &LockPool<L>, shares: Vec<Share<L>>) -> u64
     requires { vec_len shares ≡ L.parts }
     ensures { result ≡ sum shares.items }
