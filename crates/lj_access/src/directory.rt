@@ -74,8 +74,7 @@ impl Directory {
     /// # Errors
     /// No user has both, or all tickets of this user are granted. Nothing has changed then.
     ///
-    /// Promise: only a HELLO with the name and the token of a user gets a ticket, the next one of that user. A HELLO that is denied
-    /// changes nothing.
+    /// Promise: only a HELLO with a user's name and token gets a ticket: the user's next one. A denied HELLO changes nothing.
     pub fn hello(&mut self, name: &[u8], token: &[u8]) -> Result<Ticket, Denied>
         ensures granted { IsOk result
             ↔ IsSomeAnd (user_with self.old name.now token.now)
@@ -106,8 +105,8 @@ impl Directory {
     /// Lends the state of the ticket's user to this ticket, if it is the user's first one that has not left and the state is at
     /// home; else returns None.
     ///
-    /// Promise: a state is handed out if and only if no other connection has it, and the ticket is its user's first one that has
-    /// not left.
+    /// Promise: a user's state is handed out if and only if no connection has it, and the ticket is the first of the user's tickets
+    /// that have not left.
     pub fn try_enter(&mut self, ticket: &Ticket) -> Option<UserState>
         ensures enters { IsSome result
             ↔ IsSomeAnd (slice_get self.old ticket.now.user) (CanEnter ticket.now.number) }

@@ -1,4 +1,4 @@
-//! The sessions of a user: carries out commands, and gives the reply to each.
+//! Carries out a user's commands on the user's sessions, and gives the reply to each.
 #![tactic(auto)]
 
 mod body;

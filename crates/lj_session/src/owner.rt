@@ -78,9 +78,9 @@ impl Owner {
     /// of its own; else it waits. START is always answered at once, with the step number at the end. Only LOAD, LOADMIX
     /// and BRANCH take memory.
     ///
-    /// Promise: a command that needs no step is answered immediately, with the reply and the next user of the definition. Any other
-    /// command waits, and will get the reply that it would get now. A refused command changes nothing, and no command changes
-    /// another session.
+    /// Promise: a command that needs pending steps, or steps of its own, waits; waiting does not change its reply. Any other
+    /// command is answered immediately; the reply and the user's next state are as defined. A refused command changes nothing, and
+    /// no command changes another session.
     pub fn begin(&mut self, command: Command) -> Begin
         requires idle { self.old.waiting ≡ None }
         ensures answered { IfAnswered result (AnswersAtOnce command self.old self.new) }
@@ -248,8 +248,8 @@ impl Owner {
     /// command needs this session, it begins again: it is answered, begins its own steps, or waits on. No other session
     /// is changed. If the command is refused, the step is made and nothing else.
     ///
-    /// Promise: the waiting command is answered at its last turn, and not before, with the reply and the next user by definition.
-    /// No other session changes.
+    /// Promise: the waiting command is answered exactly at the last turn that it needs; the reply and the user's next state are as
+    /// defined. No other session changes.
     pub fn turn_session(&mut self, name: &Name) -> Option<Reply>
         requires { is_whole_in self.old.state name.now ≡ true }
         ensures last { IsSome result ↔ IsLastTurn name.now self.old }
@@ -300,7 +300,7 @@ impl Owner {
     /// Returns the state, with the pending steps of its sessions. Open steps are restarted, so that no tile is posted
     /// or in.
     ///
-    /// Promise: the state that is returned has the same user as its value, with the pending steps of its sessions.
+    /// Promise: the returned state has the same sessions with the same pending steps; only open steps are restarted.
     pub fn into_state(self) -> UserState
         requires { self.waiting ≡ None }
         ensures state { result ≡ with_steps_restarted self.state }

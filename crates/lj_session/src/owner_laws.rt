@@ -17,8 +17,8 @@ pub fn accept_keeps_user()
     ensures { AcceptKeepsUser }
 {}
 
-/// Promise: a command that was begun and waits will be answered as it would be now. Only an ADVANCE changes the user when it
-/// begins, by its pending steps.
+/// Promise: waiting does not change the reply to a command. When a command begins and waits, no session changes, except that the
+/// steps of an ADVANCE become pending.
 pub fn begun_waits_alike()
     ensures { BegunWaitsAlike }
 {}

@@ -8,11 +8,11 @@ use std::fmt;
 /// The reason why an item is refused. A refusal changes nothing.
 #[derive(Clone, Copy, Debug, PartialEq, Eq)]
 pub enum Refusal {
-    /// The first line is not a HELLO with the name and the token of a user.
+    /// The first line is not a HELLO with a user's name and token.
     Denied,
     /// A line has more than 256 bytes.
     Line,
-    /// A line has no word, a wrong number of words, a word of the wrong form, or, of LOADMIX, the same symbol twice.
+    /// A line has no word, a wrong number of words or a word of the wrong form, or a LOADMIX line has the same symbol twice.
     Syntax,
     /// A line of LOAD or LOADMIX does not end with a count.
     Body,
@@ -48,7 +48,7 @@ pub enum Refusal {
     Sigma,
     /// The step factor h is not a whole number from 1 to 16777216.
     StepFactor,
-    /// A weight of energies is not a whole number from 1 to 65536.
+    /// The energy weight of a class is not a whole number from 1 to 65536.
     Weight,
     /// There is not enough memory for the command.
     Memory,

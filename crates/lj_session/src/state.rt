@@ -34,8 +34,7 @@ use std::mem;
 
 /// A user's quota, how much of it is used, and the sessions by their names, in order of loading, with their pending steps.
 ///
-/// Promise: once its pending steps are done, a state is always what some list of commands leaves of a user who began without
-/// sessions.
+/// Promise: every state, with its pending steps done, is one that some list of commands produces from a user without sessions.
 #[derive(Drop)]
 pub struct UserState {
     quota: Quota,

@@ -51,7 +51,8 @@ pub fn commands_are_items()
     ensures { CommandsAreItems }
 {}
 
-/// Promise: for every state there are items and marks which, answered alone, lead to its user.
+/// Promise: every state, with its pending steps done, is one that some list of items with marks produces from a user without
+/// sessions.
 pub fn state_is_reached_alone(state: &UserState)
     ensures { IsReachedAlone (user_of state.now) }
 {

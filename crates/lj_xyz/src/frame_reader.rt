@@ -256,7 +256,7 @@ fn first_two_frames(
 /// assert_eq!(rows.as_slice()[1].x.get(), 1_500_000_000);
 /// ```
 ///
-/// Promise: the result is the first frame of the text, or its first fault in reading order, or the fault that memory ran out.
+/// Promise: the result is one of three: the text's first frame; the text's first fault in reading order; or an out-of-memory fault.
 pub fn read_rest(alloc: Global, text: &[u8], symbols: Option<&SymbolPair>) -> Result<Rows, XyzError>
     ensures frame { IfOk result (λ rows.
         IsReading (option_copied symbols.entry) rest (lines_of text.now) (Ok (rows ∷ []))) }
@@ -283,8 +283,8 @@ pub fn read_rest(alloc: Global, text: &[u8], symbols: Option<&SymbolPair>) -> Re
 /// assert_eq!(frames.second.as_slice()[0].z.get(), 250_000_000);
 /// ```
 ///
-/// Promise: the result is the first two frames of the text, with equal numbers of atoms, or its first fault, or the fault that
-/// memory ran out.
+/// Promise: the result is one of three: the text's first two frames, with equally many atoms; the text's first fault in reading
+/// order; or an out-of-memory fault.
 pub fn read_pair(
     alloc: Global,
     text: &[u8],
