@@ -19,9 +19,8 @@ use std::alloc::Global;
 /// Returns the state, with the pending steps of its sessions, unless the pool was given up; how serving ended; and the reader.
 /// The pool is asked for no other user.
 ///
-/// Promise: over any pool, what is written is the dialogue of what is read, or a prefix of it if a write failed, and the state that
-/// is returned is the one after the items that were answered. If the pool is given up, the replies before that are written, and no
-/// state is returned.
+/// Promise: over any pool, the replies to all items read are written, or a prefix of them if a write failed; the returned state is
+/// the one after the answered items. If the pool is given up, the replies before that are written, and no state is returned.
 pub fn serve<R: Source, W: Sink, P: PoolEnd>(
     alloc: Global,
     state: UserState,

@@ -44,8 +44,8 @@ pub fn run<R: Read + Drop, W: Write + Drop>(
 /// # Errors
 /// `Read` or `Write`.
 ///
-/// Promise: a sink whose bytes are known gets what `serve` writes for a user of this quota who begins without sessions. All of it
-/// is sent unless a write or a flush fails.
+/// Promise: the bytes added to a sink, if they are known, are those that `serve` writes for a user with this quota and no sessions
+/// at the start. All of them are sent unless a write or a flush fails.
 pub fn run_over<R: Source + Drop, W: Sink>(
     alloc: Global,
     quota: Quota,

@@ -26,7 +26,8 @@ use std::alloc::{AllocError, Global};
 /// `Line` at the first bad line of the schedule, or `Memory`: nothing is written then. `Write` if a write fails: a front of the
 /// transcript may have been written.
 ///
-/// Promise: on success the transcript of a run was written, and the headline holds for that run. At a bad line nothing was written.
+/// Promise: on success the transcript of a run is written, and the headline holds for that run. If a line is bad or memory runs
+/// out, nothing is written.
 pub fn replay<W: Sink>(alloc: Global, bytes: &[u8], writer: &mut W) -> Result<(), ReplayFault>
     ensures written { OnOk result (WritesRun (W.contents writer.old) (W.contents writer.new)) }
     ensures nothing { IfErr result (λ fault. fault ≢ Write → writer.new ≡ writer.old) }

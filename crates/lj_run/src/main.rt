@@ -1,4 +1,4 @@
-//! Answers the commands of one user with the usual quota on standard input, for machines that have only two streams.
+//! Answers one user's commands from standard input, under the usual quota, on machines that have only two streams.
 #![tactic(auto)]
 
 ghost use Rattle.std.specs.Prelude.{◌≡◌, IfErr, OnOk};

@@ -1,5 +1,5 @@
-//! Tests of what the libraries make public, if no dialogue in `tests/` tests it. A crate with tests is proved twice, so the other
-//! crates have no tests.
+//! Tests of those public items of the libraries that no dialogue in `tests/` tests. They are in a crate of their own, since a crate
+//! with tests is proved twice.
 #![tactic(auto)]
 
 #[cfg(test)]

@@ -3,8 +3,8 @@ ghost use Rattle.lj_visit.specs.VisitLaws.{AttendedIsAnswered, VisitsAreOneFold,
 
 use lj_wire::commands_are_items;
 
-/// Promise: what is written to a user after OK HELLO is the dialogue of the user's lines, from the lent state on: the whole
-/// dialogue or, if a write failed, a prefix that ends within the reply to the last answered item.
+/// Promise: after OK HELLO a user gets the replies to all items read, starting from the lent state; if a write failed, a prefix of
+/// them that ends within the reply to the last answered item.
 pub fn attended_is_answered()
     ensures { AttendedIsAnswered }
 {}
@@ -14,16 +14,17 @@ pub fn visits_are_one_fold()
     ensures { VisitsAreOneFold }
 {}
 
-/// Promise: some items lead to each state that serving starts from. After these items, answered alone under the state's quota, the
-/// items that are read get the replies that are written. If a write failed, the last reply is cut short.
+/// Promise: each state from which serving starts is the result of some list of items. The written replies are those that the
+/// answered items get after the items that led to the state, under its quota and if there are no other users. If a write failed,
+/// the last reply is cut short.
 pub fn reached_is_answered_behind()
     ensures { ReachedIsAnsweredBehind }
 {
     commands_are_items();
 }
 
-/// Promise: the bytes written in all visits of a user, joined, are a prefix of the replies to all items of these visits folded
-/// alone. In the last visit a write may have failed, or the pool may have been given up.
+/// Promise: the bytes written in all visits of a user, joined, are a prefix of the replies that the items of these visits get if
+/// there are no other users. This holds if no write fails and the pool is not given up before the last visit.
 pub fn visits_are_one_prefix()
     ensures { VisitsAreOnePrefix }
 {}

@@ -19,7 +19,8 @@ fn pending_command_laws()
     waiting_goes_on();
 }
 
-/// Promise: in every run the replies to a user are the first texts of the user's script answered alone, one for each mark.
+/// Promise: in every run a user gets one reply for each mark of the user's script: the first replies that this script gets if there
+/// are no other users.
 pub fn replies_are_first_texts()
     ensures { RepliesAreFirstTexts }
 {
@@ -27,13 +28,14 @@ pub fn replies_are_first_texts()
     pending_command_laws();
 }
 
-/// Promise: if two scripts agree, the texts of one are a prefix of the texts of the other.
+/// Promise: if two scripts agree, the replies to one of them are a prefix of the replies to the other, with one reply for each
+/// mark.
 pub fn agreeing_scripts_agree_in_texts()
     ensures { AgreeingScriptsAgreeInTexts }
 {}
 
 /// Promise: for any two lists of events in which a user's scripts agree, one list of the replies to this user is a prefix of the
-/// other. Both are prefixes of the replies to this user's commands answered alone.
+/// other. Both lists are prefixes of the replies that this user's commands get if there are no other users.
 pub fn headline()
     ensures { Headline }
 {
@@ -41,8 +43,8 @@ pub fn headline()
     agreeing_scripts_agree_in_texts();
 }
 
-/// Promise: in every run the value of a user is what the user's script so far gives. A pending command is the next item of the
-/// script.
+/// Promise: at each point of a run, a user's state, with its pending steps done, is the result of the user's script up to then. A
+/// pending command is the next item of the script.
 pub fn value_is_that_of_script()
     ensures { ValueIsThatOfScript }
 {
@@ -50,7 +52,7 @@ pub fn value_is_that_of_script()
     pending_command_laws();
 }
 
-/// Promise: in every run a user's n-th granted HELLO, counted from 0, gets its ticket n.
+/// Promise: in every run a user's n-th granted HELLO, counted from 0, gets the user's ticket n.
 pub fn tickets_are_in_order()
     ensures { TicketsAreInOrder }
 {
@@ -68,7 +70,7 @@ pub fn refusals_leave_sessions()
     ensures { RefusalsLeaveSessions }
 {}
 
-/// Promise: every list of events has a run from every state.
+/// Promise: every list of events can be run from every state of the machine.
 pub fn each_list_has_a_run()
     ensures { EachListHasARun }
 {}
