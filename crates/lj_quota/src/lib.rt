@@ -61,7 +61,7 @@ impl fmt::Display for Over {
 
 /// Checks that one more session, of this many atoms, stays within the quota. If both are over it, the error is `Sessions`.
 ///
-/// Promise: the result is true if and only if one more session, with these atoms, stays within the quota.
+/// Promise: the result is `Ok` if and only if one more session with this many atoms stays within the quota.
 pub fn may_load(quota: &Quota, used: &Used, atoms: u64) -> Result<(), Over>
     ensures may { IsOk result
         ↔ ((used.now.sessions + 1 ≤ quota.now.sessions) × (used.now.atoms + atoms ≤ quota.now.atoms)) }
@@ -83,7 +83,7 @@ pub fn may_session(quota: &Quota, used: &Used) -> Result<(), Over>
 
 /// Checks that one more saved simulation stays within the quota.
 ///
-/// Promise: the result is true if and only if one more saved simulation stays within the quota.
+/// Promise: the result is `Ok` if and only if one more saved simulation stays within the quota.
 pub fn may_branch(quota: &Quota, used: &Used) -> Result<(), Over>
     ensures may { IsOk result ↔ (used.now.branches + 1 ≤ quota.now.branches) }
     ensures over { IsErrOf result Branches ↔ (quota.now.branches < used.now.branches + 1) }
