@@ -26,12 +26,12 @@ def test_the_pair_that_is_worked_out() -> None:
         assert int(entry) * Fraction(factor) / 2 ** int(power) == int(entry) * H * distance * SIGMA / 2**56
         assert int(int(entry) * Fraction(factor) / 2 ** int(power)) == int(push)
         assert round(-force(distance**2) * H * distance * SIGMA / 2**32) == 593
-    assert "by 593 both times" in README
+    assert "the push would be 593 both times" in README
 
 
 def test_the_energies_are_those_of_accuracy() -> None:
     measured = (TOP / "docs" / "ACCURACY.md").read_text()
-    (head,) = re.findall(r"^\| h \| Time step \| For argon \| (.*) steps \| T \| Burst \|$", measured, re.M)
+    (head,) = re.findall(r"^\| h \| Time step \| For argon \| (.*) steps \| T \| Blew up \|$", measured, re.M)
     columns = head.split(" steps | ")
     told = re.findall(r"([\d.]+)(?: epsilon per atom)? in ([\d,]+) steps at h = (\d+)", README)
     assert [h for _, _, h in told] == ["4295", "131072"]
