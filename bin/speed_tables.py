@@ -1,6 +1,7 @@
 """Makes the tables of docs/SPEED.md from the results of the scripts of bench/: docs/speed/NAME.json, which bench/speeds keeps."""
 
 import json
+import re
 import shlex
 from typing import Any, Callable, Iterable, Iterator
 
@@ -14,23 +15,33 @@ POOLS = ("queue", "lock")
 OPTIONS = " | ".join(f"`--pool {pool}`" for pool in POOLS)
 # Units of figures that a table shows otherwise.
 UNITS = {"us": "µs"}
-# What a measurement measures, by its name, or by the first name of a table.
+# Names of figures that a table shows otherwise.
+NAMES = {
+    r"a step of (\d+) atoms by the (page|program)": r"time of a step of \1 atoms in the \2",
+    r"(a step of \d+ atoms): time by the page divided by time by .*": r"time of \1 in the page, divided by the time in the program",
+    "processor time of a sent frame": "processor time of the view and its program per frame",
+    "processor time of HAProxy to let one user in": "processor time of HAProxy to connect one user",
+}
+# What a table shows, by the name of its measurement, or of its first one.
 ABOUT = {
-    "step_4096": "the wall-clock time of a step by `ljserve` and by its twin, `bench/plain.c` (plain C, `-march=native`, one thread)",
-    "lammps": "the processor time of a step of 4,000 atoms in one thread by `ljserve` and by Debian's LAMMPS of 29 Sep 2021",
-    "order": "the processor time of a step of 4,096 atoms with and without sorting",
-    "lines": "how fast SHOW commands from standard input are answered by `ljserve` and by its twin, `bench/lines.c`",
-    "instructions": "how many instructions a command takes, with callgrind",
-    "reader": "how fast atoms are read",
-    "scale": "the speed of a server compared with `ljserve run`",
-    "server": "the speed of a server on 127.0.0.1",
-    "shards": "what 992 users of 16 servers behind HAProxy 2.6 cost",
-    "memory": "the resident memory of a server with one worker",
-    "keep": "the time of a command with and without `tools/keep`",
-    "client": "the processor time of calls of the Python client",
-    "start": "how long the Python client takes to start",
-    "page": "how fast the page that contains the program is in Chromium",
-    "view": "how fast the live view of the Python client is",
+    "step_4096": "The table compares the wall-clock time of a step of `ljserve` with the time of its twin in plain C, `bench/plain.c` "
+    "(`-march=native`, one thread).",
+    "lammps": "The table shows the processor time of a step of 4,000 atoms in one thread, for `ljserve` and for Debian's LAMMPS of "
+    "29 Sep 2021.",
+    "order": "The table shows the processor time of a step of 4,096 atoms, with and without sorting the atoms in space.",
+    "lines": "The table shows how many SHOW commands per second `ljserve` and its twin in plain C, `bench/lines.c`, answer from "
+    "standard input.",
+    "instructions": "The table shows the number of instructions of a command, counted by callgrind.",
+    "reader": "The table shows how fast `ljserve` reads atoms.",
+    "scale": "The two tables compare the speed of a server with the speed of `ljserve run`.",
+    "server": "The table shows the speed of a server on 127.0.0.1.",
+    "shards": "The table shows the speed and the memory of HAProxy 2.6 and 16 servers behind it, with 992 users.",
+    "memory": "The table shows the resident memory of a server with one worker.",
+    "keep": "The table shows the time of a command with and without `tools/keep`.",
+    "client": "The table shows the processor time of calls to the Python client.",
+    "start": "The table shows how long the Python client takes to start.",
+    "page": "The table shows how fast the web page that contains the program runs in Chromium.",
+    "view": "The table shows the speed of the Python client's live view.",
 }
 
 
@@ -68,34 +79,33 @@ class Found:
 
 
 def headed(names: Iterable[str], commands: Iterable[str], *rows: str) -> str:
-    """A table of measurements with a line over it: what is measured, if that is known, and by which commands."""
-    about = [ABOUT[name] for name in names if name in ABOUT]
-    head = f"{about[0][0].upper()}{about[0][1:]}, measured by " if about else ""
-    return f"{head}{' and '.join(commands)}:\n\n{table(*rows)}"
+    """A table of measurements with a line over it: what it shows, if that is known, and from which commands its figures come."""
+    about = [f"{ABOUT[name]} " for name in names if name in ABOUT]
+    return f"{''.join(about[:1])}The figures come from {' and '.join(commands)}:\n\n{table(*rows)}"
 
 
 def moment(*found: Found) -> str:
     """The programs, the day, and the load before the first of these measurements began and at the end of the last one."""
     told = sorted((each.told for each in found), key=lambda each: str(each["began"]))
-    before, after = told[0]["machine"]["load_before"], told[-1]["machine"]["load_after"]
+    loads = dict.fromkeys(f"{load:.1f}" for load in (told[0]["machine"]["load_before"], told[-1]["machine"]["load_after"]))
     programs = dict.fromkeys(name_of(each.get("program", {})) for each in told)
-    return ", ".join([*filter(None, programs), told[0]["began"][:10], f"load average {before:.1f} to {after:.1f}"])
+    return ", ".join([*filter(None, programs), told[0]["began"][:10], f"load average {' to '.join(loads)}"])
 
 
 # A step.
 
 # What bench/speeds calls its liquids, and what a reader is shown.
 LIQUIDS = {
-    "4096": "4,096 atoms, shuffled",
-    "4096_sorted": "4,096 atoms, sorted in space",
-    "1024": "1,024 atoms, shuffled",
-    "256": "256 atoms, shuffled",
-    "64": "droplet of 64 atoms in a box of 6 sigma, shuffled",
-    "droplet": "droplet of 4,096 atoms in a box of 1,000 sigma, shuffled",
-    "larger_droplet": "droplet of 4,096 atoms in a box of 60,000 sigma, shuffled",
-    "equal": "4,096 atoms of two species with equal interactions, shuffled",
-    "different": "4,096 atoms of argon and krypton, shuffled",
-    "different_sorted": "4,096 atoms of argon and krypton, sorted in space",
+    "4096": "4,096 atoms in random order",
+    "4096_sorted": "4,096 atoms sorted in space",
+    "1024": "1,024 atoms in random order",
+    "256": "256 atoms in random order",
+    "64": "droplet of 64 atoms in random order, in a box with edge 6 sigma",
+    "droplet": "droplet of 4,096 atoms in random order, in a box with edge 1,000 sigma",
+    "larger_droplet": "droplet of 4,096 atoms in random order, in a box with edge 60,000 sigma",
+    "equal": "4,096 atoms in random order, of two species with equal interactions",
+    "different": "4,096 atoms in random order, argon and krypton",
+    "different_sorted": "4,096 atoms sorted in space, argon and krypton",
 }
 
 
@@ -145,7 +155,7 @@ def order(name: str) -> str:
     found = Found(name)
     first = next(iter(found.figures.values()))
     return found.under(
-        "Order of the atoms | ms per step | Divided by the time of shuffled atoms",
+        "Order of the atoms | ms per step | Divided by the time without sorting",
         *(f"{way} | {shown(ms)} | {ratio(ms / first)}" for way, ms in found.figures.items()),
     )
 
@@ -157,7 +167,7 @@ def lines(name: str) -> str:
     found = Found(name)
     ours, plain = (1e6 * found[name] for name in ("program", "plain C"))
     return found.under(
-        "SHOW commands per second | SHOW commands per second of the twin | Time divided by the twin's time",
+        "SHOW commands per second of `ljserve` | SHOW commands per second of the twin | Time divided by the twin's time",
         f"{shown(ours)} | {shown(plain)} | {ratio(plain / ours)}",
     )
 
@@ -175,14 +185,14 @@ CROWDS = {
 }
 # How many commands are sent at a time.
 SENT = {100: "sent 100 at a time", 1: "sent one at a time"}
-THREADS = {"connections": "the connection's thread", "workers": "all workers"}
+THREADS = {"connections": "the connection's thread", "workers": "all workers together"}
 
 
 def scale(name: str) -> str:
     found = Found(name)
     rows = [parts_of_runs(found, crowd) for crowd in CROWDS if f"{crowd} atoms, four runs" in found.figures]
-    servers = f"Steps per second with 4 workers, divided by the steps per second of four `ljserve run` | {OPTIONS}"
-    head = f"{servers} | speed of four `ljserve run`, divided by the speed of one"
+    servers = f"Steps per second with 4 workers, divided by the steps per second of four `ljserve run` processes | {OPTIONS}"
+    head = f"{servers} | speed of four `ljserve run` processes, divided by the speed of one"
     session = table(f"One session of 4,096 atoms | {OPTIONS}", *rows_of_a_session(found, "1 x 4096 atoms"))
     return f"{found.under(head, *rows)}\n{session}"
 
@@ -198,24 +208,26 @@ def rows_of_a_session(found: Found, crowd: str) -> Iterator[str]:
     steps = [1e3 / found[f"{crowd}, {pool}, 4 workers"] for pool in POOLS]
     alone = [found[f"{crowd}, one run"] / found[f"{crowd}, {pool}, 1 workers"] for pool in POOLS]
     spent = [found[f"{crowd}, {pool}, 4 workers, processor time"] for pool in POOLS]
-    yield f"time of a step with one worker, divided by the time of `ljserve run` | {' | '.join(map(ratio, alone))}"
+    yield f"time of a step with one worker, divided by the time of a step of `ljserve run` | {' | '.join(map(ratio, alone))}"
     yield f"time of a step with 4 workers, in ms | {' | '.join(map(shown, steps))}"
-    yield f"processor time of a step with 4 workers, divided by the time of `ljserve run` | {' | '.join(map(ratio, spent))}"
+    one = "divided by the processor time of a step of `ljserve run`"
+    yield f"processor time of a step with 4 workers, {one} | {' | '.join(map(ratio, spent))}"
     for kind, text in THREADS.items():
         times = [found[f"{crowd}, {pool}, 4 workers, {kind}"] for pool in POOLS]
-        yield f"processor time of {text} per pair of blocks of 64 atoms, in µs, with 4 workers | {' | '.join(map(ratio, times))}"
+        yield f"with 4 workers: processor time of {text}, in µs per pair of 64-atom blocks | {' | '.join(map(ratio, times))}"
 
 
 def server(name: str) -> str:
     found = Found(name)
     users, sessions = "8 users of 512 atoms", "8 sessions of one user, of 512 atoms"
+    together = "speed of 8 sessions of one user that advance together"
     step = [shown(found[f"4096 atoms, {pool}, 4 workers"]) for pool in POOLS]
     rate = [shown(found[f"{pool}: {users}, at once, steps"]) for pool in POOLS]
     gain = [ratio(found[f"{pool}: {sessions}, one after the other"] / found[f"{pool}: {sessions}, at once"]) for pool in POOLS]
     rows = [
         f"time of a step of 4,096 atoms with 4 workers, in ms | {' | '.join(step)}",
-        f"steps per second of 8 users with 512 atoms each | {' | '.join(rate)}",
-        f"speed of 8 sessions of one user that advance together, divided by their speed one after another | {' | '.join(gain)}",
+        f"steps per second of 8 users together, with 512 atoms each | {' | '.join(rate)}",
+        f"{together}, divided by their speed if they advance one after another | {' | '.join(gain)}",
     ]
     shows = [f"SHOW commands per second, {sent} | - | {shown(found[f'SHOW, {size} at a time'])}" for size, sent in SENT.items()]
     return found.under(f"Measured | {OPTIONS}", *rows, *shows, *beside_redis(found))
@@ -231,7 +243,12 @@ def beside_redis(found: Found) -> Iterator[str]:
 def figures(name: str) -> str:
     """All that a measurement found, a row for each figure."""
     found = Found(name)
-    return found.under("Measured | Figure", *(f"{each['name']} | {with_unit(each)}" for each in found.told["figures"]))
+    return found.under("Measured | Figure", *(f"{renamed(each['name'])} | {with_unit(each)}" for each in found.told["figures"]))
+
+
+def renamed(name: str) -> str:
+    """The name of a figure as a table shows it."""
+    return next((re.sub(pattern, shown_as, name) for pattern, shown_as in NAMES.items() if re.fullmatch(pattern, name)), name)
 
 
 def with_unit(figure: dict[str, Any]) -> str:
@@ -244,7 +261,8 @@ def grid(name: str) -> str:
     cells = {tuple(each["name"].split(": ")): with_unit(each) for each in found.told["figures"]}
     rows, columns = (list(dict.fromkeys(names[at] for names in cells)) for at in (0, 1))
     return found.under(
-        " | ".join(["Measured", *columns]), *(" | ".join([row, *(cells.get((row, column), "-") for column in columns)]) for row in rows)
+        " | ".join(["Measured", *columns]),
+        *(" | ".join([renamed(row), *(cells.get((row, column), "-") for column in columns)]) for row in rows),
     )
 
 

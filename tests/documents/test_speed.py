@@ -2,6 +2,7 @@
 sources have changed since, it is stale."""
 import json
 import os
+import re
 import subprocess
 import sys
 from importlib.machinery import SourceFileLoader
@@ -63,7 +64,7 @@ def test_a_step_beside_its_twin(folder: Path, monkeypatch: pytest.MonkeyPatch) -
             command = f"bench/ratio crates/ljserve/out/{program} run -- {liquid} 9 --rounds 7 --json a.json"
             kept(folder, f"{name}_{liquid}", command, {"program, per step": ours, "plain, per step": plain})
     assert speed_tables.speed("steps", "a", "b").splitlines() == [
-        "`bench/ratio PROGRAM run -- ..` (2026-01-02, load average 0.2 to 1.5) and "
+        "The figures come from `bench/ratio PROGRAM run -- ..` (2026-01-02, load average 0.2 to 1.5) and "
         "`bench/ratio PROGRAM_V3 run -- ..` (2026-01-02, load average 0.2 to 1.5):",
         "",
         "| Liquid | `PROGRAM`: ms per step | divided by the twin's time | `PROGRAM_V3`: ms per step | divided by the twin's time |",
@@ -78,7 +79,7 @@ def test_a_step_beside_lammps(folder: Path) -> None:
     kept(folder, "b", "bench/lammps/step Y --json b.json", {"plain": 5.0, "OPT": 3.0, "run": 2.0}, "ms per step")
     rows = speed_tables.speed("lammps", "a", "b").splitlines()
     moment = "(2026-01-02, load average 0.2 to 1.5)"
-    assert rows[0] == f"`bench/lammps/step X` {moment} and `bench/lammps/step Y` {moment}:"
+    assert rows[0] == f"The figures come from `bench/lammps/step X` {moment} and `bench/lammps/step Y` {moment}:"
     assert rows[2] == "| Program | `X`: ms per step | divided by the time of lj/cut | `Y`: ms per step | divided by the time of lj/cut |"
     assert rows[4:] == [
         "| plain | 4.00 | 1.00 | 5.00 | 1.00 |",
@@ -130,11 +131,11 @@ def test_a_pool_beside_four_runs(folder: Path) -> None:
         "",
         "| One session of 4,096 atoms | `--pool queue` | `--pool lock` |",
         "|---|---|---|",
-        "| time of a step with one worker, divided by the time of `ljserve run` | 1.25 | 1.25 |",
+        "| time of a step with one worker, divided by the time of a step of `ljserve run` | 1.25 | 1.25 |",
         "| time of a step with 4 workers, in ms | 2.50 | 12.5 |",
-        "| processor time of a step with 4 workers, divided by the time of `ljserve run` | 1.50 | 1.50 |",
-        "| processor time of the connection's thread per pair of blocks of 64 atoms, in µs, with 4 workers | 0.88 | 0.88 |",
-        "| processor time of all workers per pair of blocks of 64 atoms, in µs, with 4 workers | 2.25 | 2.25 |",
+        "| processor time of a step with 4 workers, divided by the processor time of a step of `ljserve run` | 1.50 | 1.50 |",
+        "| with 4 workers: processor time of the connection's thread, in µs per pair of 64-atom blocks | 0.88 | 0.88 |",
+        "| with 4 workers: processor time of all workers together, in µs per pair of 64-atom blocks | 2.25 | 2.25 |",
     ]
 
 
@@ -155,15 +156,42 @@ def test_commands_one_at_a_time(folder: Path) -> None:
 
 
 def test_a_table_names_what_is_measured(folder: Path, monkeypatch: pytest.MonkeyPatch) -> None:
-    monkeypatch.setattr(speed_tables, "ABOUT", {"a": "the memory of a server"})
+    monkeypatch.setattr(speed_tables, "ABOUT", {"a": "The table shows the memory of a server."})
     kept(folder, "a", "bench/memory X --json a.json", {"no users": 23.4}, "MB")
     assert speed_tables.speed("figures", "a").splitlines() == [
-        "The memory of a server, measured by `bench/memory X` (2026-01-02, load average 0.2 to 1.5):",
+        "The table shows the memory of a server. The figures come from `bench/memory X` (2026-01-02, load average 0.2 to 1.5):",
         "",
         "| Measured | Figure |",
         "|---|---|",
         "| no users | 23.4 MB |",
     ]
+
+
+def test_a_load_that_stayed_the_same_is_shown_once(folder: Path) -> None:
+    kept(folder, "a", "bench/one X --json a.json", {})
+    told = json.loads((folder / "a.json").read_text())
+    told["machine"]["load_after"] = 0.15
+    (folder / "a.json").write_text(json.dumps(told))
+    assert speed_tables.moment(speed_tables.Found("a")) == "2026-01-02, load average 0.2 to 0.1"
+    told["machine"]["load_after"] = 0.25
+    (folder / "a.json").write_text(json.dumps(told))
+    assert speed_tables.moment(speed_tables.Found("a")) == "2026-01-02, load average 0.2"
+
+
+@pytest.mark.parametrize("pattern", speed_tables.NAMES)
+def test_a_name_that_is_shown_otherwise_is_that_of_a_figure(pattern: str) -> None:
+    figures = {figure for name in NAMES for figure in speed_tables.Found(name).figures}
+    assert any(re.fullmatch(pattern, row) for figure in figures for row in (figure, figure.split(": ")[0]))
+
+
+def test_figures_are_shown_by_other_names(folder: Path) -> None:
+    kept(folder, "a", "bench/page X --json a.json", {"a step of 8 atoms by the page": 1.5, "a step of 8 atoms by the programs": 2.5})
+    assert speed_tables.speed("figures", "a").splitlines()[4:] == [
+        "| time of a step of 8 atoms in the page | 1.50 ms |",
+        "| a step of 8 atoms by the programs | 2.50 ms |",
+    ]
+    kept(folder, "a", "bench/view X --json a.json", {"processor time of a sent frame: 8 atoms": 1.5})
+    assert speed_tables.speed("grid", "a").splitlines()[4:] == ["| processor time of the view and its program per frame | 1.50 ms |"]
 
 
 def test_figures_in_rows_and_columns(folder: Path) -> None:
