@@ -26,22 +26,21 @@ NAMES = {
 ABOUT = {
     "step_4096": "The table compares the wall-clock time of a step of `ljserve` with the time of its twin in plain C, `bench/plain.c` "
     "(`-march=native`, one thread).",
-    "lammps": "The table shows the processor time of a step of 4,000 atoms in one thread, for `ljserve` and for Debian's LAMMPS of "
-    "29 Sep 2021.",
-    "order": "The table shows the processor time of a step of 4,096 atoms, with and without sorting the atoms in space.",
-    "lines": "The table shows how many SHOW commands per second `ljserve` and its twin in plain C, `bench/lines.c`, answer from "
-    "standard input.",
-    "instructions": "The table shows the number of instructions of a command, counted by callgrind.",
-    "reader": "The table shows how fast `ljserve` reads atoms.",
+    "lammps": "The processor time of a step of 4,000 atoms in one thread, for `ljserve` and for Debian's LAMMPS of 29 Sep 2021.",
+    "cores": "The wall-clock time of a step of 4,096 atoms sorted in space, for one session of a server.",
+    "order": "The processor time of a step of 4,096 atoms, with and without sorting the atoms in space.",
+    "lines": "How many SHOW commands per second `ljserve` and its twin in plain C, `bench/lines.c`, answer from standard input.",
+    "instructions": "The number of instructions of a command, counted by callgrind.",
+    "reader": "How fast `ljserve` reads atoms.",
     "scale": "The two tables compare the speed of a server with the speed of `ljserve run`.",
-    "server": "The table shows the speed of a server on 127.0.0.1.",
-    "shards": "The table shows the speed and the memory of HAProxy 2.6 and 16 servers behind it, with 992 users.",
-    "memory": "The table shows the resident memory of a server with one worker.",
-    "keep": "The table shows the time of a command with and without `tools/keep`.",
-    "client": "The table shows the processor time of calls to the Python client.",
-    "start": "The table shows how long the Python client takes to start.",
-    "page": "The table shows how fast the web page that contains the program runs in Chromium.",
-    "view": "The table shows the speed of the Python client's live view.",
+    "server": "The speed of a server on 127.0.0.1.",
+    "shards": "The speed and the memory of HAProxy 2.6 and 16 servers behind it, with 992 users.",
+    "memory": "The resident memory of a server with one worker.",
+    "keep": "The time of a command with and without `tools/keep`.",
+    "client": "The processor time of calls to the Python client.",
+    "start": "How long the Python client takes to start.",
+    "page": "How fast the web page that contains the program runs in Chromium.",
+    "view": "The speed of the Python client's live view.",
 }
 
 
@@ -81,7 +80,7 @@ class Found:
 def headed(names: Iterable[str], commands: Iterable[str], *rows: str) -> str:
     """A table of measurements with a line over it: what it shows, if that is known, and from which commands its figures come."""
     about = [f"{ABOUT[name]} " for name in names if name in ABOUT]
-    return f"{''.join(about[:1])}The figures come from {' and '.join(commands)}:\n\n{table(*rows)}"
+    return f"{''.join(about[:1])}Source: {' and '.join(commands)}:\n\n{table(*rows)}"
 
 
 def moment(*found: Found) -> str:
@@ -89,7 +88,7 @@ def moment(*found: Found) -> str:
     told = sorted((each.told for each in found), key=lambda each: str(each["began"]))
     loads = dict.fromkeys(f"{load:.1f}" for load in (told[0]["machine"]["load_before"], told[-1]["machine"]["load_after"]))
     programs = dict.fromkeys(name_of(each.get("program", {})) for each in told)
-    return ", ".join([*filter(None, programs), told[0]["began"][:10], f"load average {' to '.join(loads)}"])
+    return ", ".join([*filter(None, programs), told[0]["began"][:10], f"load {' to '.join(loads)}"])
 
 
 # A step.
@@ -134,21 +133,19 @@ def lammps(*names: str) -> str:
 
 
 def cores(name: str) -> str:
-    """Steps by processes of LAMMPS and by workers of a server, with what its threads take, a column for each number of them."""
+    """Steps by processes of LAMMPS and by workers of a server, with what its connection takes, a column for each number of them."""
     found = Found(name)
     steps = [each["name"].rpartition(", ") for each in found.told["figures"] if each["unit"] == "ms per step"]
     ways, counts = list(dict.fromkeys(way for way, _, _ in steps)), sorted({count for _, _, count in steps})
-    rows = [row_of_counts(found, way, counts, f"{way}, ") for way in ways]
-    for way in ways:
-        if f"{way}, {counts[0]}, connection" in found.figures:
-            rows.append(row_of_counts(found, f"{way}: processor time of the connection", counts, f"{way}, ", ", connection"))
-            rows.append(row_of_counts(found, f"{way}: processor time of the first worker", counts, f"{way}, ", ", worker 1"))
-    return found.under(f"ms per step, by processes or workers | {' | '.join(counts)}", *rows)
+    rows = [" | ".join([way, *(cell_of_workers(found, f"{way}, {count}") for count in counts)]) for way in ways]
+    return found.under(f"ms per step (of the connection's processor time), by processes or workers | {' | '.join(counts)}", *rows)
 
 
-def row_of_counts(found: Found, head: str, counts: Iterable[str], begin: str, end: str = "") -> str:
-    figures = (found.figures.get(f"{begin}{count}{end}") for count in counts)
-    return " | ".join([head, *("-" if figure is None else shown(figure) for figure in figures)])
+def cell_of_workers(found: Found, name: str) -> str:
+    if name not in found.figures:
+        return "-"
+    connection = found.figures.get(f"{name}, connection")
+    return shown(found[name]) + ("" if connection is None else f" ({shown(connection)})")
 
 
 def order(name: str) -> str:

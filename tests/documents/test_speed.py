@@ -64,8 +64,8 @@ def test_a_step_beside_its_twin(folder: Path, monkeypatch: pytest.MonkeyPatch) -
             command = f"bench/ratio crates/ljserve/out/{program} run -- {liquid} 9 --rounds 7 --json a.json"
             kept(folder, f"{name}_{liquid}", command, {"program, per step": ours, "plain, per step": plain})
     assert speed_tables.speed("steps", "a", "b").splitlines() == [
-        "The figures come from `bench/ratio PROGRAM run -- ..` (2026-01-02, load average 0.2 to 1.5) and "
-        "`bench/ratio PROGRAM_V3 run -- ..` (2026-01-02, load average 0.2 to 1.5):",
+        "Source: `bench/ratio PROGRAM run -- ..` (2026-01-02, load 0.2 to 1.5) and "
+        "`bench/ratio PROGRAM_V3 run -- ..` (2026-01-02, load 0.2 to 1.5):",
         "",
         "| Liquid | `PROGRAM`: ms per step | divided by the twin's time | `PROGRAM_V3`: ms per step | divided by the twin's time |",
         "|---|---|---|---|---|",
@@ -78,8 +78,8 @@ def test_a_step_beside_lammps(folder: Path) -> None:
     kept(folder, "a", "bench/lammps/step X --json a.json", {"plain": 4.0, "OPT": 2.0, "run": 3.0}, "ms per step")
     kept(folder, "b", "bench/lammps/step Y --json b.json", {"plain": 5.0, "OPT": 3.0, "run": 2.0}, "ms per step")
     rows = speed_tables.speed("lammps", "a", "b").splitlines()
-    moment = "(2026-01-02, load average 0.2 to 1.5)"
-    assert rows[0] == f"The figures come from `bench/lammps/step X` {moment} and `bench/lammps/step Y` {moment}:"
+    moment = "(2026-01-02, load 0.2 to 1.5)"
+    assert rows[0] == f"Source: `bench/lammps/step X` {moment} and `bench/lammps/step Y` {moment}:"
     assert rows[2] == "| Program | `X`: ms per step | divided by the time of lj/cut | `Y`: ms per step | divided by the time of lj/cut |"
     assert rows[4:] == [
         "| plain | 4.00 | 1.00 | 5.00 | 1.00 |",
@@ -89,7 +89,7 @@ def test_a_step_beside_lammps(folder: Path) -> None:
 
 
 def test_workers_beside_processes_of_lammps(folder: Path) -> None:
-    """A column for each number of them, and below what threads of a server take."""
+    """A column for each number of them, and behind a step what the connection of a server takes."""
     steps = {"LAMMPS, 1": 4.0, "LAMMPS, 2": 2.0, "v2, lock, 1": 3.0, "v2, lock, 3": 1.5}
     kept(folder, "a", "bench/lammps/cores X --json a.json", steps, "ms per step")
     told = json.loads((folder / "a.json").read_text())
@@ -97,12 +97,10 @@ def test_workers_beside_processes_of_lammps(folder: Path) -> None:
     told["figures"] += [{"name": name, "unit": "ms of processor time per step", "value": value} for name, value in spent.items()]
     (folder / "a.json").write_text(json.dumps(told))
     assert speed_tables.speed("cores", "a").splitlines()[2:] == [
-        "| ms per step, by processes or workers | 1 | 2 | 3 |",
+        "| ms per step (of the connection's processor time), by processes or workers | 1 | 2 | 3 |",
         "|---|---|---|---|",
         "| LAMMPS | 4.00 | 2.00 | - |",
-        "| v2, lock | 3.00 | - | 1.50 |",
-        "| v2, lock: processor time of the connection | 0.250 | - | 0.500 |",
-        "| v2, lock: processor time of the first worker | 2.50 | - | - |",
+        "| v2, lock | 3.00 (0.250) | - | 1.50 (0.500) |",
     ]
 
 
@@ -156,10 +154,10 @@ def test_commands_one_at_a_time(folder: Path) -> None:
 
 
 def test_a_table_names_what_is_measured(folder: Path, monkeypatch: pytest.MonkeyPatch) -> None:
-    monkeypatch.setattr(speed_tables, "ABOUT", {"a": "The table shows the memory of a server."})
+    monkeypatch.setattr(speed_tables, "ABOUT", {"a": "The memory of a server."})
     kept(folder, "a", "bench/memory X --json a.json", {"no users": 23.4}, "MB")
     assert speed_tables.speed("figures", "a").splitlines() == [
-        "The table shows the memory of a server. The figures come from `bench/memory X` (2026-01-02, load average 0.2 to 1.5):",
+        "The memory of a server. Source: `bench/memory X` (2026-01-02, load 0.2 to 1.5):",
         "",
         "| Measured | Figure |",
         "|---|---|",
@@ -172,10 +170,10 @@ def test_a_load_that_stayed_the_same_is_shown_once(folder: Path) -> None:
     told = json.loads((folder / "a.json").read_text())
     told["machine"]["load_after"] = 0.15
     (folder / "a.json").write_text(json.dumps(told))
-    assert speed_tables.moment(speed_tables.Found("a")) == "2026-01-02, load average 0.2 to 0.1"
+    assert speed_tables.moment(speed_tables.Found("a")) == "2026-01-02, load 0.2 to 0.1"
     told["machine"]["load_after"] = 0.25
     (folder / "a.json").write_text(json.dumps(told))
-    assert speed_tables.moment(speed_tables.Found("a")) == "2026-01-02, load average 0.2"
+    assert speed_tables.moment(speed_tables.Found("a")) == "2026-01-02, load 0.2"
 
 
 @pytest.mark.parametrize("pattern", speed_tables.NAMES)
@@ -218,9 +216,9 @@ def test_a_table_names_the_program(folder: Path) -> None:
     def moment(*names: str) -> str:
         return speed_tables.moment(*map(speed_tables.Found, names))
 
-    assert moment("a", "b") == "1.1.0 of 01234567, 2026-01-02, load average 0.2 to 1.5"
-    assert moment("c") == "1.1.0 of 89abcdef, with changes, 2026-01-02, load average 0.2 to 1.5"
-    assert moment("a", "d") == "1.1.0 of 01234567, 1.1.0, 2026-01-02, load average 0.2 to 1.5"
+    assert moment("a", "b") == "1.1.0 of 01234567, 2026-01-02, load 0.2 to 1.5"
+    assert moment("c") == "1.1.0 of 89abcdef, with changes, 2026-01-02, load 0.2 to 1.5"
+    assert moment("a", "d") == "1.1.0 of 01234567, 1.1.0, 2026-01-02, load 0.2 to 1.5"
 
 
 # What is stale.
