@@ -39,7 +39,7 @@ ABOUT = {
     "keep": "The time of a command with and without `tools/keep`.",
     "client": "The processor time of calls to the Python client.",
     "start": "How long the Python client takes to start.",
-    "page": "How fast the web page that contains the program runs in Chromium.",
+    "page": "The speed in Chromium of the web page that contains the program.",
     "view": "The speed of the Python client's live view.",
 }
 

@@ -105,8 +105,8 @@ impl Directory {
     /// Lends the state of the ticket's user to this ticket, if it is the user's first one that has not left and the state is at
     /// home; else returns None.
     ///
-    /// Promise: a user's state is handed out if and only if no connection has it, and the ticket is the first of the user's tickets
-    /// that have not left.
+    /// Promise: a ticket gets the user's state if and only if no connection has the state and all earlier tickets of the user have
+    /// left.
     pub fn try_enter(&mut self, ticket: &Ticket) -> Option<UserState>
         ensures enters { IsSome result
             ↔ IsSomeAnd (slice_get self.old ticket.now.user) (CanEnter ticket.now.number) }

@@ -196,8 +196,8 @@ impl Book {
 
     /// Fetches the user's result of the least key from `pick` on, else of the least key, and removes its entry.
     ///
-    /// Promise: the user's result with the smallest key at or above `pick` leaves the book, or else the one with the smallest key
-    /// of all. If the user has no result, nothing changes.
+    /// Promise: the user's result with the smallest key at or above `pick` leaves the book; if there is none, the user's result
+    /// with the smallest key does. If the user has no result, nothing changes.
     pub fn fetch(&mut self, user: u8, pick: usize) -> Option<Done>
         ensures some { IfSome result (λ done. (key : ℕ) × Fetches self.old self.new done key
             × IsPick (IsDoneAt user self.old) pick key) }
@@ -233,8 +233,8 @@ impl Book {
 
     /// Returns the counts. Each posted task has been fetched or withdrawn, or is still in the book.
     ///
-    /// Promise: every posted task has been fetched or withdrawn, or is still in the book. The number of given results is at most
-    /// the number of posted tasks.
+    /// Promise: every posted task has been fetched or withdrawn, or is still in the book. At most as many results were accepted as
+    /// tasks were posted.
     pub fn counts(&self) -> Counts
         ensures posted { result.posted ≡ self.now.posted }
         ensures given { result.given ≡ self.now.given }

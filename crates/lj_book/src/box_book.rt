@@ -161,8 +161,8 @@ impl BoxBook {
 
     /// Fetches the user's result of the least key from `pick` on, else of the least key, in its box, and removes its entry.
     ///
-    /// Promise: the user's result with the smallest key at or above `pick` leaves the book in its box, or else the one with the
-    /// smallest key of all. If the user has no result, nothing changes.
+    /// Promise: the user's result with the smallest key at or above `pick` leaves the book in its box; if there is none, the user's
+    /// result with the smallest key does. If the user has no result, nothing changes.
     pub fn fetch_box(&mut self, user: u8, pick: usize) -> Option<DoneBox>
         ensures some { IfSome result (λ done. (key : ℕ) × FetchesBox self.old self.new done key
             × IsPick (IsDoneAt user self.old.inner) pick key) }
@@ -222,8 +222,8 @@ impl BoxBook {
 
     /// Returns the counts. Each posted task has been fetched or withdrawn, or is still in the book.
     ///
-    /// Promise: every posted task has been fetched or withdrawn, or is still in the book. The number of given results is at most
-    /// the number of posted tasks.
+    /// Promise: every posted task has been fetched or withdrawn, or is still in the book. At most as many results were accepted as
+    /// tasks were posted.
     pub fn counts(&self) -> Counts
         ensures posted { result.posted ≡ self.now.inner.posted }
         ensures given { result.given ≡ self.now.inner.given }

@@ -10,7 +10,8 @@ use crate::task_list::TaskList;
 use lj_task::{Done, DoneRef, Task, TaskRef};
 use thiserror::Error;
 
-/// Maximum number of simultaneous ends for which a pool has boxes. With more of them a post may be refused before the book is full.
+/// Maximum number of ends that a pool has boxes for at the same time. With more of them a post may be refused before the book is
+/// full.
 pub const MAX_ENDS: usize = 64;
 
 /// Maximum number of tasks that one end of a pool has posted and not fetched yet.
@@ -51,8 +52,8 @@ pub enum Refused {
 ///
 /// Tasks and results are large, so they are passed by reference.
 ///
-/// Promise: a posted task is owed until its result is handed out. Each result handed out is counted, as owed or as a stray; until
-/// it is counted, it is handed out again.
+/// Promise: a posted task is owed until its result is handed out. The pool hands out the same result again and again until the
+/// result is counted, as owed or as a stray.
 pub trait PoolEnd {
     /// The token of the pool's close. Only a closed pool makes one.
     type Closed: Drop;

@@ -189,7 +189,8 @@ impl Numeral {
 /// assert_eq!(parse_nano(b"15D-1")?.get(), 1_500_000_000);
 /// ```
 ///
-/// Promise: the result is either the fault of the word, or the value of the word times 10^9, with halves rounded away from zero.
+/// Promise: the result is the error in the word, or the value of the word times 10^9, rounded to a whole number, with halves
+/// rounded away from zero.
 pub fn parse_nano(word: &[u8]) -> Result<Nano, NumberFault>
     ensures { result ≡ nano_of word.now }
 {

@@ -16,7 +16,7 @@ use std::mem;
 /// Maximum number of results that one end of a pool has fetched and not handed out yet.
 pub const MAX_IN_HAND: usize = 16;
 
-/// Maximum number of results that one end of a pool has fetched and not handed out yet, plus its spare boxes.
+/// Maximum number of boxes that one end of a pool has ready: results that it has not handed out yet, and spare boxes.
 pub const MAX_SPARE: usize = MAX_IN_HAND + 1;
 
 /// Maximum number of boxes of one end of a pool, including the box of the result that was handed out last.

@@ -44,8 +44,8 @@ pub fn run<R: Read + Drop, W: Write + Drop>(
 /// # Errors
 /// `Read` or `Write`.
 ///
-/// Promise: the bytes added to a sink, if they are known, are those that `serve` writes for a user with this quota and no sessions
-/// at the start. All of them are sent unless a write or a flush fails.
+/// Promise: if the bytes of the sink are known, exactly those are added that `serve` writes for a user with this quota who starts
+/// without sessions. All of them are sent unless a write or a flush fails.
 pub fn run_over<R: Source + Drop, W: Sink>(
     alloc: Global,
     quota: Quota,

@@ -1,4 +1,4 @@
-//! A pool of workers whose open tasks are in a queue without a lock.
+//! A pool of workers that keeps its open tasks in a lock-free queue.
 #![tactic(auto)]
 
 mod free_passes;

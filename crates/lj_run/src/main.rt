@@ -1,4 +1,4 @@
-//! Answers one user's commands from standard input, under the usual quota, on machines that have only two streams.
+//! Answers one user's commands from standard input, under the usual quota, on machines that have only standard input and output.
 #![tactic(auto)]
 
 ghost use Rattle.std.specs.Prelude.{◌≡◌, IfErr, OnOk};

@@ -34,8 +34,8 @@ pub fn covers_are_all_pairs()
         → tiles_energy u frame tiles ≡ potential u frame }
 {}
 
-/// Promise: the tiles of a force step, and those of an energy step, are a cover if there are at most `MAX_ATOMS` atoms, all on the
-/// ring.
+/// Promise: for at most `MAX_ATOMS` atoms, all on the ring, the tiles of a force step are a cover, and so are those of an energy
+/// step.
 pub fn tasks_are_a_cover()
     ensures force { (u : Composition) (frame : List Place) → IsFrameOnRing frame → length frame ≤ MAX_ATOMS
         → IsForceCover u frame (cover_tiles Force u frame) }

@@ -1,5 +1,5 @@
-//! Tests of those public items of the libraries that no dialogue in `tests/` tests. They are in a crate of their own, since a crate
-//! with tests is proved twice.
+//! Tests of the libraries' public items, if the dialogues in `tests/` do not cover them. The tests have their own crate, since a
+//! crate with tests is proved twice.
 #![tactic(auto)]
 
 #[cfg(test)]

@@ -17,7 +17,7 @@ use lj_fixed::{parse_nano, parse_number};
 use lj_session::{ClassNumbers, Command, Interactions, Load, LoadBody, Mode};
 use lj_xyz::{Symbol, SymbolPair};
 
-/// Maximum number of digits in the count of a load.
+/// Maximum number of digits in the byte count of a LOAD or LOADMIX.
 const MAX_COUNT_DIGITS: usize = 7;
 
 // Parses the count of a load: 1 to 7 digits, at most 1,048,576.

@@ -51,8 +51,7 @@ pub fn commands_are_items()
     ensures { CommandsAreItems }
 {}
 
-/// Promise: every state, with its pending steps done, is one that some list of items with marks produces from a user without
-/// sessions.
+/// Promise: some list of items with marks leads a user without sessions to this state, once its pending steps are done.
 pub fn state_is_reached_alone(state: &UserState)
     ensures { IsReachedAlone (user_of state.now) }
 {

@@ -19,8 +19,8 @@ fn pending_command_laws()
     waiting_goes_on();
 }
 
-/// Promise: in every run a user gets one reply for each mark of the user's script: the first replies that this script gets if there
-/// are no other users.
+/// Promise: in every run a user gets one reply for each mark of the user's script. These are the first replies that the script gets
+/// if there are no other users.
 pub fn replies_are_first_texts()
     ensures { RepliesAreFirstTexts }
 {
@@ -28,8 +28,7 @@ pub fn replies_are_first_texts()
     pending_command_laws();
 }
 
-/// Promise: if two scripts agree, the replies to one of them are a prefix of the replies to the other, with one reply for each
-/// mark.
+/// Promise: if two scripts agree, the replies to one script are a prefix of the replies to the other. Each mark gets one reply.
 pub fn agreeing_scripts_agree_in_texts()
     ensures { AgreeingScriptsAgreeInTexts }
 {}
@@ -43,8 +42,8 @@ pub fn headline()
     agreeing_scripts_agree_in_texts();
 }
 
-/// Promise: at each point of a run, a user's state, with its pending steps done, is the result of the user's script up to then. A
-/// pending command is the next item of the script.
+/// Promise: at each point of a run, the user's script so far gives the user's state with all pending steps done. A pending command
+/// is the next item of the script.
 pub fn value_is_that_of_script()
     ensures { ValueIsThatOfScript }
 {

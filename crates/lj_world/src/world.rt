@@ -85,8 +85,8 @@ impl World {
     /// # Errors
     /// Out of memory.
     ///
-    /// Promise: the transcript is that of a run of the machine with these users and these events; the headline holds for this run
-    /// together with any other run.
+    /// Promise: the transcript is that of a run of the machine with these users and these events. The headline theorem holds for
+    /// this run paired with any other run.
     pub fn run(
         alloc: Global,
         users: Vec<User>,
