@@ -49,7 +49,7 @@ HOT = {
     "bench/server": (*POOL, *SHOW),
     "bench/shards": (*STEP, *SHOW, *USERS),
     "bench/memory": (*POOL, *USERS),
-    "bench/keep": (*SHOW, "tools/keep", "tools/keeping"),
+    "bench/keep": (*SHOW, "tools/keep", "tools/ljtools/keeping"),
     "bench/client": (*SHOW, *code_of_crates("lj_xyz"), *WIRE, *PLACES, *modules_of_client("order.py", "sampling.py")),
     "bench/start": (*START, *WIRE, *modules_of_client("prompt")),
     "bench/prompt": (*START, *WIRE, *modules_of_client("prompt")),

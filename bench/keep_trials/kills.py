@@ -26,8 +26,8 @@ OFTEN_READY = 0.75
 # A front that takes a snapshot after a few records or a moment of computing, so that kills come within many of them, and whose servers
 # lend few names, so that users have them in turn.
 OFTEN = patched(
-    "import keeping.server, keeping.user; del keeping.server.NAMES[2:]\n"
-    "keeping.user.MAX_RECORDS, keeping.user.SECONDS_OF_BUDGET = 25, 0.05"
+    "from ljtools.keeping import server, user; del server.NAMES[2:]\n"
+    "user.MAX_RECORDS, user.SECONDS_OF_BUDGET = 25, 0.05"
 )
 
 

@@ -13,7 +13,7 @@ from keep_trials.keeper import SECONDS, TOP, Quota
 
 sys.path += [str(TOP / "tools"), str(TOP / "conformance")]
 from chance import Chance, bounded  # noqa: E402
-from keeping.items import ItemReader, ReplyReader  # noqa: E402
+from ljtools.keeping.items import ItemReader, ReplyReader  # noqa: E402
 
 MOST_STEPS = 25
 MOST_ATOMS = 5

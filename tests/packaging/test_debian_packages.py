@@ -17,7 +17,7 @@ from roots import NoRoot, root_of_its_own
 from support import DIMER, EXAMPLES, PROGRAM, SECONDS, TOP, present
 
 sys.path.append(str(TOP / "tools"))
-from keeping.items import Told  # noqa: E402
+from ljtools.keeping.items import Told  # noqa: E402
 
 if sysconfig.get_platform() != "linux-x86_64":
     pytest.skip("the program is for Linux on x86-64", allow_module_level=True)

@@ -225,7 +225,7 @@ def test_who_posts_too_often_waits_and_others_do_not(lesson: PagedLesson) -> Non
 def test_of_many_posts_at_once_the_last_are_refused(monkeypatch: pytest.MonkeyPatch) -> None:
     """20 a second: so of 150 at one moment the 101 whose turn comes within 5 seconds are taken, each of another student too."""
     monkeypatch.syspath_prepend(str(TOP / "tools"))
-    module, slept = importlib.import_module("teaching.posts"), []
+    module, slept = importlib.import_module("ljtools.teaching.posts"), []
 
     async def sleep(seconds: float) -> None:
         slept.append(seconds)

@@ -15,7 +15,7 @@ from terminals import Terminal
 from test_class_kept import secrets_in
 
 sys.path.append(str(TOP / "tools"))
-from teaching.typing_lines import Editor  # noqa: E402
+from ljtools.teaching.typing_lines import Editor  # noqa: E402
 
 DENIED = b"ERR 01 DENIED\n"
 

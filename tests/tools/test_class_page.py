@@ -161,7 +161,7 @@ def test_k_ends_pages_who_may_come_again(shared: PagedLesson) -> None:
 
 def test_pages_take_no_place_of_connections_that_are_not_in() -> None:
     """As of students behind one address, of whom all have a page."""
-    module = importlib.import_module("watching")
+    module = importlib.import_module("ljtools.watching")
     board = module.Board(None)
     for number in range(100):
         page = module.Connection(f"192.0.2.1:{number}")
@@ -452,7 +452,7 @@ def test_the_debian_package_has_the_files_of_the_page() -> None:
 
 def module_of_page() -> Any:
     tool()
-    return importlib.import_module("teaching.page")
+    return importlib.import_module("ljtools.teaching.page")
 
 
 def test_without_aiohttp_the_class_begins_all_the_same(monkeypatch: pytest.MonkeyPatch, capsys: pytest.CaptureFixture[str]) -> None:

@@ -21,7 +21,7 @@ AFTER_TWO = [1774, RING * 3 // 512 - 1774]
 
 
 def pictures() -> Any:
-    return importlib.import_module("teaching.pictures")
+    return importlib.import_module("ljtools.teaching.pictures")
 
 
 class Album:

@@ -15,8 +15,8 @@ from lessons import Lesson, told
 from support import SECONDS, TOP, present
 
 sys.path.append(str(TOP / "tools"))
-from teaching import slips as module  # noqa: E402
-from user_files import Fault, User, Way  # noqa: E402
+from ljtools.teaching import slips as module  # noqa: E402
+from ljtools.user_files import Fault, User, Way  # noqa: E402
 
 TOKEN = "abcdefghijkmnpqrstuvwxyzABCDEFGH"
 FINGERPRINT = "0123456789abcdef" * 4

@@ -162,7 +162,7 @@ def test_a_wall_that_says_too_much_is_ended(lesson: PagedLesson) -> None:
 
 def test_long_replies_are_shown_in_part() -> None:
     tool()
-    module = importlib.import_module("teaching.wall")
+    module = importlib.import_module("ljtools.teaching.wall")
     dump = b"OK DUMP a 0 258\n256\nstep 0\n" + b"Ar 1.000000 2.000000 3.000000\n" * 256
     assert module.shown_reply(dump[: module.MOST_BYTES]) == [
         "OK DUMP a 0 258",

@@ -70,13 +70,14 @@ def test_what_is_in_flight_is_done_once(tmp_path: pathlib.Path) -> None:
 
 # A front whose store waits for a file when it writes, and one that waits for it when it has written things on the disk.
 WAITING = """
-import os, pathlib, time, keeping.sqlite
-def wait(*words, write=keeping.sqlite.Sqlite.{function}):
+import os, pathlib, time
+from ljtools.keeping.sqlite import Sqlite
+def wait(*words, write=Sqlite.{function}):
     pathlib.Path({noted!r}).touch()
     while not os.path.exists({go!r}):
         time.sleep(0.01)
     return write(*words)
-keeping.sqlite.Sqlite.{function} = wait
+Sqlite.{function} = wait
 """
 
 
@@ -308,7 +309,7 @@ def test_a_snapshot_is_in_place_of_records_when_a_client_has_left(tmp_path: path
 
 
 # A front that takes a snapshot after so many records, and after each moment of computing.
-OFTEN = "import keeping.user; keeping.user.MAX_RECORDS = {}; keeping.user.SECONDS_OF_BUDGET = {}"
+OFTEN = "from ljtools.keeping import user; user.MAX_RECORDS = {}; user.SECONDS_OF_BUDGET = {}"
 
 
 def test_snapshots_while_a_client_goes_on(tmp_path: pathlib.Path) -> None:
@@ -323,7 +324,7 @@ def test_snapshots_while_a_client_goes_on(tmp_path: pathlib.Path) -> None:
 @pytest.mark.parametrize("ends", ["server", "both"])
 def test_an_advance_that_takes_long_is_done_in_pieces_with_snapshots_between(tmp_path: pathlib.Path, ends: Any) -> None:
     """Its client is there when it is done, or another one waits until it is, and sends what follows."""
-    slow = f"{OFTEN.format(4000, 0.02)}; import keeping.sessions; keeping.sessions.MAX_PIECE = 100"
+    slow = f"{OFTEN.format(4000, 0.02)}; from ljtools.keeping import sessions; sessions.MAX_PIECE = 100"
     with Keeper(tmp_path, tool=patched(slow)) as keeper, keeper.raw("ann") as stream:
         back = b"REVERSE a\nADVANCE a 19998\nREVERSE a\n"
         stream.sendall(LOAD + b"ADVANCE a 20000\n" + (back if ends == "server" else b""))
@@ -402,7 +403,7 @@ def test_a_client_that_does_not_read_holds_nobody_else_up(tmp_path: pathlib.Path
 
 def test_a_connection_to_the_server_has_as_many_items_as_it_may(tmp_path: pathlib.Path) -> None:
     """In place of a million it is 50 here: 1,000 commands, and then the replay of as many."""
-    tool = patched("import keeping.ends; keeping.ends.Link.most_items = 50")
+    tool = patched("from ljtools.keeping import ends; ends.Link.most_items = 50")
     with Keeper(tmp_path, tool=tool) as keeper:
         told = keeper.told(LOAD + b"TUG a 0 1 0 0\nADVANCE a 1\n" * 500, "ann")
         assert told.count(b"OK ") == 1002
@@ -429,7 +430,7 @@ def is_well(keeper: Any) -> Any:
 
 
 def test_a_server_that_does_not_answer_is_seen_and_ended(tmp_path: pathlib.Path) -> None:
-    tool = patched("import keeping.hosts; keeping.hosts.SECONDS_TO_ANSWER, keeping.hosts.SECONDS_TO_END = 1.5, 4")
+    tool = patched("from ljtools.keeping import hosts; hosts.SECONDS_TO_ANSWER, hosts.SECONDS_TO_END = 1.5, 4")
     with Keeper(tmp_path, tool=tool) as keeper, keeper.raw("ann") as stream:
         stream.sendall(LOAD + b"ADVANCE a 1\n")
         assert [first_line(stream) for _ in range(3)][-1] == b"OK ADVANCE a 1\n"
@@ -470,11 +471,12 @@ def test_eight_connections_of_a_user_wait(tmp_path: pathlib.Path) -> None:
 
 # A front that takes its time between that it says that it listens and that it serves.
 SLOW = """
-import time, keeping.front
-async def late(front, run=keeping.front.Front.run):
+import time
+from ljtools.keeping.front import Front
+async def late(front, run=Front.run):
     time.sleep(0.5)
     return await run(front)
-keeping.front.Front.run = late
+Front.run = late
 """
 
 
@@ -530,7 +532,7 @@ def test_steps_of_a_day(tmp_path: pathlib.Path) -> None:
 
 
 def test_nobody_is_kicked_where_no_front_is(tmp_path: pathlib.Path) -> None:
-    tool = patched("import keeping.kick; keeping.kick.SECONDS_TO_WAIT = 0.2")
+    tool = patched("from ljtools.keeping import kick; kick.SECONDS_TO_WAIT = 0.2")
     with Keeper(tmp_path, tool=tool) as keeper:
         assert keeper.told(b"LIST\n", "ann") == HELLO + b"OK LIST 0\n"
         keeper.end()
@@ -543,8 +545,8 @@ def test_nobody_is_kicked_where_no_front_is(tmp_path: pathlib.Path) -> None:
 @pytest.mark.parametrize("last", [b"", b"BYE\n"], ids=["no more items", "BYE"])
 def test_who_never_reads_the_last_replies_is_let_go(tmp_path: pathlib.Path, last: Any) -> None:
     """The user's next connection is let in meanwhile."""
-    small = "keeping.ends.prepare = lambda stream: stream.setsockopt(1, 7, 4096)"
-    tool = patched(f"import keeping.ends; keeping.ends.SECONDS_TO_READ = 2.0; {small}")
+    small = "ends.prepare = lambda stream: stream.setsockopt(1, 7, 4096)"
+    tool = patched(f"from ljtools.keeping import ends; ends.SECONDS_TO_READ = 2.0; {small}")
     body = b"2000\n\n" + b"".join(b"A %d %d %d\n" % (n % 13, n // 13 % 13, n // 169) for n in range(2000))
     with Keeper(tmp_path, tool=tool) as keeper, socket.socket() as deaf:
         deaf.setsockopt(socket.SOL_SOCKET, socket.SO_RCVBUF, 4096)
@@ -562,7 +564,7 @@ def test_who_never_reads_the_last_replies_is_let_go(tmp_path: pathlib.Path, last
 
 
 def test_who_says_nothing_and_who_is_one_too_many(tmp_path: pathlib.Path) -> None:
-    tool = patched("import keeping.ends, keeping.front; keeping.ends.SECONDS_FOR_HELLO = 0.5; keeping.front.MAX_OPEN = 2")
+    tool = patched("from ljtools.keeping import ends, front; ends.SECONDS_FOR_HELLO = 0.5; front.MAX_OPEN = 2")
     with Keeper(tmp_path, tool=tool) as keeper, keeper.raw("ann") as stream:
         assert first_line(stream) == HELLO
         with socket.create_connection(("127.0.0.1", keeper.port), SECONDS) as silent:

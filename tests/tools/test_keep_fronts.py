@@ -17,7 +17,7 @@ from keepers import LOAD, LOADED, TOKEN, TOP, USUAL, Fronts, Keeper, first_line,
 from support import PROGRAM, SECONDS, free_port
 
 sys.path.append(str(TOP / "tools"))
-from keeping.place import shown_place  # noqa: E402
+from ljtools.keeping.place import shown_place  # noqa: E402
 
 HELLO = b"OK HELLO ann\n"
 # Of the two atoms after two steps: docs/PROTOCOL.md, "A step in half a page".
@@ -145,12 +145,13 @@ def test_one_that_was_stopped_tells_nothing_more(both: Any, cluster: Any) -> Non
 
 # A front in the first folder that does not reach the database while there is a file.
 CUT_OFF = """
-import os, sys, psycopg2, keeping.postgres
-def asked(line, *words, ask=keeping.postgres.Line._asked):
+import os, sys, psycopg2
+from ljtools.keeping.postgres import Line
+def asked(line, *words, ask=Line._asked):
     if os.path.exists({file!r}) and any("/0/log" in word for word in sys.argv):
         raise psycopg2.OperationalError("cut off")
     return ask(line, *words)
-keeping.postgres.Line._asked = asked
+Line._asked = asked
 """
 
 
@@ -172,7 +173,7 @@ def test_one_that_is_cut_off_from_the_database_alone(tmp_path: pathlib.Path, clu
 
 
 def test_what_needs_no_record_is_told_when_the_database_is_there_again(tmp_path: pathlib.Path, cluster: Any) -> None:
-    words = "import keeping.postgres; keeping.postgres.Postgres.seconds_of_lease = 1.5"
+    words = "from ljtools.keeping.postgres import Postgres; Postgres.seconds_of_lease = 1.5"
     with fronts(tmp_path, cluster, words=words, count=1) as both, both.raw("ann") as stream:
         assert told(stream, LOAD + b"ADVANCE a 2\n", 3)[2] == b"OK ADVANCE a 2\n"
         assert told(stream, SHOW, 1) == [SHOWN]
@@ -252,7 +253,7 @@ def said(*words: Any) -> Any:
 
 
 def test_who_is_kicked_at_the_front_that_has_it(both: Any) -> None:
-    keep = [*patched("import keeping.kick; keeping.kick.SECONDS_TO_WAIT = 2"), both.store, "--kick"]
+    keep = [*patched("from ljtools.keeping import kick; kick.SECONDS_TO_WAIT = 2"), both.store, "--kick"]
     one, other = both.each
     with one.raw("ann") as stream, other.raw("ben") as ben:
         assert told(stream, LOAD, 2) == [HELLO, LOADED] and told(ben, b"", 1) == [b"OK HELLO ben\n"]

@@ -19,7 +19,7 @@ from keepers import HELLO, LOAD, LOADED, Keeper, first_line, patched, until
 from support import PROGRAM, SECONDS, TOP
 
 sys.path.append(str(TOP / "tools"))
-from keeping import health, status  # noqa: E402
+from ljtools.keeping import health, status  # noqa: E402
 
 METRICS = ("--metrics", "127.0.0.1:0")
 WATCHING = TOP / "packaging" / "prometheus"
@@ -71,7 +71,8 @@ def test_users_who_are_stopped(tmp_path: pathlib.Path) -> None:
 
 
 def test_a_connection_that_is_one_too_many_is_counted_and_told(tmp_path: pathlib.Path) -> None:
-    tool = patched("import keeping.user; keeping.user.MAX_WAITING = 0; import admission; admission.SECONDS_OF_A_COUNT = 1.0")
+    count = "from ljtools import admission; admission.SECONDS_OF_A_COUNT = 1.0"
+    tool = patched(f"from ljtools.keeping import user; user.MAX_WAITING = 0; {count}")
     with Keeper(tmp_path, *METRICS, tool=tool) as keeper, keeper.raw("ann") as second:
         assert second.recv(1) == b""
         assert values(keeper)["ljserve_closed_total"] == 1
@@ -91,7 +92,7 @@ def test_who_asks_whether_it_is_well_is_not_counted(tmp_path: pathlib.Path) -> N
 
 
 def test_a_server_that_is_gone_or_hangs(tmp_path: pathlib.Path) -> None:
-    tool = patched("import keeping.hosts; keeping.hosts.SECONDS_TO_ANSWER, keeping.hosts.SECONDS_TO_END = 1.5, 4")
+    tool = patched("from ljtools.keeping import hosts; hosts.SECONDS_TO_ANSWER, hosts.SECONDS_TO_END = 1.5, 4")
     with Keeper(tmp_path, *METRICS, tool=tool) as keeper:
         until(lambda: asked(keeper, "/healthz") == (200, "ok\n"))
         os.kill(keeper.server(), signal.SIGSTOP)

@@ -19,7 +19,7 @@ SMALL = (1, 2, 1)
 
 def names(count: int, words: str = "") -> List[str]:
     """The tool whose servers have so many names to lend, and which waits for one that is soon free, after some words of Python."""
-    few = f"import keeping.hosts, keeping.server; del keeping.server.NAMES[{count}:]; keeping.hosts.SECONDS_TO_WAIT = 60"
+    few = f"from ljtools.keeping import hosts, server; del server.NAMES[{count}:]; hosts.SECONDS_TO_WAIT = 60"
     return patched(f"{few}; {words}")
 
 
@@ -107,7 +107,7 @@ def test_who_leaves_with_steps_pending_keeps_its_name(tmp_path: pathlib.Path) ->
 
 def test_a_name_is_lent_again_when_the_steps_of_who_is_away_are_done(tmp_path: pathlib.Path) -> None:
     users = ["ann", "ben", "cleo"]
-    with kept(tmp_path, 1, users, "keeping.hosts.SECONDS_AWAY = 0.0") as keeper, contextlib.ExitStack() as stack:
+    with kept(tmp_path, 1, users, "hosts.SECONDS_AWAY = 0.0") as keeper, contextlib.ExitStack() as stack:
         assert keeper.told(LOAD + b"START a 2\n", "ann") == hello("ann") + LOADED + b"OK START a 2\n"
         come_in(keeper, stack, "ben", LOAD, 1)
         until(lambda: keeper.kept("ann") == [])

@@ -9,7 +9,7 @@ from support import TOP
 
 sys.path += [str(TOP / "tools"), str(TOP / "conformance")]
 from chance import Chance  # noqa: E402
-from keeping.items import ItemReader, ReplyReader  # noqa: E402
+from ljtools.keeping.items import ItemReader, ReplyReader  # noqa: E402
 from playing import Stream, referred  # noqa: E402
 from reference import items_of  # noqa: E402
 

@@ -13,10 +13,10 @@ from support import DIMER, TOP
 from test_keep_user import Client, Writer
 
 sys.path += [str(TOP / "tools"), str(TOP / "conformance")]
-from keeping.items import ItemReader, ReplyReader  # noqa: E402
-from keeping.local import LocalClient  # noqa: E402
-from keeping.store import Kept  # noqa: E402
-from keeping.user import User  # noqa: E402
+from ljtools.keeping.items import ItemReader, ReplyReader  # noqa: E402
+from ljtools.keeping.local import LocalClient  # noqa: E402
+from ljtools.keeping.store import Kept  # noqa: E402
+from ljtools.keeping.user import User  # noqa: E402
 from reference import User as Reference  # noqa: E402
 from reference import replies_to  # noqa: E402
 

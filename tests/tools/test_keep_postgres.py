@@ -15,17 +15,17 @@ from keepers import missing, until
 from support import SECONDS, TOP, free_port
 
 sys.path.append(str(TOP / "tools"))
-from keeping import place  # noqa: E402
-from keeping.items import Told  # noqa: E402
-from keeping.place import Owner, place_of  # noqa: E402
-from keeping.store import Change, Fenced, Kept, Part, Snapshot, Store, StoreFault  # noqa: E402
+from ljtools.keeping import place  # noqa: E402
+from ljtools.keeping.items import Told  # noqa: E402
+from ljtools.keeping.place import Owner, place_of  # noqa: E402
+from ljtools.keeping.store import Change, Fenced, Kept, Part, Snapshot, Store, StoreFault  # noqa: E402
 
 if missing():
     pytest.skip(missing(), allow_module_level=True)
 
 import psycopg2  # noqa: E402
 
-from keeping import postgres  # noqa: E402
+from ljtools.keeping import postgres  # noqa: E402
 
 ONE, TWO = Told(b"REVERSE a\n", b"OK REVERSE a -1\n"), Told(b"REVERSE a\n", b"OK REVERSE a 0\n")
 PART = Part(1, 0, b"LOAD a 256000000000e-9 1000000000e-9 1 pair", 0, 1, b"1 0 0 0 0 0", b"X", bytes(24))

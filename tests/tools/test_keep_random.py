@@ -13,10 +13,10 @@ from support import TOP
 
 sys.path += [str(TOP / "tools"), str(TOP / "conformance")]
 from chance import Chance, bounded  # noqa: E402
-from keeping import sessions, user  # noqa: E402
-from keeping.items import ItemReader  # noqa: E402
-from keeping.sqlite import Sqlite  # noqa: E402
-from keeping.store import Store  # noqa: E402
+from ljtools.keeping import sessions, user  # noqa: E402
+from ljtools.keeping.items import ItemReader  # noqa: E402
+from ljtools.keeping.sqlite import Sqlite  # noqa: E402
+from ljtools.keeping.store import Store  # noqa: E402
 from reference import User as Reference  # noqa: E402
 from reference import replies_to  # noqa: E402
 from test_keep_user import Client, Link  # noqa: E402

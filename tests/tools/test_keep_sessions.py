@@ -11,8 +11,8 @@ from support import TOP
 
 sys.path += [str(TOP / "tools"), str(TOP / "conformance")]
 from chance import Chance, bounded  # noqa: E402
-from keeping.items import ItemReader, ReplyReader, Told, words_of  # noqa: E402
-from keeping.sessions import KEPT, Otherwise, Sessions, nano_of, put_back, read_all, tell_again, text_of  # noqa: E402
+from ljtools.keeping.items import ItemReader, ReplyReader, Told, words_of  # noqa: E402
+from ljtools.keeping.sessions import KEPT, Otherwise, Sessions, nano_of, put_back, read_all, tell_again, text_of  # noqa: E402
 from reference import Simulation, User, replies_to  # noqa: E402
 from reference import nano_of as true_nano  # noqa: E402
 

@@ -16,11 +16,11 @@ from keepers import STATUS_OF_BEFORE, journal
 from support import SECONDS, TOP
 
 sys.path.append(str(TOP / "tools"))
-from keeping.items import Told  # noqa: E402
-from keeping.journal import take_over_all, whole_records  # noqa: E402
-from keeping.place import FILE, place_of, shown_place  # noqa: E402
-from keeping.sqlite import Sqlite  # noqa: E402
-from keeping.store import Change, Damaged, Kept, Part, Snapshot, Store, StoreFault  # noqa: E402
+from ljtools.keeping.items import Told  # noqa: E402
+from ljtools.keeping.journal import take_over_all, whole_records  # noqa: E402
+from ljtools.keeping.place import FILE, place_of, shown_place  # noqa: E402
+from ljtools.keeping.sqlite import Sqlite  # noqa: E402
+from ljtools.keeping.store import Change, Damaged, Kept, Part, Snapshot, Store, StoreFault  # noqa: E402
 
 RECORDS = [
     Told(b"LOAD a 256 1 1 rest 12\n1\nc\nX 0 0 \xff\n", b"OK LOAD a 0 1\n"),
@@ -209,7 +209,8 @@ def test_what_a_kill_within_a_transaction_leaves(tmp_path: pathlib.Path) -> None
     """A process that was killed with half of a transaction written."""
     where = InSqlite(tmp_path / "kept")
     code = (
-        "import os, pathlib, signal, sys; from keeping.sqlite import *; from keeping.store import *; from keeping.items import Told\n"
+        "import os, pathlib, signal, sys\n"
+        "from ljtools.keeping.items import Told; from ljtools.keeping.sqlite import *; from ljtools.keeping.store import *\n"
         "store = Store(Sqlite(pathlib.Path(sys.argv[1], 'kept.sqlite')))\n"
         "store.read('ann'); store.write([Change('ann', [Told(b'1', b'')])])\n"
         "class Kill(bytes):\n    __conform__ = lambda *_: os.kill(os.getpid(), signal.SIGKILL)\n"

@@ -15,17 +15,17 @@ from keepers import HELLO, LOAD, LOADED, TOKEN
 from support import TOP, present
 
 sys.path += [str(TOP / "tools"), str(TOP / "conformance")]
-from keeping import ends  # noqa: E402
-from keeping.accounts import Account, accounts_at, user_of  # noqa: E402
-from keeping.allowance import Allowance, Allowances, today  # noqa: E402
-from keeping.items import ItemReader, ReplyReader  # noqa: E402
-from keeping.store import Kept  # noqa: E402
-from keeping.server import Words, users_text  # noqa: E402
-from keeping.user import MAX_SENT, User  # noqa: E402
+from ljtools.keeping import ends  # noqa: E402
+from ljtools.keeping.accounts import Account, accounts_at, user_of  # noqa: E402
+from ljtools.keeping.allowance import Allowance, Allowances, today  # noqa: E402
+from ljtools.keeping.items import ItemReader, ReplyReader  # noqa: E402
+from ljtools.keeping.server import Words, users_text  # noqa: E402
+from ljtools.keeping.store import Kept  # noqa: E402
+from ljtools.keeping.user import MAX_SENT, User  # noqa: E402
+from ljtools.user_files import Fault  # noqa: E402
+from ljtools.watching import Connection  # noqa: E402
 from reference import User as Reference  # noqa: E402
 from reference import replies_to  # noqa: E402
-from user_files import Fault  # noqa: E402
-from watching import Connection  # noqa: E402
 
 
 class Client:
@@ -285,7 +285,7 @@ def test_a_snapshot_waits_for_pending_steps(user: Any) -> None:
 
 
 def test_a_snapshot_is_taken_when_there_are_many_records_or_much_was_computed(user: Any, monkeypatch: pytest.MonkeyPatch) -> None:
-    monkeypatch.setattr("keeping.user.MAX_RECORDS", 100)
+    monkeypatch.setattr("ljtools.keeping.user.MAX_RECORDS", 100)
     client, server = Client(LOAD + b"TUG a 0 1 0 0\n" * 99), Reference((8, 16384, 16))
     link = let_in(user, client)
     assert answer(user, link, server).count(b"DUMP a\n") == 0 and len(user.records) == 100
@@ -314,7 +314,7 @@ def test_a_server_that_ends_within_a_snapshot_has_taken_none(user: Any) -> None:
 
 def test_what_finds_no_memory_is_put_back_later(user: Any, monkeypatch: pytest.MonkeyPatch) -> None:
     """What the server has of it is dropped first."""
-    monkeypatch.setattr("keeping.user.SECONDS_BETWEEN_TRIES", 0.0)
+    monkeypatch.setattr("ljtools.keeping.user.SECONDS_BETWEEN_TRIES", 0.0)
     client, server = Client(LOAD + LOAD.replace(b"LOAD a", b"LOAD b")), Reference((8, 16384, 16))
     answer(user, let_in(user, client), server)
     user.writer.done()

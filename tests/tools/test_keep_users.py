@@ -14,11 +14,11 @@ from keepers import LOAD, LOADED, TOKEN, TOP, USUAL, Fronts, Keeper, first_line,
 from support import PROGRAM, SECONDS
 
 sys.path.append(str(TOP / "tools"))
-from keeping.accounts import Account, changes_behind  # noqa: E402
-from keeping.items import Told  # noqa: E402
-from keeping.maintenance import opened  # noqa: E402
-from keeping.place import place_of  # noqa: E402
-from keeping.store import Change, Store  # noqa: E402
+from ljtools.keeping.accounts import Account, changes_behind  # noqa: E402
+from ljtools.keeping.items import Told  # noqa: E402
+from ljtools.keeping.maintenance import opened  # noqa: E402
+from ljtools.keeping.place import place_of  # noqa: E402
+from ljtools.keeping.store import Change, Store  # noqa: E402
 
 DENIED = b"ERR 01 DENIED\n"
 # Of the two atoms after two steps: docs/PROTOCOL.md, "A step in half a page".

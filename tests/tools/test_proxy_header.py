@@ -18,7 +18,7 @@ from support import SECONDS, TOKEN, TOP, Server, dimer, free_port, peer, read_li
 from test_watch import Watcher, read_all
 
 sys.path.append(str(TOP / "tools"))
-import proxy_header  # noqa: E402
+from ljtools import proxy_header  # noqa: E402
 
 HAPROXY = shutil.which("haproxy", path=f"{os.environ['PATH']}:/usr/sbin")
 SIGNATURE = bytes.fromhex("0D0A0D0A000D0A515549540A")

@@ -11,7 +11,7 @@ from support import TOKEN, TOP, Server, present
 from terminals import PROMPT, Terminal, environment
 
 sys.path.append(str(TOP / "tools"))
-from user_files import User, Way, slip_of  # noqa: E402
+from ljtools.user_files import User, Way, slip_of  # noqa: E402
 
 TYPED = "abcdefghijkmnpqrstuvwxyz23456789"
 GROUPS = "abcd efgh ijkm npqr stuv wxyz 2345 6789"

@@ -11,7 +11,7 @@ from support import SECONDS, TOKEN, TOP, Server, peer, present, read_line
 from terminals import Terminal
 
 sys.path.append(str(TOP / "tools"))
-import watching  # noqa: E402
+from ljtools import watching  # noqa: E402
 
 WATCH = str(TOP / "tools" / "watch")
 

@@ -21,9 +21,7 @@ from test_watch import WATCH, Watcher, many_peers, read_all, reset
 from test_watch_metrics import Seen
 
 sys.path.append(str(TOP / "tools"))
-import admission  # noqa: E402
-import event_log  # noqa: E402
-import watching  # noqa: E402
+from ljtools import admission, event_log, watching  # noqa: E402
 
 WRONG = "b" * 32
 USERS = f"ann {TOKEN} 8 16384 16\nben {TOKEN} 8 16384 16\n"

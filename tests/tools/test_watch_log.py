@@ -14,7 +14,7 @@ from support import SECONDS, TOKEN, TOP, Server, dimer, free_port, present
 from test_watch import WATCH, Watcher, read_all
 
 sys.path.append(str(TOP / "tools"))
-import event_log  # noqa: E402
+from ljtools import event_log  # noqa: E402
 
 CLOCK = re.compile(r"\d{4}-\d\d-\d\dT\d\d:\d\d:\d\d\.\d{3}Z")
 

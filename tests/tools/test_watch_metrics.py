@@ -16,9 +16,7 @@ from support import SECONDS, TOKEN, TOP, Server, dimer, free_port, present
 from test_watch import WATCH, Watcher, read_all, reset
 
 sys.path.append(str(TOP / "tools"))
-import metrics  # noqa: E402
-import server_process  # noqa: E402
-import watching  # noqa: E402
+from ljtools import metrics, server_process, watching  # noqa: E402
 
 
 class Seen:

@@ -14,7 +14,7 @@ from support import DIMER, SECONDS, TOKEN, TOP, joined, peer, read_line, says, s
 from terminals import PROMPT, Terminal, environment
 
 sys.path.append(str(TOP / "tools"))
-from keeping import sessions  # noqa: E402
+from ljtools.keeping import sessions  # noqa: E402
 
 # What sets the title of a terminal; what it answers by keys that are typed by nobody begins alike.
 TITLE = b"\x1b]0;owned\x07"

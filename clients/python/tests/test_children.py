@@ -17,8 +17,8 @@ from support import DIMER, SECONDS, TOKEN, TOP, present, wait_until
 from terminals import environment
 
 sys.path.append(str(TOP / "tools"))
-from keeping import server  # noqa: E402
-import children  # noqa: E402
+from ljtools import children  # noqa: E402
+from ljtools.keeping import server  # noqa: E402
 
 # A program that writes its environment into a file beside it, and is replied to as `ljserve run` without sessions is.
 TELLS = """\
@@ -153,7 +153,7 @@ def test_other_programs_of_the_tools(monkeypatch: pytest.MonkeyPatch) -> None:
 # A parent that begins a program so that this ends with it, and tells its number.
 PARENT = """\
 import subprocess, sys, time
-from children import ending_with_parent
+from ljtools.children import ending_with_parent
 print(subprocess.Popen(ending_with_parent(["sleep", "600"])).pid, flush=True)
 time.sleep(600)
 """

@@ -1,0 +1,127 @@
+"""The items of a stream of commands and the replies to them, cut out of bytes as they come (docs/PROTOCOL.md)."""
+from typing import List, NamedTuple, Optional, Tuple
+
+from ..watching import MORE_LINES
+
+Words = Tuple[bytes, ...]
+MAX_LINE = 256
+MAX_UNENDED = 65536
+MAX_BODY = 1 << 20
+MAX_ITEMS = 1_000_000
+LOADS = (b"LOAD", b"LOADMIX")
+OK_BYE, BODY, LONG, ENOUGH = b"OK BYE\n", b"ERR 04 BODY\n", b"ERR 05 LONG\n", b"ERR 08 ENOUGH\n"
+
+
+class Item(NamedTuple):
+    """An item as it was sent, and the words of its line, none if it is too long. One that ends its connection has the reply to it:
+    it does not go to the server, whose connection goes on."""
+
+    raw: bytes
+    words: Words
+    last_reply: bytes = b""
+
+
+class Told(NamedTuple):
+    """An item that was answered, and its reply."""
+
+    item: bytes
+    reply: bytes
+
+
+def words_of(line: bytes) -> Words:
+    """The words of a line without its line feed."""
+    line = line[:-1] if line.endswith(b"\r") else line
+    return tuple(word for word in line.replace(b"\t", b" ").split(b" ") if word)
+
+
+def body_of(words: Words) -> Optional[int]:
+    """How many bytes follow a line, or None if it is that of a load without a count."""
+    if not words or words[0] not in LOADS:
+        return 0
+    count = words[-1]
+    if len(words) == 1 or len(count) > 7 or not count.isdigit() or int(count) > MAX_BODY:
+        return None
+    return int(count)
+
+
+class ItemReader:
+    """Cuts a stream into items, up to the one that ends it. `held` is how many bytes are not cut yet, and `taken` how many are."""
+
+    def __init__(self, most: int = MAX_ITEMS) -> None:
+        self._held = bytearray()
+        self._left = most
+        self.taken = 0
+        self.has_ended = False
+
+    @property
+    def held(self) -> int:
+        return len(self._held)
+
+    def feed(self, data: bytes) -> None:
+        """Takes some bytes. Those behind the end are dropped."""
+        if not self.has_ended:
+            self._held += data
+
+    def next(self) -> Optional[Item]:
+        """The next item, if it is whole. Behind the last one that a connection may have stands what ends it."""
+        if self.has_ended or self._left and not self._held:
+            return None
+        item = self._first() if self._left else Item(b"", (), ENOUGH)
+        if item is None:
+            return None
+        self._left -= 1
+        self.taken += len(item.raw)
+        del self._held[: len(item.raw)]
+        if item.last_reply:
+            self.end()
+        return item
+
+    def end(self) -> None:
+        """Drops what was not cut, and all that comes."""
+        self.has_ended = True
+        self._held.clear()
+
+    def _first(self) -> Optional[Item]:
+        """The item that begins what is held, if it is whole."""
+        end = self._held.find(b"\n", 0, MAX_UNENDED) + 1
+        if not end:
+            return Item(b"", (), LONG) if len(self._held) >= MAX_UNENDED else None
+        line = bytes(self._held[:end])
+        if len(line) > MAX_LINE + 1:
+            return Item(line, ())
+        words = words_of(line[:-1])
+        if words == (b"BYE",):
+            return Item(line, words, OK_BYE)
+        count = body_of(words)
+        if count is None:
+            return Item(line, words, BODY)
+        if len(self._held) < end + count:
+            return None
+        return Item(bytes(self._held[: end + count]) if count else line, words)
+
+
+class ReplyReader:
+    """Cuts what a server sends into replies, each with all of its lines."""
+
+    def __init__(self) -> None:
+        self._partial = b""
+        self._lines: List[bytes] = []
+        self._more = 0
+
+    def feed(self, data: bytes) -> List[bytes]:
+        """Takes some bytes, and returns the replies that are whole now."""
+        *lines, self._partial = (self._partial + data).split(b"\n")
+        replies = []
+        for line in lines:
+            self._lines.append(line)
+            self._more = self._more - 1 if self._more else lines_after(line)
+            if not self._more:
+                replies.append(b"\n".join([*self._lines, b""]))
+                self._lines.clear()
+        return replies
+
+
+def lines_after(line: bytes) -> int:
+    """How many lines follow the first one of a reply."""
+    found = MORE_LINES.match(line) if line[3:7] in (b"DUMP", b"LIST") else None
+    return int(found[1]) if found else 0
