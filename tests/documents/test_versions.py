@@ -6,8 +6,10 @@ from shared.program import contents
 TOLD = {
     "CITATION.cff": f"version: {newest_version()}\n",
     "clients/python/ljclient/__init__.py": f'__version__ = "{newest_version()}"\n',
+    "tools/ljtools/__init__.py": f'__version__ = "{newest_version()}"\n',
     "clients/javascript/package.json": f'"version": "{newest_version()}",\n',
     "clients/python/pyproject.toml": 'version = {attr = "ljclient.__version__"}\n',
+    "tools/pyproject.toml": 'version = {attr = "ljtools.__version__"}\n',
 }
 
 

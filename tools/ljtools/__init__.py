@@ -1,1 +1,3 @@
 """The modules of the commands in `tools/`: `class`, `keep`, `shards`, `users` and `watch`."""
+
+__version__ = "2.0.0"
