@@ -49,30 +49,12 @@ class Transport(Protocol):
         """What is known of why the other side has ended, else nothing."""
 
 
-class SocketTransport:
-    """A TCP connection."""
+class OpenSocket:
+    """A stream over a socket that is connected already. From here on it does not block."""
 
-    def __init__(self, host: str, port: int, timeout: float):
-        self._where = f"{host}:{port}"
-        try:
-            plain = socket.create_connection((host, port), timeout)
-        except OSError as error:
-            why = error.strerror or str(error) or "no answer"
-            raise ConnectionLost(f"cannot connect to {self._where}: {why}") from error
-        plain.setsockopt(socket.IPPROTO_TCP, socket.TCP_NODELAY, 1)
-        self._socket = self._opened(plain, timeout)
+    def __init__(self, connected: socket.socket):
+        self._socket = connected
         self._socket.setblocking(False)
-
-    def _opened(self, plain: socket.socket, timeout: float) -> socket.socket:
-        """The socket that is read and written."""
-        return plain
-
-    def peer(self) -> str:
-        """The address of the other side; nothing where that has ended the connection already."""
-        try:
-            return str(self._socket.getpeername()[0])
-        except OSError:
-            return ""
 
     def source(self) -> int:
         return self._socket.fileno()
@@ -91,6 +73,31 @@ class SocketTransport:
 
     def last_words(self) -> str:
         return ""
+
+
+class SocketTransport(OpenSocket):
+    """A TCP connection."""
+
+    def __init__(self, host: str, port: int, timeout: float):
+        self._where = f"{host}:{port}"
+        try:
+            plain = socket.create_connection((host, port), timeout)
+        except OSError as error:
+            why = error.strerror or str(error) or "no answer"
+            raise ConnectionLost(f"cannot connect to {self._where}: {why}") from error
+        plain.setsockopt(socket.IPPROTO_TCP, socket.TCP_NODELAY, 1)
+        super().__init__(self._opened(plain, timeout))
+
+    def _opened(self, plain: socket.socket, timeout: float) -> socket.socket:
+        """The socket that is read and written."""
+        return plain
+
+    def peer(self) -> str:
+        """The address of the other side; nothing where that has ended the connection already."""
+        try:
+            return str(self._socket.getpeername()[0])
+        except OSError:
+            return ""
 
 
 def opened_plainly(host: str, port: int, timeout: float) -> SocketTransport:

@@ -12,6 +12,7 @@ from typing import TYPE_CHECKING, Any, Dict, Iterator, List, Optional, Set, Tupl
 
 from ljclient import ClientError, ConnectionLost, Scale, User, units
 from ljclient.refusals import NoSession
+from ljclient.transport import OpenSocket
 from ljclient.view.connection import Connection
 from ljclient.view.own import PREFIX, OwnSessions
 from ljclient.view.scenes import Scene, crystal
@@ -38,32 +39,6 @@ FIRST_NUMBER = 101
 OF_PAGES = re.compile(r"view-([1-9][0-9]{2,}(-2)?|own-[0-9]+)")
 ALONE = "{name} is that of a program that is in, and that numbers its atoms by itself: this page only shows it until that has left."
 CHANGES = ("reverse", "tug", "restore", "restart")
-
-
-class LocalTransport:
-    """A stream within this process, as a wire of the client takes one."""
-
-    def __init__(self, there: socket.socket):
-        there.setblocking(False)
-        self._socket = there
-
-    def source(self) -> int:
-        return self._socket.fileno()
-
-    def sink(self) -> int:
-        return self._socket.fileno()
-
-    def read(self, size: int) -> bytes:
-        return self._socket.recv(size)
-
-    def write(self, data: bytes) -> int:
-        return self._socket.send(data)
-
-    def close(self) -> None:
-        self._socket.close()
-
-    def last_words(self) -> str:
-        return ""
 
 
 def scale_of(text: bytes) -> Scale:
@@ -146,7 +121,7 @@ class Student:
         """The client of the student's pages."""
         self._words = None
         self._local, there = asyncio.run_coroutine_threadsafe(self._begin(), self._loop).result()
-        return User(Wire(LocalTransport(there), SECONDS_OF_A_REPLY), name=self.name)
+        return User(Wire(OpenSocket(there), SECONDS_OF_A_REPLY), name=self.name)
 
     @contextlib.contextmanager
     def _transaction(self) -> Iterator[None]:
