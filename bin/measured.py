@@ -149,7 +149,7 @@ def what_is_measured(program: str, command: str) -> dict[str, Any]:
 
 def name_of(program: dict[str, Any]) -> str:
     """A program as a line names it: by its version and commit, as far as they are known."""
-    return " of ".join(program[each] for each in ("version", "commit") if program.get(each))
+    return ", commit ".join(program[each] for each in ("version", "commit") if program.get(each))
 
 
 def changes_since(told: dict[str, Any]) -> Optional[list[str]]:

@@ -19,6 +19,7 @@ UNITS = {"us": "µs"}
 NAMES = {
     r"a step of (\d+) atoms by the (page|program)": r"time of a step of \1 atoms in the \2",
     r"(a step of \d+ atoms): time by the page divided by time by .*": r"time of \1 in the page, divided by the time in the program",
+    r"(\d+ atoms) that move forward and backward, in a (window \d+ pixels wide)": r"\1 in motion, \2",
     "processor time of a sent frame": "processor time of the view and its program per frame",
     "processor time of HAProxy to let one user in": "processor time of HAProxy to connect one user",
 }
@@ -27,7 +28,7 @@ ABOUT = {
     "step_4096": "The table compares the wall-clock time of a step of `ljserve` with the time of its twin in plain C, `bench/plain.c` "
     "(`-march=native`, one thread).",
     "lammps": "The processor time of a step of 4,000 atoms in one thread, for `ljserve` and for Debian's LAMMPS of 29 Sep 2021.",
-    "cores": "The wall-clock time of a step of 4,096 atoms sorted in space, for one session of a server.",
+    "cores": "The wall-clock time of a step of 4,096 atoms: for LAMMPS, and for a server's session with atoms sorted in space.",
     "order": "The processor time of a step of 4,096 atoms, with and without sorting the atoms in space.",
     "lines": "How many SHOW commands per second `ljserve` and its twin in plain C, `bench/lines.c`, answer from standard input.",
     "instructions": "The number of instructions of a command, counted by callgrind.",
@@ -99,9 +100,9 @@ LIQUIDS = {
     "4096_sorted": "4,096 atoms sorted in space",
     "1024": "1,024 atoms in random order",
     "256": "256 atoms in random order",
-    "64": "droplet of 64 atoms in random order, in a box with edge 6 sigma",
-    "droplet": "droplet of 4,096 atoms in random order, in a box with edge 1,000 sigma",
-    "larger_droplet": "droplet of 4,096 atoms in random order, in a box with edge 60,000 sigma",
+    "64": "droplet of 64 atoms in random order, box edge 6 sigma",
+    "droplet": "droplet of 4,096 atoms in random order, box edge 1,000 sigma",
+    "larger_droplet": "droplet of 4,096 atoms in random order, box edge 60,000 sigma",
     "equal": "4,096 atoms in random order, of two species with equal interactions",
     "different": "4,096 atoms in random order, argon and krypton",
     "different_sorted": "4,096 atoms sorted in space, argon and krypton",
@@ -138,7 +139,7 @@ def cores(name: str) -> str:
     steps = [each["name"].rpartition(", ") for each in found.told["figures"] if each["unit"] == "ms per step"]
     ways, counts = list(dict.fromkeys(way for way, _, _ in steps)), sorted({count for _, _, count in steps})
     rows = [" | ".join([way, *(cell_of_workers(found, f"{way}, {count}") for count in counts)]) for way in ways]
-    return found.under(f"ms per step (of the connection's processor time), by processes or workers | {' | '.join(counts)}", *rows)
+    return found.under(f"ms per step (connection's processor time in ms), by number of processes or workers | {' | '.join(counts)}", *rows)
 
 
 def cell_of_workers(found: Found, name: str) -> str:
@@ -224,7 +225,7 @@ def server(name: str) -> str:
     rows = [
         f"time of a step of 4,096 atoms with 4 workers, in ms | {' | '.join(step)}",
         f"steps per second of 8 users together, with 512 atoms each | {' | '.join(rate)}",
-        f"{together}, divided by their speed if they advance one after another | {' | '.join(gain)}",
+        f"{together}, divided by their speed one after another | {' | '.join(gain)}",
     ]
     shows = [f"SHOW commands per second, {sent} | - | {shown(found[f'SHOW, {size} at a time'])}" for size, sent in SENT.items()]
     return found.under(f"Measured | {OPTIONS}", *rows, *shows, *beside_redis(found))
@@ -234,7 +235,7 @@ def beside_redis(found: Found) -> Iterator[str]:
     for size, sent in SENT.items():
         if f"GET by this script, {size} at a time" in found.figures:
             part = found[f"SHOW, {size} at a time"] / found[f"GET by this script, {size} at a time"]
-            yield f"SHOW commands per second, divided by GET commands of Redis per second, {sent} | - | {ratio(part)}"
+            yield f"SHOW commands per second, divided by Redis GET commands per second, both {sent} | - | {ratio(part)}"
 
 
 def figures(name: str) -> str:

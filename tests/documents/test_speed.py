@@ -97,7 +97,7 @@ def test_workers_beside_processes_of_lammps(folder: Path) -> None:
     told["figures"] += [{"name": name, "unit": "ms of processor time per step", "value": value} for name, value in spent.items()]
     (folder / "a.json").write_text(json.dumps(told))
     assert speed_tables.speed("cores", "a").splitlines()[2:] == [
-        "| ms per step (of the connection's processor time), by processes or workers | 1 | 2 | 3 |",
+        "| ms per step (connection's processor time in ms), by number of processes or workers | 1 | 2 | 3 |",
         "|---|---|---|---|",
         "| LAMMPS | 4.00 | 2.00 | - |",
         "| v2, lock | 3.00 (0.250) | - | 1.50 (0.500) |",
@@ -216,9 +216,9 @@ def test_a_table_names_the_program(folder: Path) -> None:
     def moment(*names: str) -> str:
         return speed_tables.moment(*map(speed_tables.Found, names))
 
-    assert moment("a", "b") == "1.1.0 of 01234567, 2026-01-02, load 0.2 to 1.5"
-    assert moment("c") == "1.1.0 of 89abcdef, with changes, 2026-01-02, load 0.2 to 1.5"
-    assert moment("a", "d") == "1.1.0 of 01234567, 1.1.0, 2026-01-02, load 0.2 to 1.5"
+    assert moment("a", "b") == "1.1.0, commit 01234567, 2026-01-02, load 0.2 to 1.5"
+    assert moment("c") == "1.1.0, commit 89abcdef, with changes, 2026-01-02, load 0.2 to 1.5"
+    assert moment("a", "d") == "1.1.0, commit 01234567, 1.1.0, 2026-01-02, load 0.2 to 1.5"
 
 
 # What is stale.
@@ -364,12 +364,12 @@ def test_measurements_are_told_by_what_they_measured(tree: Path, capsys: pytest.
     program = {"version": "1.1.0", "commit": "01234567", "sources": hashes(tree)}
     for name, has_kept in (("a", True), ("b", True), ("c", False)):
         kept(tree, name, "bench/one X --json a.json", {}, program=program if has_kept else None)
-    as_they_are = "1.1.0 of 01234567, 2026-01-02, sources as they are: a b"
+    as_they_are = "1.1.0, commit 01234567, 2026-01-02, sources as they are: a b"
     not_known = "stale: 2026-01-02, sources not known: c"
     assert speeds_in(tree, capsys) == (0, [as_they_are, not_known])
     assert speeds_in(tree, capsys, "--stale") == (1, [not_known])
     edited(tree / "crates/lj_one/src/lib.rt", "    number + 1\n", "    1 + number\n")
-    changed = "stale: 1.1.0 of 01234567, 2026-01-02, before changes of crates/lj_one/src: a b"
+    changed = "stale: 1.1.0, commit 01234567, 2026-01-02, before changes of crates/lj_one/src: a b"
     assert speeds_in(tree, capsys, "--stale") == (1, [changed, not_known])
     (tree / "c.json").unlink()
     edited(tree / "crates/lj_one/src/lib.rt", "    1 + number\n", "    number + 1\n")

@@ -13,7 +13,7 @@ from typing import Any, List
 import pytest
 
 TOP = pathlib.Path(__file__).resolve().parents[2]
-STALE = "stale: 1.1.0 of 01234567, 2026-01-02, before changes of crates/lj_tile/src: order"
+STALE = "stale: 1.1.0, commit 01234567, 2026-01-02, before changes of crates/lj_tile/src: order"
 # Stand-ins for the commands that a release needs: these do nothing, and the first thing that is built fails.
 TOOLS = ("rt", "git", "cc", "tar", "gzip", "python3")
 
