@@ -25,10 +25,7 @@ FRONTS, DATABASES, OF_SERVERS = "fronts", "databases", 0.2
 OFTEN_READY = 0.75
 # A front that takes a snapshot after a few records or a moment of computing, so that kills come within many of them, and whose servers
 # lend few names, so that users have them in turn.
-OFTEN = patched(
-    "from ljtools.keeping import server, user; del server.NAMES[2:]\n"
-    "user.MAX_RECORDS, user.SECONDS_OF_BUDGET = 25, 0.05"
-)
+OFTEN = patched("from ljtools.keeping import server, user; del server.NAMES[2:]\n" "user.MAX_RECORDS, user.SECONDS_OF_BUDGET = 25, 0.05")
 
 
 def kill(program: str, kind: str, kills: int, seed: str, options: Sequence[str] = (), is_often: bool = False) -> Dict[str, int]:
