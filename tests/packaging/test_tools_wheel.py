@@ -1,4 +1,5 @@
 """The wheel of the modules of the tools, as pip makes it of tools/."""
+import importlib.util
 import os
 import pathlib
 import re
@@ -16,7 +17,8 @@ import ljclient
 from support import SECONDS, TOP, present
 
 for needed in ("pip", "setuptools", "wheel"):
-    pytest.importorskip(needed, reason=f"{needed} is not installed")
+    if importlib.util.find_spec(needed) is None:
+        pytest.skip(f"{needed} is not installed", allow_module_level=True)
 
 MADE = shutil.ignore_patterns("build", "__pycache__", "*.egg-info")
 IMPORTED = "import importlib, sys; import ljtools; print(ljtools.__file__); [importlib.import_module(name) for name in sys.argv[1:]]"
@@ -46,7 +48,7 @@ def wheel(tmp_path_factory: pytest.TempPathFactory) -> pathlib.Path:
     words = ["wheel", "--no-deps", "--no-build-isolation", "--no-index", "--wheel-dir", folder / "made", folder / "tools"]
     printed("-m", "pip", "--isolated", *words)
     (made,) = (folder / "made").iterdir()
-    return pathlib.Path(made)
+    return made
 
 
 def told_by(wheel: pathlib.Path) -> Message:
