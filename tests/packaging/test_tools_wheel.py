@@ -1,5 +1,5 @@
 """The wheel of the modules of the tools, as pip makes it of tools/."""
-import importlib.util
+import importlib.metadata
 import os
 import pathlib
 import re
@@ -16,8 +16,11 @@ import pytest
 import ljclient
 from support import SECONDS, TOP, present
 
+# Not by looking for the modules: where pip is looked for, setuptools cannot be imported any more in the same process.
 for needed in ("pip", "setuptools", "wheel"):
-    if importlib.util.find_spec(needed) is None:
+    try:
+        importlib.metadata.version(needed)
+    except importlib.metadata.PackageNotFoundError:
         pytest.skip(f"{needed} is not installed", allow_module_level=True)
 
 MADE = shutil.ignore_patterns("build", "__pycache__", "*.egg-info")
