@@ -25,12 +25,12 @@ NAMES = {
 }
 # What a table shows, by the name of its measurement, or of its first one.
 ABOUT = {
-    "step_4096": "The table compares the wall-clock time of a step of `ljserve` with the time of its twin in plain C, `bench/plain.c` "
+    "step_4096": "The table compares the wall-clock time of a step in `ljserve` and in its twin in plain C, `bench/plain.c` "
     "(`-march=native`, one thread).",
     "lammps": "The processor time of a step of 4,000 atoms in one thread, for `ljserve` and for Debian's LAMMPS of 29 Sep 2021.",
-    "cores": "The wall-clock time of a step of 4,096 atoms: for LAMMPS, and for a server's session with atoms sorted in space.",
+    "cores": "The wall-clock time of a step of 4,096 atoms, in LAMMPS and in a server's session with atoms sorted in space.",
     "order": "The processor time of a step of 4,096 atoms, with and without sorting the atoms in space.",
-    "lines": "How many SHOW commands per second `ljserve` and its twin in plain C, `bench/lines.c`, answer from standard input.",
+    "lines": "SHOW commands per second from standard input, answered by `ljserve` and by its twin in plain C, `bench/lines.c`.",
     "instructions": "The number of instructions of a command, counted by callgrind.",
     "reader": "How fast `ljserve` reads atoms.",
     "scale": "The two tables compare the speed of a server with the speed of `ljserve run`.",
@@ -218,7 +218,7 @@ def rows_of_a_session(found: Found, crowd: str) -> Iterator[str]:
 def server(name: str) -> str:
     found = Found(name)
     users, sessions = "8 users of 512 atoms", "8 sessions of one user, of 512 atoms"
-    together = "speed of 8 sessions of one user that advance together"
+    together = "speed of 8 sessions of one user together"
     step = [shown(found[f"4096 atoms, {pool}, 4 workers"]) for pool in POOLS]
     rate = [shown(found[f"{pool}: {users}, at once, steps"]) for pool in POOLS]
     gain = [ratio(found[f"{pool}: {sessions}, one after the other"] / found[f"{pool}: {sessions}, at once"]) for pool in POOLS]

@@ -2,7 +2,7 @@
 """Runs a liquid twice, the second time with one atom tugged by one unit, and goes back with both.
 
 A unit is a part in 2^32 of the box. Prints the distance between the two runs, which grows until nothing is alike, or draws
-it over the steps with --plot. On the way back it shrinks again, and both end where they began, to the bit. The status is 1
+it over the steps with --plot. On the way back it shrinks again, and both end where they began, bit for bit. The status is 1
 where one does not.
 
 Pushes are looked up by bins, so the distance jumps where a pair first falls into another bin in one of the runs. Up to 1/256
@@ -59,7 +59,7 @@ def main(words: Sequence[str]) -> int:
     rows = [(step, f"{far:.3e}") for step, far in zip(made[::5], apart[::5])]
     show(options.plot, lambda axes: draw(axes, alone, tugged), ["steps made", "distance / sigma"], rows)
     returned = alone[0] == alone[-1] == tugged[-1]
-    print("both runs are back where they began, to the bit" if returned else "a run is not back where it began")
+    print("both runs are back where they began, bit for bit" if returned else "a run is not back where it began")
     return 0 if returned else 1
 
 

@@ -8,7 +8,7 @@
 
     python3 examples/reversal.py echo --plot x.png
 
-Prints what was found, or draws it with --plot. What is turned back without a kick is at its start again, to the bit.
+Prints what was found, or draws it with --plot. What is turned back without a kick is at its start again, bit for bit.
 """
 from __future__ import annotations
 

@@ -129,7 +129,7 @@ def velocities(heat: float = HEAT) -> List[List[float]]:
 
 
 def whole(places: Iterable[Any]) -> Frame:
-    """Places as tuples of whole numbers, to be compared to the bit."""
+    """Places as tuples of whole numbers, to be compared bit for bit."""
     return [tuple(map(int, place)) for place in places]
 
 

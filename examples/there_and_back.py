@@ -1,5 +1,5 @@
 #!/usr/bin/env python3
-"""Melts a crystal, turns the motion back, and goes back to the crystal, to the bit.
+"""Melts a crystal, turns the motion back, and goes back to the crystal, bit for bit.
 
 Prints the distance of the atoms from where they began, or draws it over the steps with --plot. The status is 1 where an
 atom is not back at its place.
@@ -32,7 +32,7 @@ def draw(axes: Any, frames: Sequence[Frame], piece: int = PIECE) -> None:
     axes.plot(made[: turn + 1], away[: turn + 1], color="tab:red", label="there: the crystal melts")
     axes.plot(made[turn:], away[turn:], color="tab:blue", label="back: after REVERSE")
     axes.axvline(made[turn], color="gray", linestyle=":", linewidth=1)
-    axes.plot(made[-1], away[-1], "o", color="tab:blue", clip_on=False, label=f"{away[-1]:g} at the end, to the bit")
+    axes.plot(made[-1], away[-1], "o", color="tab:blue", clip_on=False, label=f"{away[-1]:g} at the end, bit for bit")
     axes.set(xlabel="steps made", ylabel="distance from the start / σ", xlim=(0, made[-1]), ylim=(0, None))
     axes.set_title(f"{ATOMS} atoms melt, and go back to their crystal")
     axes.legend(loc="lower center")
@@ -46,7 +46,7 @@ def main(words: Sequence[str]) -> int:
     rows = [(step, f"{far:.6f}") for step, far in zip(made[::5], away[::5])]
     show(options.plot, lambda axes: draw(axes, frames), ["steps made", "distance / sigma"], rows)
     back = sum(one == other for one, other in zip(frames[0], frames[-1]))
-    print(f"{back} of {ATOMS} atoms are back at their places, to the bit")
+    print(f"{back} of {ATOMS} atoms are back at their places, bit for bit")
     return 0 if back == ATOMS else 1
 
 

@@ -1,5 +1,5 @@
 #!/usr/bin/env python3
-"""Lets a mixture of two species separate, turns the motion back, and mixes it again, to the bit.
+"""Lets a mixture of two species separate, turns the motion back, and mixes it again, bit for bit.
 
 Two atoms of one species attract and repel each other as two of the other do, unlike ones a quarter as much. They start at
 rest on a lattice, each species at random sites. Prints which share of the neighbours within 1.5 sigma is unlike, or draws
@@ -123,7 +123,7 @@ def main(words: List[str]) -> int:
         rows = zip(made[::4], shares[::4])
         print_table(["steps made", "unlike neighbours"], [(step, f"{share:.4f}") for step, share in rows])
     back = sum(one == other for one, other in zip(frames[0], frames[-1]))
-    print(f"{back} of {ATOMS} atoms are back at their places, to the bit")
+    print(f"{back} of {ATOMS} atoms are back at their places, bit for bit")
     return 0 if back == ATOMS else 1
 
 

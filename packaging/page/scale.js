@@ -1,4 +1,4 @@
-// The scale of a simulation: what its whole numbers mean. It is `ljclient.Scale`, and computes as that does, to the bit.
+// The scale of a simulation: what its whole numbers mean. It is `ljclient.Scale`, and computes as that does, bit for bit.
 
 import { general, nano, quotient, repr, rounded } from "./numbers.js";
 
@@ -86,7 +86,7 @@ export class Scale {
     return { kinetic: energy / atoms, potential: quotient(BigInt(potential), BigInt(POTENTIAL_UNIT)) / atoms, temperature };
   }
 
-  // What a page has to know to draw it, and to tug its atoms. DUMP tells places to the bit in the box in which scenes are loaded.
+  // What a page has to know to draw it, and to tug its atoms. DUMP shows places exactly in the box in which scenes are loaded.
   likeness() {
     const { dt, sigma, reducedDt } = this;
     const speed = dt === null ? null : ((sigma * reducedDt) / dt) * METRES_PER_SECOND;

@@ -64,7 +64,7 @@ export class Scene {
     return this.temperature && this.atoms > 1 ? displacements(this.atoms, this.temperature, this.scale, this.seed) : [];
   }
 
-  // Loads the atoms, so that each coordinate of DUMP is a place to the bit: first with the scale of the file, which rounds them to
+  // Loads the atoms, so that each coordinate of DUMP gives a place exactly: first with the scale of the file, which rounds them to
   // places, and then these places as they are. `drop` is called between, when nothing can be refused any more.
   async begin(program, name, drop) {
     const moved = this.displacements();

@@ -26,7 +26,7 @@ const lastWord = (lines) => Number(lines[0].split(" ").at(-1));
 const atomsOf = (dump) => dump.slice(3);
 const placesOf = (line) => line.split(" ").slice(1).map((word) => Number(word.replace(".", "")));
 
-// How many atoms are at the same places, and how many of these were so one step before. Their lines tell places to the bit.
+// How many atoms are at the same places, and how many of these were so one step before. Their lines give places exactly.
 function same(now, then) {
   const stays = now.places.map((line, atom) => line === then.places[atom]);
   const moves = stays.filter((stay, atom) => stay && now.before[atom] === then.before[atom]);

@@ -23,9 +23,9 @@ def told_by(program: Program, name: str, *words: str) -> Tuple[int, bytes]:
 @pytest.mark.parametrize(
     "name, steps, last",
     [
-        ("there_and_back.py", "400", b"\n256 of 256 atoms are back at their places, to the bit\n"),
-        ("butterfly.py", "400", b"\nboth runs are back where they began, to the bit\n"),
-        ("unmixing.py", "300", b"\n729 of 729 atoms are back at their places, to the bit\n"),
+        ("there_and_back.py", "400", b"\n256 of 256 atoms are back at their places, bit for bit\n"),
+        ("butterfly.py", "400", b"\nboth runs are back where they began, bit for bit\n"),
+        ("unmixing.py", "300", b"\n729 of 729 atoms are back at their places, bit for bit\n"),
     ],
 )
 def test_an_example_ends_where_it_began(program: Program, name: str, steps: str, last: bytes) -> None:

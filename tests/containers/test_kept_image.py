@@ -250,7 +250,7 @@ def database() -> Iterator[Cluster]:
 
 
 def test_users_go_over_to_another_front(podman: Podman, kept: str, users: str, database: Cluster) -> None:
-    """Two fronts over a database: where one is killed, the other one has its users, to the bit."""
+    """Two fronts over a database: where one is killed, the other one has its users, bit for bit."""
     wanted = expected(PARTS[:2])
     words = compose()["services"]["front1"]["command"]
     address = database.new()

@@ -28,7 +28,7 @@ def test_names_contrast_focus_language_and_link(tmp_path: pathlib.Path) -> None:
         assert link.startswith(f"{before}#scene=") and lesson.tokens()["ann"] not in link and "lang" not in link
         browser.leave()
         browser.open(link)
-        browser.wait_for("document.getElementById('message')?.textContent.startsWith('This is step 1 of the link, to the bit: ')")
+        browser.wait_for("document.getElementById('message')?.textContent.startsWith('This is step 1 of the link, bit for bit: ')")
         assert browser.faults == []
 
 

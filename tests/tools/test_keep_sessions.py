@@ -1,4 +1,4 @@
-"""Sessions that `tools/keep` reads and puts back are the same to the bit, and replies have true steps, by the reference of
+"""Sessions that `tools/keep` reads and puts back are the same bit for bit, and replies have true steps, by the reference of
 conformance/."""
 import io
 import random

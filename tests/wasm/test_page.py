@@ -149,7 +149,7 @@ def test_256_atoms_go_there_and_back_without_a_network(site: Path, browser: Any,
     says(browser, "message", "Back at step 0.")
     browser.wait_for("document.getElementById('distance').textContent === '0'", SECONDS)
     click(browser, "exact")
-    says(browser, "message", "256 of 256, to the bit: each atom is where it was at the start, with its motion turned back.")
+    says(browser, "message", "256 of 256, bit for bit: each atom is where it was at the start, with its motion turned back.")
     record = saved_record(browser, tmp_path)
     done = played(record)
     assert done.returncode == 0, done.stdout + done.stderr

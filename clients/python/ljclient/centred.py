@@ -1,7 +1,7 @@
 """Three frames in a row: the present one and those a step before and after it, of which velocities and forces are differences.
 
 For the frame before the motion is turned back, and for the frame after a step is made. Both are undone (`guards.look`), and give
-back both frames, the step number and the direction, to the bit. What is saved in the session stays as it is.
+back both frames, the step number and the direction, bit for bit. What is saved in the session stays as it is.
 """
 from __future__ import annotations
 

@@ -1,4 +1,4 @@
-"""XYZ text as whole numbers: the places that the server would load from it, to the bit, and text that gives back places.
+"""XYZ text as whole numbers: the places that the server would load from it, bit for bit, and text that gives back places.
 
 The grammar is that of the server. A text that it refuses is not read here, and the server says what is wrong with it.
 """

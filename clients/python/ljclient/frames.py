@@ -1,6 +1,6 @@
 """The frames of a session, in the server's numbers.
 
-In a box whose edge is 4294.967296 a ring unit is a millionth of the file's unit. So six decimals are a place to the bit, in
+In a box whose edge is 4294.967296 a ring unit is a millionth of the file's unit. So six decimals give a place exactly, in
 what DUMP tells and in what LOAD takes. In any other box each place takes a SHOW.
 """
 from __future__ import annotations

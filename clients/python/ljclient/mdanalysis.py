@@ -34,7 +34,7 @@ class SessionReader(_Reader):  # type: ignore[misc]
     """A trajectory of MDAnalysis whose frames are those of a session on its way.
 
     Any frame can be asked for, in any order: the session goes on or back to it, exactly. After a whole iteration it is at the first
-    frame again, to the bit. Who makes steps of the session meanwhile has other frames.
+    frame again, bit for bit. Who makes steps of the session meanwhile has other frames.
 
     Parameters
     ----------

@@ -104,8 +104,8 @@ class Echo:
 
     def __str__(self) -> str:
         what = "without a kick" if self.kick is None else f"with atom {self.kick.atom} kicked by {self.kick.displacement}"
-        told = f"{self.returned:.3g} sigma" if self.returned else "0 sigma, to the bit"
-        return f"{self.steps[-1]} steps there and back, {what}: {told} from the start"
+        told = f"{self.returned:.3g} sigma from the start" if self.returned else "0 sigma from the start, bit for bit"
+        return f"{self.steps[-1]} steps there and back, {what}: {told}"
 
 
 @dataclasses.dataclass(frozen=True, eq=False)
@@ -350,7 +350,7 @@ def echo(session: "Session", steps: int, kick: Optional[Kick] = Kick(), every: O
     ...     liquid = user.load("liquid", state_points.lattice("fcc", density=0.2, atoms=32), sigma=1, h=4295)
     ...     temperature = liquid.heat(1.5)
     ...     print(reversal.echo(liquid, 20, kick=None))
-    20 steps there and back, without a kick: 0 sigma, to the bit from the start
+    20 steps there and back, without a kick: 0 sigma from the start, bit for bit
     """
     numpy = needed_numpy("an echo")
     stops, unit = stops_of(steps, every), session.scale.sigma_on_ring

@@ -1,4 +1,4 @@
-"""Sessions that are saved to files and go on from them, to the bit: in another program, over a server, and backward.
+"""Sessions that are saved to files and go on from them, bit for bit: in another program, over a server, and backward.
 
 What is expected is what a session does that was never saved.
 """

@@ -65,7 +65,7 @@ THINGS: List[Any] = [
 
 
 def is_alike(one: Any, other: Any) -> bool:
-    """Whether two things are the same to the bit, and of the same types."""
+    """Whether two things are the same bit for bit, and of the same types."""
     if type(one) is not type(other):
         return False
     if isinstance(one, (numpy.ndarray, numpy.generic)):

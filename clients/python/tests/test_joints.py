@@ -1,4 +1,4 @@
-"""Where a session of a record is loaded again: it goes on as it was, to the bit, or the verdict tells of another trajectory."""
+"""Where a session of a record is loaded again: it goes on as it was, bit for bit, or the verdict tells of another trajectory."""
 import pathlib
 import re
 from typing import Any, Callable, Tuple

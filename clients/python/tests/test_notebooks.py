@@ -85,7 +85,7 @@ def ran(tmp_path_factory: pytest.TempPathFactory) -> Any:
 
 @pytest.mark.parametrize("name", NAMES)
 def test_it_runs_as_it_is_stored(ran: Any, name: str) -> None:
-    """What it prints is the same: a run is the same to the bit, and means are those of other sums of the same numbers."""
+    """What it prints is the same: a run is the same bit for bit, and means are those of other sums of the same numbers."""
     now, then = (re.split(r"(-?[0-9]+(?:\.[0-9]+)?(?:e-?[0-9]+)?)", text) for text in (ran(name), texts(stored(name))))
     assert now[::2] == then[::2]
     for one, other in zip(map(float, now[1::2]), map(float, then[1::2])):
@@ -109,9 +109,9 @@ def test_argon_is_that_of_others(ran: Any) -> None:
 
 
 def test_the_echo_and_its_exponent(ran: Any) -> None:
-    """Without a kick it is back to the bit. The exponent of 256 atoms is 3.58, by 64 runs (`examples/lyapunov.py`)."""
+    """Without a kick it is back bit for bit. The exponent of 256 atoms is 3.58, by 64 runs (`examples/lyapunov.py`)."""
     text = ran("echo")
-    assert "2000 steps there and back, without a kick: 0 sigma, to the bit from the start" in text
+    assert "2000 steps there and back, without a kick: 0 sigma from the start, bit for bit" in text
     (far,) = numbers(r"kicked by \(1, 0, 0\): ([0-9.]+) sigma from the start", text)
     assert 0.1 < far < 3
     exponent, error = numbers(rf"Lyapunov exponent {NUMBER} per sigma", text)
@@ -131,7 +131,7 @@ def test_the_entropy_of_mixing(ran: Any) -> None:
     spread = math.sqrt(2 * 26) / (2 * 256)
     assert abs(random - (math.log(2) - 26 / (2 * 256))) < 4 * spread / math.sqrt(20) + 0.005
     assert abs(turn - random) < 4 * spread
-    assert "both ways have the same entropies, to the bit: True" in text
+    assert "both ways have the same entropies, bit for bit: True" in text
 
 
 def test_unlike_atoms_part(ran: Any) -> None:

@@ -66,7 +66,7 @@ def test_what_reversal_makes_possible(tmp_path: pathlib.Path) -> None:
     path = tmp_path / "x.svg"
     status, out, error = told("reversal.py", "echo", "--steps", "4", "--melting", "1", "--plot", path)
     assert (status, error) == (0, "")
-    assert "4 steps there and back, without a kick: 0 sigma, to the bit from the start\n" in out
+    assert "4 steps there and back, without a kick: 0 sigma from the start, bit for bit\n" in out
     assert "with atom 0 kicked by (1024, 0, 0): " in out and path.read_bytes().startswith(b"<?xml")
     assert told("reversal.py", "arrow", "--steps", "0")[::2] == (1, "reversal.py: steps must be at least 1, got 0\n")
 

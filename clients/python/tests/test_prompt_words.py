@@ -108,7 +108,7 @@ def test_the_measurement_of_a_step_is_undone(talk: Heard) -> None:
 def test_the_distance_from_the_load(talk: Heard) -> None:
     """After two steps the atoms are 1774 ring units nearer to each other, each: docs/PROTOCOL.md."""
     talk.load()
-    assert talk.says("distance a")[-1] == "  each atom is at the place where it was loaded, to the bit"
+    assert talk.says("distance a")[-1] == "  each atom is at the place where it was loaded, bit for bit"
     talk.says("ADVANCE a 2")
     apart = 1774 * 256 / RING
     assert f"the atoms are {apart:.6g} of the unit of the file ({apart:.6g} sigma)" in talk.says("distance a")[-1]

@@ -91,7 +91,7 @@ def test_a_small_box_is_played_whole(tmp_path: pathlib.Path) -> None:
 
 @pytest.mark.parametrize("edge", ["4.294967296", "4.294967297", "5.0000001", "999.999999999", "1e6"])
 def test_boxes_at_the_limit(tmp_path: pathlib.Path, edge: str) -> None:
-    """Each place is loaded again to the bit, and DUMP shows the same."""
+    """Each place is loaded again bit for bit, and DUMP shows the same."""
     with begun(tmp_path / "x") as (s, user):
         sigma = 0.2 * float(edge) / 1.7
         a = user.load("a", f"2\n\nAr 0 0 0\nAr {1.2 * sigma} 1e-9 0\n", edge=edge, sigma=round(sigma, 9), h=70_000)

@@ -36,7 +36,7 @@ def test_an_echo_without_a_kick_is_exact(user: Any) -> None:
     before = state_of(a)
     told = echo(a, 7, None, every=3)
     assert (told.steps.tolist(), told.distances.tolist(), told.returned) == ([0, 1, 4, 7], [0, 0, 0, 0], 0)
-    assert str(told) == "7 steps there and back, without a kick: 0 sigma, to the bit from the start"
+    assert str(told) == "7 steps there and back, without a kick: 0 sigma from the start, bit for bit"
     assert state_of(a) == before
 
 

@@ -60,7 +60,7 @@ def test_kob_and_andersen(tmp_path: pathlib.Path) -> None:
 
 
 def test_a_long_way_and_back() -> None:
-    """The atoms are sorted anew on the way and back, and come to their places to the bit."""
+    """The atoms are sorted anew on the way and back, and come to their places bit for bit."""
     with run(PROGRAM) as user:
         argon = user.load("argon", EXAMPLES / "argon_256.xyz", edge=21.04, dt=2, order="space", **units.ARGON)
         argon.heat(180)
@@ -101,5 +101,5 @@ def test_the_notebook_runs() -> None:
     lines = [line for cell in cells if cell["cell_type"] == "code" for line in [*cell["source"], "\n"]]
     code = "".join(line for line in lines if not line.startswith("%"))
     text = told("-c", code.replace("energies(user, h)", "energies(user, h, 400)"))
-    assert "back at the crystal, to the bit: True" in text
-    assert "both are back, to the bit: True" in text
+    assert "back at the crystal, bit for bit: True" in text
+    assert "both are back, bit for bit: True" in text

@@ -71,7 +71,7 @@ class InABrowser(unittest.TestCase):
         self.browser.wait_for("document.getElementById('play').textContent === 'Play'")
         self.assertEqual(self.browser.text("distance"), "0")
         self.browser.click("exact")
-        self.browser.wait_for("document.getElementById('message').textContent.startsWith('256 of 256, to the bit')")
+        self.browser.wait_for("document.getElementById('message').textContent.startsWith('256 of 256, bit for bit')")
         self.picture("back")
 
     def test_the_arrow_that_turns_hides_no_button(self) -> None:
@@ -116,7 +116,7 @@ class InABrowser(unittest.TestCase):
         self.browser.wait_for(f"Number(document.getElementById('step').textContent) === {saved}")
         self.assertEqual(self.browser.text("distance"), far)
         self.browser.click("exact")
-        self.browser.wait_for("document.getElementById('message').textContent.startsWith('256 of 256, to the bit')")
+        self.browser.wait_for("document.getElementById('message').textContent.startsWith('256 of 256, bit for bit')")
         self.browser.click("restart")
         self.browser.wait_for("document.getElementById('step').textContent === '0'")
         self.assertEqual(self.browser.text("distance"), "0")

@@ -124,7 +124,7 @@ def test_a_verdict_goes_with_its_step(shown: Any) -> None:
     shown.click("play")
     assert shown.says("Back at step 0") == "Back at step 0. Is each atom where it began? Press Exact?"
     shown.click("exact")
-    assert shown.says("2 of 2") == "2 of 2, to the bit: each atom is where it was at the start, with its motion turned back."
+    assert shown.says("2 of 2") == "2 of 2, bit for bit: each atom is where it was at the start, with its motion turned back."
     assert shown.kind == ["good"]
     shown.picture("verdict")
     shown.play_until("<=", -40)
@@ -136,10 +136,10 @@ def test_a_verdict_goes_with_its_step(shown: Any) -> None:
 def test_a_verdict_goes_with_one_step_and_with_a_turn(shown: Any) -> None:
     for act, step in (("one", "1"), ("reverse", "-1")):
         shown.click("restart", "exact")
-        shown.says("2 of 2, to the bit")
+        shown.says("2 of 2, bit for bit")
         shown.click(act)
         shown.waits_for("step", "===", step)
-        assert "to the bit" not in shown.message
+        assert "bit for bit" not in shown.message
         assert shown.kind == []
 
 
@@ -179,7 +179,7 @@ def test_a_verdict_is_of_the_motion_too(shown: Any) -> None:
     shown.click("save")
     shown.says("Saved at step 0.")
     shown.click("exact")
-    assert shown.says("3 of 3, to the bit") == "3 of 3, to the bit: each atom is where it was when it was saved, and moves as it did."
+    assert shown.says("3 of 3, bit for bit") == "3 of 3, bit for bit: each atom is where it was when it was saved, and moves as it did."
     assert shown.kind == ["good"]
 
 
@@ -193,7 +193,7 @@ def test_escape_gives_a_pull_up(shown: Any) -> None:
     shown.browser.mouse("mouseReleased", x + 60, y)
     assert shown.message == "Press Play."
     shown.click("exact")
-    assert shown.says("3 of 3") == "3 of 3, to the bit: each atom is where it was at the start, and moves as it did."
+    assert shown.says("3 of 3") == "3 of 3, bit for bit: each atom is where it was at the start, and moves as it did."
 
 
 def test_before_the_start_it_says_so(shown: Any) -> None:
@@ -241,7 +241,7 @@ def test_nothing_is_said_to_be_undone_that_was_not_done(shown: Any) -> None:
 def test_a_tug_is_of_its_step(shown: Any) -> None:
     shown.loads(THREE)
     shown.click("exact")
-    shown.says("3 of 3, to the bit")
+    shown.says("3 of 3, bit for bit")
     shown.pull(60)
     message = shown.says("Atom 2 was tugged at step 0, by ")
     assert shown.kind == []

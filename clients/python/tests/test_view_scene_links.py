@@ -1,4 +1,4 @@
-"""Links that hold a scene, in Chromium: they open the same atoms at the same step to the bit, hold no secret of their own, and are refused
+"""Links that hold a scene, in Chromium: they open the same atoms at the same step bit for bit, hold no secret of their own, and are refused
 where they do not fit."""
 import json
 import pathlib
@@ -100,7 +100,7 @@ def test_a_link_opens_the_same_motion(page: Any, view: Any, acts: Any, step: int
     words = words_of(link)
     assert (words["step"], words.get("time", "forward"), words["charts"], words["axis"]) == (str(step), direction, "speeds", "time")
     told = opened(page, link)
-    assert told == f"This is step {step} of the link, to the bit: each atom is where it was, and moves as it did."
+    assert told == f"This is step {step} of the link, bit for bit: each atom is where it was, and moves as it did."
     assert (page.value(STEP), page.text("direction"), page.text("about"), page.text("play")) == (step, direction, about, "Play")
     assert page.value(MOTION) == motion
     assert page.value("[...document.querySelectorAll('#charts input:checked')].map((each) => each.value)") == ["of-speeds"]

@@ -81,7 +81,7 @@ def test_a_link_of_the_view_opens_the_same_motion_here(page: Any, site: Any) -> 
         do(page, {"do": "load", "scene": 0, "atoms": 108, "temperature": 0.9, "dt": 0.005}, {"do": "frame", "steps": 12}, {"do": "reverse"})
         motion, link = page.value(MOTION), copied(page)
         told = opened(page, link.replace(view.link, site.link))
-    assert told.startswith("This is step 11 of the link, to the bit: ")
+    assert told.startswith("This is step 11 of the link, bit for bit: ")
     assert page.value(MOTION) == motion
     page.value(CATCH)
     assert copied(page).partition("#")[2] == link.partition("#")[2]
@@ -93,7 +93,7 @@ def test_each_scene_has_its_link(page: Any, title: str, atoms: int) -> None:
     do(page, {"do": "load", "scene": scene}, {"do": "frame", "steps": 7})
     page.value(CATCH)
     motion, link = page.value(MOTION), copied(page)
-    assert opened(page, link).startswith("This is step 7 of the link, to the bit: ")
+    assert opened(page, link).startswith("This is step 7 of the link, bit for bit: ")
     assert page.value(MOTION) == motion and page.text("about").startswith(f"{atoms} atoms")
 
 

@@ -184,7 +184,7 @@ def test_a_language_is_chosen_and_remembered(page: Any, view: Any) -> None:
     """At another port too, as each view has."""
     begun(page, view.link, "en")
     page.value("document.getElementById('exact').click()")
-    page.wait_for("document.getElementById('message').textContent.startsWith('256 of 256, to the bit')")
+    page.wait_for("document.getElementById('message').textContent.startsWith('256 of 256, bit for bit')")
     page.value("(select => { select.value = 'de'; select.dispatchEvent(new Event('change')); })(document.getElementById('language'))")
     assert page.text("message") == TABLES["de"]["sameStart"][0].format(atoms=256)
     assert page.value("document.documentElement.lang") == "de" and page.text("play") == "Abspielen"

@@ -1,4 +1,4 @@
-//! The directory of users: it lends the state of a user to one connection at a time, in the order of their tickets.
+//! The directory of users: it lends a user's state to one connection at a time, in the order of the tickets.
 #![tactic(auto)]
 
 mod directory;

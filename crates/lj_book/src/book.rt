@@ -74,7 +74,7 @@ impl Book {
     /// # Errors
     /// `Full`, with the task, if there are `MAX_ENTRIES` entries, or 2^64 - 1 tasks have been posted.
     ///
-    /// Promise: if the book has room, the task becomes open under a key that was vacant. Otherwise the task is returned, and the
+    /// Promise: if the book has room, it stores the task as open under a vacant key. Otherwise the task is returned, and the
     /// book is unchanged.
     pub fn post(&mut self, task: Task) -> Result<(), Full>
         ensures room { IsOk result ↔ ((entry_count self.old < MAX_ENTRIES) × (self.old.posted < 2 ^ 64 - 1)) }
@@ -108,7 +108,7 @@ impl Book {
 
     /// Takes the open task of the least key from `pick` on, else of the least key. It is then out.
     ///
-    /// Promise: the open task with the smallest key at or above `pick` is handed out, or else the one with the smallest key of all.
+    /// Promise: the open task with the smallest key at or above `pick` is handed out. If there is none, the one with the smallest key is.
     /// If no task is open, nothing changes.
     pub fn take(&mut self, pick: usize) -> Option<(Key, Task)>
         ensures some { IfSome result (λ taken. Takes self.old self.new taken.0 taken.1) }
@@ -196,8 +196,7 @@ impl Book {
 
     /// Fetches the user's result of the least key from `pick` on, else of the least key, and removes its entry.
     ///
-    /// Promise: the user's result with the smallest key at or above `pick` leaves the book; if there is none, the user's result
-    /// with the smallest key does. If the user has no result, nothing changes.
+    /// Promise: the user's result with the smallest key at or above `pick` leaves the book. If there is none, the one with the smallest key does. If the user has no result, nothing changes.
     pub fn fetch(&mut self, user: u8, pick: usize) -> Option<Done>
         ensures some { IfSome result (λ done. (key : ℕ) × Fetches self.old self.new done key
             × IsPick (IsDoneAt user self.old) pick key) }
@@ -213,7 +212,7 @@ impl Book {
 
     /// Removes every entry of the user, also those of tasks that are out.
     ///
-    /// Promise: exactly the user's entries leave the book, including those of tasks that workers have.
+    /// Promise: exactly the user's entries leave the book, even if a worker has an entry's task.
     pub fn withdraw(&mut self, user: u8)
         ensures { Withdraws user self.old self.new }
     {
@@ -233,8 +232,7 @@ impl Book {
 
     /// Returns the counts. Each posted task has been fetched or withdrawn, or is still in the book.
     ///
-    /// Promise: every posted task has been fetched or withdrawn, or is still in the book. At most as many results were accepted as
-    /// tasks were posted.
+    /// Promise: every posted task has been fetched or withdrawn, or is still in the book. Accepted results never outnumber posted tasks.
     pub fn counts(&self) -> Counts
         ensures posted { result.posted ≡ self.now.posted }
         ensures given { result.given ≡ self.now.given }

@@ -103,8 +103,7 @@ impl BoxBook {
 
     /// Takes the open task of the least key from `pick` on, else of the least key, in its box. It is then out.
     ///
-    /// Promise: the open task with the smallest key at or above `pick` is handed out in its box, or else the one with the smallest
-    /// key of all. If no task is open, nothing changes.
+    /// Promise: the open task with the smallest key at or above `pick` is handed out in its box. If there is none, the one with the smallest key is. If no task is open, nothing changes.
     pub fn take_box(&mut self, pick: usize) -> Option<LentTask>
         ensures some { IfSome result (λ lent. TakesBox self.old self.new lent) }
         ensures picked { IfSome result (λ lent. IsPick (IsOpenAt self.old.inner) pick lent.key) }
@@ -161,8 +160,7 @@ impl BoxBook {
 
     /// Fetches the user's result of the least key from `pick` on, else of the least key, in its box, and removes its entry.
     ///
-    /// Promise: the user's result with the smallest key at or above `pick` leaves the book in its box; if there is none, the user's
-    /// result with the smallest key does. If the user has no result, nothing changes.
+    /// Promise: the user's result with the smallest key at or above `pick` leaves the book in its box. If there is none, the one with the smallest key does. If the user has no result, nothing changes.
     pub fn fetch_box(&mut self, user: u8, pick: usize) -> Option<DoneBox>
         ensures some { IfSome result (λ done. (key : ℕ) × FetchesBox self.old self.new done key
             × IsPick (IsDoneAt user self.old.inner) pick key) }
@@ -174,7 +172,7 @@ impl BoxBook {
 
     /// Removes every entry of the user, also those of tasks that are out. The boxes in them are spare then.
     ///
-    /// Promise: exactly the user's entries leave the book, including those of tasks that workers have. No box is lost.
+    /// Promise: exactly the user's entries leave the book, even if a worker has an entry's task. No box is lost.
     pub fn withdraw(&mut self, user: u8)
         ensures { WithdrawsBox user self.old self.new }
     {
@@ -222,8 +220,7 @@ impl BoxBook {
 
     /// Returns the counts. Each posted task has been fetched or withdrawn, or is still in the book.
     ///
-    /// Promise: every posted task has been fetched or withdrawn, or is still in the book. At most as many results were accepted as
-    /// tasks were posted.
+    /// Promise: every posted task has been fetched or withdrawn, or is still in the book. Accepted results never outnumber posted tasks.
     pub fn counts(&self) -> Counts
         ensures posted { result.posted ≡ self.now.inner.posted }
         ensures given { result.given ≡ self.now.inner.given }

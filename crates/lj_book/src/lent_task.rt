@@ -129,7 +129,7 @@ impl Lent<TaskBox> {
 
     /// Computes the task, in its box.
     ///
-    /// Promise: the result is that of the given task, and has the same key and number.
+    /// Promise: the given task's result is returned, with the task's key and number.
     pub fn compute<K: Kernel>(self, kernel: &K) -> LentDone
         ensures { result ≡ self }
     {

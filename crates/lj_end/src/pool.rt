@@ -10,17 +10,17 @@ use crate::task_list::TaskList;
 use lj_task::{Done, DoneRef, Task, TaskRef};
 use thiserror::Error;
 
-/// Maximum number of ends that a pool has boxes for at the same time. With more of them a post may be refused before the book is
+/// Maximum number of simultaneous ends for which a pool has boxes. With more of them a post may be refused before the book is
 /// full.
 pub const MAX_ENDS: usize = 64;
 
-/// Maximum number of tasks that one end of a pool has posted and not fetched yet.
+/// Maximum number of owed tasks (result not received yet) at one end of a pool.
 pub const MAX_OWED: usize = 64;
 
 /// Maximum number of tasks that one call posts.
 pub const MAX_POSTS: usize = 16;
 
-/// The number of consecutive stray results after which the work for a user ends.
+/// Number of consecutive stray results that end the work for a user.
 pub const MAX_STRAYS: u64 = 4096;
 
 /// Maximum number of unfinished tasks while a connection waits for its next command. 63 waiting connections then leave room for the
@@ -52,8 +52,7 @@ pub enum Refused {
 ///
 /// Tasks and results are large, so they are passed by reference.
 ///
-/// Promise: a posted task is owed until its result is handed out. The pool hands out the same result again and again until the
-/// result is counted, as owed or as a stray.
+/// Promise: a posted task is owed until its result is handed out. The pool hands out the same result until it is counted as owed or as a stray.
 pub trait PoolEnd {
     /// The token of the pool's close. Only a closed pool makes one.
     type Closed: Drop;

@@ -28,7 +28,7 @@ fn push_six_digits(text: &mut ArrayString<MAX_MICRO_BYTES>, number: u64)
 /// assert_eq!(micro_text(1_499_894).as_str(), "1.499894");
 /// ```
 ///
-/// Promise: the text is the given number of millionths as a decimal number with six digits after the point.
+/// Promise: the text is the given number divided by 10^6, in decimal with six digits after the point.
 #[tactic(auto, unfolding(crate::specs::Millionths::millionths))]
 pub fn micro_text(micros: u64) -> ArrayString<MAX_MICRO_BYTES>
     ensures { result.bytes ≡ millionths micros }

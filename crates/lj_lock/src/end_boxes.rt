@@ -16,10 +16,10 @@ use std::mem;
 /// Maximum number of results that one end of a pool has fetched and not handed out yet.
 pub const MAX_IN_HAND: usize = 16;
 
-/// Maximum number of boxes that one end of a pool has ready: results that it has not handed out yet, and spare boxes.
+/// Maximum number of boxes ready at one end of a pool: results not handed out yet, and spare boxes.
 pub const MAX_SPARE: usize = MAX_IN_HAND + 1;
 
-/// Maximum number of boxes of one end of a pool, including the box of the result that was handed out last.
+/// Maximum number of boxes at one end of a pool: ready boxes, and the last result handed out.
 pub const MAX_END_BOXES: usize = MAX_SPARE + 1;
 
 /// Copies of tasks that are to be posted, in their boxes. The place of a box that was posted is empty.

@@ -104,8 +104,7 @@ impl<L: Ledger> LockPool<L> {
 
     /// Returns the counts of the book.
     ///
-    /// Promise: every posted task has been fetched or withdrawn, or is still in the book. At most as many results were accepted as
-    /// tasks were posted.
+    /// Promise: every posted task has been fetched or withdrawn, or is still in the book. Accepted results never outnumber posted tasks.
     pub fn counts<R: Wait>(&self, rt: &R) -> Counts
         ensures balance { result.posted ≡ result.fetched + result.withdrawn + result.entries }
         ensures given_posted { result.given ≤ result.posted }

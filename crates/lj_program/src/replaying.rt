@@ -26,7 +26,7 @@ use std::alloc::{AllocError, Global};
 /// `Line` at the first bad line of the schedule, or `Memory`: nothing is written then. `Write` if a write fails: a front of the
 /// transcript may have been written.
 ///
-/// Promise: on success the transcript of a run is written, for which the headline theorem holds. If a line is bad or memory runs
+/// Promise: on success a run's transcript is written. The headline theorem holds for this run. If a line is bad or memory runs
 /// out, nothing is written.
 pub fn replay<W: Sink>(alloc: Global, bytes: &[u8], writer: &mut W) -> Result<(), ReplayFault>
     ensures written { OnOk result (WritesRun (W.contents writer.old) (W.contents writer.new)) }

@@ -5,7 +5,7 @@ use arrayvec::ArrayVec;
 use lj_book::TaskBox;
 use std::marker::Model;
 
-/// Maximum number of boxes that a pass keeps for the tasks that it posts.
+/// Maximum number of boxes that a pass keeps for posting tasks.
 pub const MAX_SPARE_BOXES: usize = 16;
 
 /// Boxes for the next tasks of a pass, last in, first out. It allocates no memory. Contracts see how many there are.

@@ -189,7 +189,7 @@ impl Mix {
     /// assert_eq!(mix.class(Species::Second, Species::Second).scale.step_factor(), 400);
     /// ```
     ///
-    /// Promise: the result is the mixture, or the first fault of the first class of pairs that has a fault.
+    /// Promise: the result is the mixture, or the first fault of the first faulty class of pairs.
     pub fn new(classes: [(Nano, u64, u64); 3], edge: Nano) -> Result<Mix, MixFault>
         ensures { (first unlike second : ℤ × ℕ × ℕ) → classes ≡ first ∷ unlike ∷ second ∷ [] →
             result ≡ mixture_of edge first unlike second }
@@ -275,7 +275,7 @@ impl Mix {
     /// assert_eq!(mix.reach(), 83_886_080 * 83_886_080); // 2.5 times the greatest sigma
     /// ```
     ///
-    /// Promise: pairs of at least one class interact at each squared distance below the result; no pair interacts at or above it.
+    /// Promise: at a squared distance below the result, at least one class of pairs interacts; at others, none.
     #[inline]
     pub fn reach(&self) -> u64
         ensures value { (s : ℕ) → can_interact self.now s ≡ nat_lt s result }

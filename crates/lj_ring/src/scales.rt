@@ -35,7 +35,7 @@ const BINS_TO_SQUARE: u64 = 128;
 /// The number of bins of squared distance within the cutoff: 128 * 2.5².
 pub const BINS: usize = (BINS_TO_SQUARE * CUTOFF_HALVES * CUTOFF_HALVES / 4) as usize;
 
-/// The smallest bin with entries of its own. Smaller bins use the same entries.
+/// The smallest bin with its own entries. Smaller bins use the same entries.
 pub const MIN_BIN: u16 = 64;
 
 /// The edge of the cubic box, 10^6 to 10^15 nano (billionths of a file unit).
@@ -158,7 +158,7 @@ impl Scale {
     /// assert_eq!(Scale::new(four, one, 131_072), Err(ScaleFault::Sigma));
     /// ```
     ///
-    /// Promise: the result is the scale, or the first fault of edge, sigma and step factor.
+    /// Promise: the result is the scale, or the first fault in edge, sigma or step factor.
     pub fn new(edge: Nano, sigma: Nano, h: u64) -> Result<Scale, ScaleFault>
         ensures { result ≡ scale_of edge sigma h }
     {

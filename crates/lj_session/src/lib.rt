@@ -1,4 +1,4 @@
-//! Carries out a user's commands on the user's sessions, and gives the reply to each.
+//! Carries out a user's commands on the user's sessions, and returns each reply.
 #![tactic(auto)]
 
 mod body;

@@ -78,7 +78,7 @@ impl Owner {
     /// of its own; else it waits. START is always answered at once, with the step number at the end. Only LOAD, LOADMIX
     /// and BRANCH take memory.
     ///
-    /// Promise: a command that needs pending steps, or steps of its own, waits; waiting does not change its reply. Any other
+    /// Promise: a command waits if it needs pending steps or steps of its own; waiting does not change its reply. Any other
     /// command is answered immediately; the reply and the user's next state are as defined. A refused command changes nothing, and
     /// no command changes another session.
     pub fn begin(&mut self, command: Command) -> Begin
@@ -186,7 +186,7 @@ impl Owner {
 
     /// Accepts the result of a task that the step of a session awaits. Any other is handed back, and nothing has changed.
     ///
-    /// Promise: a result is accepted if and only if the step of its session waits for its task. Otherwise it is returned, and
+    /// Promise: a result is accepted if and only if its session's step waits for it. Otherwise it is returned, and
     /// nothing changes.
     pub fn accept(&mut self, done: Done) -> Result<(), Stray>
         ensures accepted { IsOk result ↔ IsAwaitedIn self.old done }

@@ -12,7 +12,7 @@ pub enum Refusal {
     Denied,
     /// A line has more than 256 bytes.
     Line,
-    /// A line has no word, a wrong number of words or a word of the wrong form, or a LOADMIX line has the same symbol twice.
+    /// A line has no word, the wrong number of words or a word of the wrong form; or LOADMIX has the same symbol twice.
     Syntax,
     /// A line of LOAD or LOADMIX does not end with a count.
     Body,

@@ -12,21 +12,20 @@ ghost use Rattle.lj_step.specs.OpenSteps.{cover_tiles, tile_task, tile_of};
 ghost use Rattle.lj_step.specs.TileTasks.{HasEnergy, HasForces};
 ghost use Rattle.lj_step.specs.MotionLaws.{IsFrameOnRing, IsWellFormed, IsMixture, drift, opposite_push, next_simulation_by, tiles_energy};
 
-/// Promise: for every n, every simulation is the same again after n steps, a reversal, n steps and a reversal.
+/// Promise: for every n, every simulation is unchanged after n steps, a reversal, n steps and a reversal.
 pub fn steps_are_undone()
     ensures { (u : Composition) (n : ℕ) (sim : Simulation) → IsWellFormed sim
         → reversal (steps u n (reversal (steps u n sim))) ≡ sim }
 {}
 
-/// Promise: steps conserve the drift, which is the sum of `cur - prev` on the ring, and a reversal changes its sign.
+/// Promise: steps conserve the drift (the sum of `cur - prev` on the ring). A reversal changes the drift's sign.
 pub fn drift_is_conserved()
     ensures steps { (u : Composition) (n : ℕ) (sim : Simulation) → IsMixture u.mix → IsWellFormed sim
         → drift (steps u n sim) ≡ drift sim }
     ensures reverse { (sim : Simulation) → IsWellFormed sim → drift (reversal sim) ≡ opposite_push (drift sim) }
 {}
 
-/// Promise: a step computed from any cover, with its tiles in any order, equals the step over all pairs. The energies of the tiles
-/// of a cover add up to the potential.
+/// Promise: a step computed from any cover, with its tiles in any order, equals the step over all pairs. The energies of a cover's tiles add up to the potential.
 pub fn covers_are_all_pairs()
     ensures step { (u : Composition) (sim : Simulation) (tiles : List Tile) → IsForceCover u sim.cur tiles
         → next_simulation_by u tiles sim ≡ next_simulation u sim }
@@ -34,8 +33,7 @@ pub fn covers_are_all_pairs()
         → tiles_energy u frame tiles ≡ potential u frame }
 {}
 
-/// Promise: for at most `MAX_ATOMS` atoms, all on the ring, the tiles of a force step are a cover, and so are those of an energy
-/// step.
+/// Promise: with at most `MAX_ATOMS` atoms, all on the ring, the tiles of a force or energy step are a cover.
 pub fn tasks_are_a_cover()
     ensures force { (u : Composition) (frame : List Place) → IsFrameOnRing frame → length frame ≤ MAX_ATOMS
         → IsForceCover u frame (cover_tiles Force u frame) }
@@ -43,7 +41,7 @@ pub fn tasks_are_a_cover()
         → IsEnergyCover u frame (cover_tiles Energy u frame) }
 {}
 
-/// Promise: the sums of a tile's task are the pushes of the tile on the atoms or, in an energy step, the energy of the tile.
+/// Promise: the sums of a tile's task are the tile's pushes on the atoms or, in an energy step, the tile's energy.
 pub fn tasks_are_the_tiles()
     ensures force { (live : Sim) (label : Label) (k : ℕ)
         → HasForces live.composition live.sim.cur (tile_of Force k) (tile_task live label Force k) }

@@ -299,7 +299,7 @@ impl Sim {
     /// assert_eq!((sim.step(), sim.place(0).x), (1, 589));
     /// ```
     ///
-    /// Promise: when a force step has all its sums, the simulation advances by one step: the step over all pairs of the definition.
+    /// Promise: when a force step has all its sums, the simulation makes the step defined over all pairs.
     pub fn turn(&mut self)
         requires kind { steps.kind_of self.old.part ≡ Some Force }
         requires whole { steps.is_whole self.old.part ≡ true }

@@ -81,7 +81,7 @@ impl Table {
     /// assert_eq!(Table::new().push_sizes(u32x8::splat(288)), u64x8::splat(12_876_994));
     /// ```
     ///
-    /// Promise: each number is the absolute value of its bin's entry, whose sign follows from the bin.
+    /// Promise: each number is the absolute value of its bin's entry; the bin gives the entry's sign.
     #[inline(always)]
     pub fn push_sizes(&self, bins: u32x8) -> u64x8
         requires { (k : ℕ) → k < 8 → slice_index bins k ≤ BINS }
@@ -102,7 +102,7 @@ impl Table {
     /// assert_eq!(Table::new().energy(25_165_824 * 25_165_824, &scale, Weight::WHOLE), -5_349_132);
     /// ```
     ///
-    /// Promise: the result is the entry of the pair's bin times the weight, rounded toward zero, or 0 beyond the cutoff.
+    /// Promise: the result is the weight times the entry of the pair's bin, rounded toward zero, or 0 beyond the cutoff.
     #[inline]
     pub fn energy(&self, s: u64, scale: &Scale, weight: Weight) -> i64
         ensures value { result ≡ weighted_energy weight (energy_at scale.now s) }

@@ -8,7 +8,7 @@ use crate::tasks::{Task, TaskRef};
 /// A kernel: it computes the sums of a task. Only a kernel makes the result of a given task, so a crate that needs results and
 /// not how they come about takes any kernel.
 ///
-/// Promise: the sums and the result are those of the given task.
+/// Promise: a kernel computes the given task's sums and result.
 pub trait Kernel {
     /// Computes the sums of a task, and overwrites older ones.
     ///

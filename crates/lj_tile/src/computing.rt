@@ -49,7 +49,7 @@ impl<'a> Kernel for TableKernel<'a> {
 /// assert_eq!((done.sum_at(0), done.sum_at(1)), ([589, 0, 0], [4_294_966_707, 0, 0]));
 /// ```
 ///
-/// Promise: the result is that of the given task.
+/// Promise: the given task's result is computed.
 pub fn compute(task: Task, table: &Table) -> Done
     ensures { result ≡ task }
 {
@@ -65,7 +65,7 @@ pub fn compute(task: Task, table: &Table) -> Done
 /// assert_eq!(done.sum_at(0), [589, 0, 0]);
 /// ```
 ///
-/// Promise: the result is that of the given task.
+/// Promise: the given task's result is computed.
 pub fn compute_into(task: &TaskRef<'_>, table: &Table, out: &mut Done)
     ensures { out.new ≡ task.now }
 {
@@ -81,7 +81,7 @@ pub fn compute_into(task: &TaskRef<'_>, table: &Table, out: &mut Done)
 /// assert_eq!(DoneRef::new(&task, &sums).energy_sum(), -5_349_132);
 /// ```
 ///
-/// Promise: the sums are those of the given task.
+/// Promise: the sums are the given task's sums.
 pub fn compute_sums(task: &Task, table: &Table, sums: &mut Sums)
     ensures { AreSums task.now sums.new }
 {

@@ -15,7 +15,7 @@ use lj_task::Push;
 /// assert_eq!(pair_push(&table, &scale, &Place { x: 0, y: 0, z: 0 }, &Place { x: 25_165_824, y: 0, z: 0 }).x, 589);
 /// ```
 ///
-/// Promise: the result is the push as defined, and the push on the other atom is the opposite.
+/// Promise: the result is the push as defined; the other atom gets the opposite push.
 #[inline]
 pub fn pair_push(table: &Table, scale: &Scale, here: &Place, there: &Place) -> Push
     ensures value { result ≡ pushes.push scale.now here.now there.now }

@@ -8,7 +8,7 @@ use crate::asked::Writes;
 use crate::source_and_sink::{CountedWriting, Sink, WriteFault};
 use std::alloc::{AllocError, Global};
 
-/// Maximum number of bytes of replies that are held back.
+/// Maximum number of reply bytes that are held back.
 const MAX_HELD_BYTES: usize = 65_536;
 
 /// A counted writer, and the bytes held back from it. The first `sent` of them were written; after a fault the others stay held,

@@ -8,7 +8,7 @@ use crate::source_and_sink::{Sink, WriteFault};
 #[tactic(auto, using(crate::proofs::Known::appends_front))]
 /// Writes all of `bytes`. After a fault the first of them may have been written.
 ///
-/// Promise: all bytes are written or, if a write fails, a prefix of them.
+/// Promise: all bytes are written, or a prefix of them if a write fails.
 pub fn put_all<W: Sink>(sink: &mut W, bytes: &[u8]) -> Result<(), WriteFault>
     ensures written { OnOk result (Appends (W.contents sink.old) (W.contents sink.new) bytes.now) }
     ensures counted { OnOk result (W.faults sink.new ≡ W.faults sink.old) }

@@ -56,7 +56,7 @@ pub(crate) fn read_line_into(line: &[u8], item: &mut Item) -> usize
 
 /// Parses a line, given without its line feed. The body of a load is not read yet.
 ///
-/// Promise: the result is the item of the line: the command that its words form, or the fault of the line.
+/// Promise: the result is the line's item: the command that the line's words form, or the line's fault.
 pub fn parse_command(line: &[u8]) -> Item
     ensures { result ≡ item_with line.now Unread }
 {

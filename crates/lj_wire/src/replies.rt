@@ -426,7 +426,7 @@ fn dump_line(line: &mut Line, state: &UserState, i: usize, name: &Name, k: usize
 
 /// Returns line k of a reply, counted from 0, with the state of the user after the command; None past the last line.
 ///
-/// Promise: line k of a reply is as defined, and a reply has no more lines than defined.
+/// Promise: the result is line k of the defined reply, or `None` if no line k exists.
 pub fn reply_line(state: &UserState, reply: &Reply, k: usize) -> Option<Line>
     requires settled { IsSettled state.now reply.now }
     ensures { option_map (λ line. line.items) result

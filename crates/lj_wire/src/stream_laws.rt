@@ -6,7 +6,7 @@ ghost use Rattle.lj_wire.specs.StreamLaws.{IsReachedAlone};
 
 use lj_session::UserState;
 
-/// Promise: a stream can be split into items and a rest in only one way.
+/// Promise: the split of a stream into items and a rest is unique.
 pub fn one_splitting()
     ensures { OneSplitting }
 {}
@@ -51,7 +51,7 @@ pub fn commands_are_items()
     ensures { CommandsAreItems }
 {}
 
-/// Promise: some list of items with marks leads a user without sessions to this state, once its pending steps are done.
+/// Promise: some list of items with marks leads a user without sessions to this state with all pending steps done.
 pub fn state_is_reached_alone(state: &UserState)
     ensures { IsReachedAlone (user_of state.now) }
 {

@@ -1,4 +1,4 @@
-//! The world: one state machine of users, connections, workers and the book of tasks; also the laws of its runs.
+//! The world (one state machine of users, connections, workers and the book of tasks) and the laws of its runs.
 #![tactic(auto)]
 
 mod answers;

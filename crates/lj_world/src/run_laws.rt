@@ -33,8 +33,7 @@ pub fn agreeing_scripts_agree_in_texts()
     ensures { AgreeingScriptsAgreeInTexts }
 {}
 
-/// Promise: for any two lists of events in which a user's scripts agree, one list of the replies to this user is a prefix of the
-/// other. Both lists are prefixes of the replies that this user's commands get if there are no other users.
+/// Promise: if a user's scripts agree in two lists of events, one of the user's lists of replies is a prefix of the other. Both lists are prefixes of the replies that this user's commands get if there are no other users.
 pub fn headline()
     ensures { Headline }
 {
@@ -42,7 +41,7 @@ pub fn headline()
     agreeing_scripts_agree_in_texts();
 }
 
-/// Promise: at each point of a run, the user's script so far gives the user's state with all pending steps done. A pending command
+/// Promise: at each point of a run, the user's script so far gives the user's state after all pending steps. A pending command
 /// is the next item of the script.
 pub fn value_is_that_of_script()
     ensures { ValueIsThatOfScript }
@@ -58,7 +57,7 @@ pub fn tickets_are_in_order()
     pending_command_laws();
 }
 
-/// Promise: an event of other users changes nothing for a user, and sends the user no reply.
+/// Promise: events of other users change nothing for a user, and send the user no reply.
 pub fn others_change_nothing()
     ensures { OthersChangeNothing }
 {}

@@ -6,7 +6,7 @@ ghost use Rattle.lj_xyz.specs.Bodies.{Mode, IsReading};
 ghost use Rattle.lj_xyz.specs.Reading.{reading};
 ghost use Rattle.lj_xyz.specs.Symbols.{SymbolPair};
 
-/// Promise: for given species and a given mode each body has exactly one answer, which is found by reading its lines in order.
+/// Promise: for given species and a given mode each body has exactly one answer: the result of reading its lines in order.
 pub fn one_reading()
     ensures one { (symbols : Option SymbolPair) (mode : Mode) (lines : List (List ℕ))
         (a b : Result (List (List AtomRow)) XyzFault) →

@@ -1,4 +1,4 @@
-//! The program: it runs simulations of Lennard-Jones atoms by commands from standard input or TCP.
+//! The program: it takes commands from standard input or TCP, and simulates Lennard-Jones atoms.
 #![tactic(auto)]
 
 ghost use Rattle.std.specs.Prelude.{◌≡◌, ◌≢◌, ◌⊎◌, IfErr};

@@ -230,7 +230,7 @@ OWN: Tuple[Own, ...] = (
     ),
     Own(
         "save s FILE",
-        "Writes the whole simulation into a file, to the bit, but for what BRANCH has saved: into a new one or an empty one, or in "
+        "Writes the whole simulation into a file, bit for bit, but for what BRANCH has saved: into a new one or an empty one, or in "
         "place of another saved one. Any other file that is there stays. Of a session that was not loaded "
         "here its scale is said too, as in `save a a.saved edge=21.04 dt=2fs argon` or with sigma= and h=.",
         ("> save a a.saved", "  a at step 0 is in a.saved"),

@@ -13,7 +13,7 @@ GROUPS: Tuple[Group, ...] = (
             ("LOAD s FILE dt=2fs argon", "loads an XYZ file in physical units"),
             ("LOAD s FILE edge sigma h", "loads it in the numbers of the protocol"),
             ("LOADMIX s FILE edge ..", "loads atoms of two species"),
-            ("save s FILE", "writes a simulation into a file, to the bit"),
+            ("save s FILE", "writes a simulation into a file, bit for bit"),
             ("load_saved FILE [s]", "goes on from such a file"),
             ("LIST", "lists the sessions"),
             ("DROP s", "gives a session up"),

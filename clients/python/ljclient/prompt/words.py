@@ -354,7 +354,7 @@ def missing(scale: Scale, *names: str) -> List[str]:
 def in_words(apart: float, scale: Scale) -> str:
     """A distance in ring units as it is told."""
     if not apart:
-        return "each atom is at the place where it was loaded, to the bit"
+        return "each atom is at the place where it was loaded, bit for bit"
     unit = "of the unit of the file" if scale.epsilon is None else "angstrom"
     length, sigmas = apart * scale.edge / RING, apart / scale.sigma_on_ring
     return f"the atoms are {length:.6g} {unit} ({sigmas:.6g} sigma) from where they were loaded, root mean square"

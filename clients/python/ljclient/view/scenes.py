@@ -86,7 +86,7 @@ class Scene:
         return heating.displacements(self.atoms, self.temperature, self.scale, self.seed)
 
     def begin(self, user: User, name: str) -> Session:
-        """Loads the atoms in place of those that are there, so that each coordinate of DUMP is a place to the bit.
+        """Loads the atoms in place of those that are there, so that each coordinate of DUMP gives a place exactly.
 
         They are loaded twice: with the scale of the file, which rounds them to places, and then these places as they are.
         An atom alone begins at rest. ValueError for a temperature at which an atom would move by half the box in a step.

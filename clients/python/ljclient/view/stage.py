@@ -51,7 +51,7 @@ class Stage:
 
     name      of the session
     scale     what its whole numbers mean
-    is_exact  whether DUMP tells its places to the bit
+    is_exact  whether DUMP shows its places exactly
     second    the name that a second run beside it has
     is_own    whether somebody else has loaded it
     """
@@ -177,7 +177,7 @@ class Stage:
         return self.advance(0)
 
     def _motion(self, is_turned: bool = False) -> Motion:
-        """The motion to the bit, or what it is when it is turned back: then the step before is the one that comes next now."""
+        """The exact motion, or with `is_turned` the motion turned back, whose previous frame is the next one now."""
         user, name = self._user, self.name
         atoms = None if self._is_exact else user._row(name).atoms
         if is_turned:

@@ -275,7 +275,7 @@ impl<J: HistoryIdentity> Model for SeenHistory<J> {
 impl<J: HistoryIdentity> SeenHistory<J> {
     /// Compares two beginnings of histories, and changes nothing.
     ///
-    /// Promise: of any two seen prefixes of a user's history, one is a prefix of the other.
+    /// Promise: if two prefixes of a user's history are seen, one is a prefix of the other.
     pub fn compare_with(&self, other: &SeenHistory<J>)
         ensures { self.now.user ≡ other.now.user
             → IsPrefix self.now.states other.now.states ⊎ IsPrefix other.now.states self.now.states }
