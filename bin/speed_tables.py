@@ -40,7 +40,7 @@ ABOUT = {
     "keep": "The time of a command with and without `tools/keep`.",
     "client": "The processor time of calls to the Python client.",
     "start": "How long the Python client takes to start.",
-    "page": "The speed in Chromium of the web page that contains the program.",
+    "page": "The speed of the web page that contains the program, in Chromium.",
     "view": "The speed of the Python client's live view.",
 }
 

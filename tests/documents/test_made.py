@@ -75,7 +75,7 @@ def test_each_promise_has_its_row() -> None:
     found = rows(documents.promises())
     assert len(found) == len(lines) > 60
     assert [promise for crate, name, promise in found if name == "`motion_laws::steps_are_undone`"] == [
-        "for every n, every simulation is unchanged after n steps, a reversal, n steps and a reversal"
+        "for every n, the sequence n steps, reversal, n steps, reversal leaves every simulation unchanged"
     ]
 
 

@@ -74,7 +74,7 @@ impl Directory {
     /// # Errors
     /// No user has both, or all tickets of this user are granted. Nothing has changed then.
     ///
-    /// Promise: only a HELLO with a user's name and token gets a ticket: the user's next one. A denied HELLO changes nothing.
+    /// Promise: only a HELLO with a user's name and token gets a ticket: the user's next ticket. A denied HELLO changes nothing.
     pub fn hello(&mut self, name: &[u8], token: &[u8]) -> Result<Ticket, Denied>
         ensures granted { IsOk result
             ↔ IsSomeAnd (user_with self.old name.now token.now)

@@ -85,7 +85,7 @@ impl BoxBook {
     /// The box, if there are `MAX_ENTRIES` entries, 2^64 - 1 tasks have been posted, or no box is lent, so that this
     /// one comes from elsewhere. Nothing has changed then.
     ///
-    /// Promise: if the book has room and has handed out a box, the task in the given box becomes open under a new number. Otherwise
+    /// Promise: if the book has room and at least one box is handed out, the task in the given box becomes open under a new number. Otherwise
     /// the box is returned, and the book is unchanged.
     pub fn post_box(&mut self, task: TaskBox) -> Result<(), TaskBox>
         ensures room { IsOk result ↔ (HasRoom self.old.inner × (boxes_of self.old < self.old.made)) }
@@ -103,7 +103,7 @@ impl BoxBook {
 
     /// Takes the open task of the least key from `pick` on, else of the least key, in its box. It is then out.
     ///
-    /// Promise: the open task with the smallest key at or above `pick` is handed out in its box. If there is none, the one with the smallest key is. If no task is open, nothing changes.
+    /// Promise: the open task with the smallest key at or above `pick` is handed out in its box. If there is none, the one with the smallest key is handed out. If no task is open, nothing changes.
     pub fn take_box(&mut self, pick: usize) -> Option<LentTask>
         ensures some { IfSome result (λ lent. TakesBox self.old self.new lent) }
         ensures picked { IfSome result (λ lent. IsPick (IsOpenAt self.old.inner) pick lent.key) }
@@ -160,7 +160,7 @@ impl BoxBook {
 
     /// Fetches the user's result of the least key from `pick` on, else of the least key, in its box, and removes its entry.
     ///
-    /// Promise: the user's result with the smallest key at or above `pick` leaves the book in its box. If there is none, the one with the smallest key does. If the user has no result, nothing changes.
+    /// Promise: the user's result with the smallest key at or above `pick` leaves the book, still in its box. If there is none, the one with the smallest key leaves. If the user has no result, nothing changes.
     pub fn fetch_box(&mut self, user: u8, pick: usize) -> Option<DoneBox>
         ensures some { IfSome result (λ done. (key : ℕ) × FetchesBox self.old self.new done key
             × IsPick (IsDoneAt user self.old.inner) pick key) }
@@ -172,7 +172,7 @@ impl BoxBook {
 
     /// Removes every entry of the user, also those of tasks that are out. The boxes in them are spare then.
     ///
-    /// Promise: exactly the user's entries leave the book, even if a worker has an entry's task. No box is lost.
+    /// Promise: exactly the user's entries leave the book, including those whose task a worker has. No box is lost.
     pub fn withdraw(&mut self, user: u8)
         ensures { WithdrawsBox user self.old self.new }
     {

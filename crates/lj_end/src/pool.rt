@@ -23,7 +23,7 @@ pub const MAX_POSTS: usize = 16;
 /// Number of consecutive stray results that end the work for a user.
 pub const MAX_STRAYS: u64 = 4096;
 
-/// Maximum number of unfinished tasks while a connection waits for its next command. 63 waiting connections then leave room for the
+/// Maximum number of unfinished tasks of a connection that waits for its next command. 63 waiting connections then leave room for the
 /// last one among the 1,024 entries of a book.
 pub const MAX_AHEAD: usize = 15;
 
@@ -52,7 +52,7 @@ pub enum Refused {
 ///
 /// Tasks and results are large, so they are passed by reference.
 ///
-/// Promise: a posted task is owed until its result is handed out. The pool hands out the same result until it is counted as owed or as a stray.
+/// Promise: a posted task is owed until its result is handed out. Until a result is counted as owed or as a stray, the pool hands out this result again.
 pub trait PoolEnd {
     /// The token of the pool's close. Only a closed pool makes one.
     type Closed: Drop;

@@ -19,7 +19,7 @@ pub const MAX_IN_HAND: usize = 16;
 /// Maximum number of boxes ready at one end of a pool: results not handed out yet, and spare boxes.
 pub const MAX_SPARE: usize = MAX_IN_HAND + 1;
 
-/// Maximum number of boxes at one end of a pool: ready boxes, and the last result handed out.
+/// Maximum number of boxes at one end of a pool: ready boxes plus the last result handed out.
 pub const MAX_END_BOXES: usize = MAX_SPARE + 1;
 
 /// Copies of tasks that are to be posted, in their boxes. The place of a box that was posted is empty.

@@ -18,7 +18,7 @@ pub struct Settled {
 impl<L: PoolIdentity> QueuePool<L> {
     /// Takes all passes of the pool back, and counts what they pushed and popped and what is left in the queue.
     ///
-    /// Promise: over all passes, each task's pushes equal its pops plus its copies still in the queue.
+    /// Promise: over all passes, each task is pushed as often as popped, plus once per copy still in the queue.
     pub fn settle<R: Wait>(self, rt: &R, passes: Vec<PoolPass<L>>) -> Settled
         requires all { vec_len passes ≡ L.passes }
         ensures pushed { result.pushed ≡ pushes_of passes.items }

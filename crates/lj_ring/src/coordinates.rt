@@ -20,7 +20,7 @@ pub struct Place {
 /// assert_eq!(image(4, 4_294_967_290), 10);
 /// ```
 ///
-/// Promise: the result is the difference of the two coordinates, the shorter way around the ring.
+/// Promise: the result is the difference of the two coordinates, taken the shorter way around the ring.
 #[inline]
 pub fn image(to: u32, from: u32) -> i32
     ensures value { result ≡ ring.image to from }

@@ -275,7 +275,7 @@ impl Mix {
     /// assert_eq!(mix.reach(), 83_886_080 * 83_886_080); // 2.5 times the greatest sigma
     /// ```
     ///
-    /// Promise: at a squared distance below the result, at least one class of pairs interacts; at others, none.
+    /// Promise: at least one class of pairs interacts if and only if the squared distance is below the result.
     #[inline]
     pub fn reach(&self) -> u64
         ensures value { (s : ℕ) → can_interact self.now s ≡ nat_lt s result }

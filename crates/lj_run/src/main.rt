@@ -1,4 +1,4 @@
-//! Answers one user's commands from standard input, under the usual quota, on machines with only standard input and output.
+//! Answers one user's commands from standard input, under the usual quota. It is for machines with only standard input and output.
 #![tactic(auto)]
 
 ghost use Rattle.std.specs.Prelude.{◌≡◌, IfErr, OnOk};

@@ -12,7 +12,7 @@ ghost use Rattle.lj_step.specs.OpenSteps.{cover_tiles, tile_task, tile_of};
 ghost use Rattle.lj_step.specs.TileTasks.{HasEnergy, HasForces};
 ghost use Rattle.lj_step.specs.MotionLaws.{IsFrameOnRing, IsWellFormed, IsMixture, drift, opposite_push, next_simulation_by, tiles_energy};
 
-/// Promise: for every n, every simulation is unchanged after n steps, a reversal, n steps and a reversal.
+/// Promise: for every n, the sequence n steps, reversal, n steps, reversal leaves every simulation unchanged.
 pub fn steps_are_undone()
     ensures { (u : Composition) (n : ℕ) (sim : Simulation) → IsWellFormed sim
         → reversal (steps u n (reversal (steps u n sim))) ≡ sim }
@@ -33,7 +33,7 @@ pub fn covers_are_all_pairs()
         → tiles_energy u frame tiles ≡ potential u frame }
 {}
 
-/// Promise: with at most `MAX_ATOMS` atoms, all on the ring, the tiles of a force or energy step are a cover.
+/// Promise: if there are at most `MAX_ATOMS` atoms, all on the ring, the tiles of a force or energy step are a cover.
 pub fn tasks_are_a_cover()
     ensures force { (u : Composition) (frame : List Place) → IsFrameOnRing frame → length frame ≤ MAX_ATOMS
         → IsForceCover u frame (cover_tiles Force u frame) }

@@ -3,7 +3,7 @@ ghost use Rattle.lj_visit.specs.VisitLaws.{AttendedIsAnswered, VisitsAreOneFold,
 
 use lj_wire::commands_are_items;
 
-/// Promise: after OK HELLO a user gets the replies to all items read, given the lent state. If a write fails, these replies end within the reply to the last answered item.
+/// Promise: after OK HELLO a user gets the replies to all items read, computed from the lent state. If a write fails, the written bytes end within the reply to the last answered item.
 pub fn attended_is_answered()
     ensures { AttendedIsAnswered }
 {}
@@ -13,7 +13,7 @@ pub fn visits_are_one_fold()
     ensures { VisitsAreOneFold }
 {}
 
-/// Promise: serving starts from a state that some list of items leads to. Serving replies to the answered items as if they came after this list, with the same quota and no other users. If a write fails, the last reply is cut
+/// Promise: serving starts from a state that some list of items leads to. The answered items get the replies that they would get after this list, with the same quota and no other users. If a write fails, the last reply is cut
 /// short.
 pub fn reached_is_answered_behind()
     ensures { ReachedIsAnsweredBehind }
@@ -22,7 +22,7 @@ pub fn reached_is_answered_behind()
 }
 
 /// Promise: together, a user's visits write a prefix of the replies that the user's items would get without other users.
-/// This holds if before the last visit no write fails and the pool is not given up.
+/// This holds if, before the last visit, no write fails and the pool is not given up.
 pub fn visits_are_one_prefix()
     ensures { VisitsAreOnePrefix }
 {}

@@ -38,7 +38,7 @@ pub enum Visited {
 /// Serves a connection: reads its first line, lets in the user named there, answers the lines that follow, and takes the user's
 /// state home.
 ///
-/// Promise: for each way a visit can end, the contract states what was read, what was written and the backend's events in order.
+/// Promise: for each way a visit can end, the contract states what was read, what was written, and the backend's events in order.
 pub fn visit<B: Backend, S: Source, W: Sink>(
     backend: &mut B,
     lines: &mut LineReader<S>,

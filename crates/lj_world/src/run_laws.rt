@@ -33,7 +33,7 @@ pub fn agreeing_scripts_agree_in_texts()
     ensures { AgreeingScriptsAgreeInTexts }
 {}
 
-/// Promise: if a user's scripts agree in two lists of events, one of the user's lists of replies is a prefix of the other. Both lists are prefixes of the replies that this user's commands get if there are no other users.
+/// Promise: if a user's scripts in two lists of events agree, one of the user's two lists of replies is a prefix of the other. Both lists are prefixes of the replies that this user's commands get if there are no other users.
 pub fn headline()
     ensures { Headline }
 {

@@ -7,7 +7,7 @@ ghost use Rattle.lj_fixed.specs.Millionths.{last_digits, millionths};
 use arrayvec::ArrayVec;
 use lj_fixed::{MAX_MICRO_BYTES, micro_text};
 
-/// Maximum number of bytes in a coordinate, with the blank before it.
+/// Maximum number of bytes in a coordinate, including the blank before it.
 pub const MAX_COORDINATE_BYTES: usize = 1 + MAX_MICRO_BYTES;
 
 const MILLION: u64 = 1_000_000;

@@ -3,5 +3,5 @@
 /// Maximum number of worker threads of a server.
 pub const MAX_WORKERS: u64 = lj_world::MAX_WORKERS as u64;
 
-/// Maximum number of connections that a server accepts before it ends.
+/// Maximum number of connections accepted before a server ends.
 pub const MAX_ACCEPTED: u64 = 1_000_000;

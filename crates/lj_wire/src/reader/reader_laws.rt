@@ -6,7 +6,7 @@ pub fn handed_come_first()
     ensures { HandedComeFirst }
 {}
 
-/// Promise: at the end of the input a reader has handed out all items of the stream.
+/// Promise: a reader at the end of the input has handed out all items of the stream.
 pub fn handed_are_all()
     ensures { HandedAreAll }
 {}
