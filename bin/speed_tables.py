@@ -29,7 +29,7 @@ ABOUT = {
     "(`-march=native`, one thread).",
     "lammps": "The processor time of a step of 4,000 atoms in one thread, for `ljserve` and for Debian's LAMMPS of 29 Sep 2021.",
     "cores": "The wall-clock time of a step of 4,096 atoms, in LAMMPS and in a server's session with atoms sorted in space.",
-    "order": "The processor time of a step of 4,096 atoms, with and without sorting the atoms in space.",
+    "order": "The processor time of a step of 4,096 atoms, with and without sorting the atoms by position.",
     "lines": "SHOW commands per second from standard input, answered by `ljserve` and by its twin in plain C, `bench/lines.c`.",
     "instructions": "The number of instructions of a command, counted by callgrind.",
     "reader": "How fast `ljserve` reads atoms.",
@@ -40,7 +40,7 @@ ABOUT = {
     "keep": "The time of a command with and without `tools/keep`.",
     "client": "The processor time of calls to the Python client.",
     "start": "How long the Python client takes to start.",
-    "page": "The speed of the web page that contains the program, in Chromium.",
+    "page": "How fast the web page runs in Chromium; it contains the program.",
     "view": "The speed of the Python client's live view.",
 }
 
@@ -104,8 +104,8 @@ LIQUIDS = {
     "droplet": "droplet of 4,096 atoms in random order, box edge 1,000 sigma",
     "larger_droplet": "droplet of 4,096 atoms in random order, box edge 60,000 sigma",
     "equal": "4,096 atoms in random order, of two species with equal interactions",
-    "different": "4,096 atoms in random order, argon and krypton",
-    "different_sorted": "4,096 atoms sorted in space, argon and krypton",
+    "different": "4,096 atoms of argon and krypton, in random order",
+    "different_sorted": "4,096 atoms of argon and krypton, sorted in space",
 }
 
 

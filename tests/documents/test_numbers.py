@@ -26,7 +26,7 @@ def test_the_pair_that_is_worked_out() -> None:
         assert int(entry) * Fraction(factor) / 2 ** int(power) == int(entry) * H * distance * SIGMA / 2**56
         assert int(int(entry) * Fraction(factor) / 2 ** int(power)) == int(push)
         assert round(-force(distance**2) * H * distance * SIGMA / 2**32) == 593
-    assert "the push would be 593 both times" in README
+    assert "both pushes would be 593" in README
 
 
 def test_the_energies_are_those_of_accuracy() -> None:

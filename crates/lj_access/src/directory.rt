@@ -126,8 +126,7 @@ impl Directory {
     /// # Errors
     /// The ticket has not entered, or has already left. Both are handed back, and nothing has changed.
     ///
-    /// Promise: a state is taken back if and only if the ticket that got it returns it. Any other ticket is returned with its
-    /// state, and nothing changes.
+    /// Promise: a state is taken back if and only if the ticket that got it returns it. The caller gets any other ticket back with its state, and nothing changes.
     pub fn leave(&mut self, ticket: Ticket, state: UserState) -> Result<(), NotEntered>
         ensures entered { IsOk result
             ↔ IsSomeAnd (slice_get self.old ticket.user) (HasEntered ticket.number) }

@@ -1,4 +1,4 @@
-//! Names, labels and tokens, the words of a line, and the error of a refused allocation.
+//! Names, labels, tokens, the words of a line, and the error of a refused allocation.
 #![tactic(auto)]
 
 mod names;

@@ -9,7 +9,7 @@ use crate::task_box::{DoneBox, TaskBox};
 use slab::Slab;
 use std::mem;
 
-/// Maximum number of entries of a book: posted tasks that were neither fetched nor withdrawn.
+/// Maximum number of entries of a book (posted tasks that were neither fetched nor withdrawn).
 pub const MAX_ENTRIES: usize = 1024;
 
 /// An entry: open, out with what is stored meanwhile, or done with its result.

@@ -103,7 +103,7 @@ impl BoxBook {
 
     /// Takes the open task of the least key from `pick` on, else of the least key, in its box. It is then out.
     ///
-    /// Promise: the open task with the smallest key at or above `pick` is handed out in its box. If there is none, the one with the smallest key is handed out. If no task is open, nothing changes.
+    /// Promise: the open task with the smallest key at or above `pick` is handed out in its box. If there is no such task, the open task with the smallest key is handed out. If no task is open, nothing changes.
     pub fn take_box(&mut self, pick: usize) -> Option<LentTask>
         ensures some { IfSome result (λ lent. TakesBox self.old self.new lent) }
         ensures picked { IfSome result (λ lent. IsPick (IsOpenAt self.old.inner) pick lent.key) }
@@ -125,7 +125,7 @@ impl BoxBook {
     /// # Errors
     /// The box, if no task is out under that key with that number. Nothing has changed then.
     ///
-    /// Promise: a result is accepted if and only if its task is handed out under its key and number. Otherwise the box is returned,
+    /// Promise: a result is accepted if and only if its task is handed out under the result's key and number. Otherwise the box is returned,
     /// and nothing changes.
     pub fn give_box(&mut self, lent: LentDone) -> Result<(), DoneBox>
         ensures given { IsOk result ↔ IsOut self.old lent }
@@ -160,7 +160,7 @@ impl BoxBook {
 
     /// Fetches the user's result of the least key from `pick` on, else of the least key, in its box, and removes its entry.
     ///
-    /// Promise: the user's result with the smallest key at or above `pick` leaves the book, still in its box. If there is none, the one with the smallest key leaves. If the user has no result, nothing changes.
+    /// Promise: the user's result with the smallest key at or above `pick` leaves the book, still in its box. If there is no such result, the user's result with the smallest key leaves. If the user has no result, nothing changes.
     pub fn fetch_box(&mut self, user: u8, pick: usize) -> Option<DoneBox>
         ensures some { IfSome result (λ done. (key : ℕ) × FetchesBox self.old self.new done key
             × IsPick (IsDoneAt user self.old.inner) pick key) }

@@ -129,7 +129,7 @@ impl Lent<TaskBox> {
 
     /// Computes the task, in its box.
     ///
-    /// Promise: the given task's result is returned, with the task's key and number.
+    /// Promise: the task's result is returned under the key and number of the task.
     pub fn compute<K: Kernel>(self, kernel: &K) -> LentDone
         ensures { result ≡ self }
     {

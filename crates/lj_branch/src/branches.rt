@@ -46,7 +46,7 @@ impl Branches {
     /// # Errors
     /// `Exists` if the name is taken, else `Memory` if there is none for the copy. Nothing is saved then.
     ///
-    /// Promise: a saved simulation is added at the end of the list, unchanged and under its name. A save that is refused
+    /// Promise: a saved simulation is added unchanged and under its name, at the end of the list. A save that is refused
     /// changes nothing.
     pub fn save(&mut self, name: Name, sim: &Sim) -> Result<(), SaveFault>
         ensures exists { IsErrOf result Exists ↔ IsSome (value_named name self.old) }

@@ -15,7 +15,7 @@ use std::marker::Model;
 /// What an end has of its pool: how tasks go there and results come. Each kind of pool has its own link, which says by its ghost
 /// members what each call has changed. `C` is the token of the pool's close.
 ///
-/// Promise: a link shows the same result until the next result is taken.
+/// Promise: only taking a result changes the result that a link shows.
 pub trait PoolLink<C>: Drop {
     // the task of the result that is shown
     ghost shown: { Self → Task };

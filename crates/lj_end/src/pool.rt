@@ -52,7 +52,7 @@ pub enum Refused {
 ///
 /// Tasks and results are large, so they are passed by reference.
 ///
-/// Promise: a posted task is owed until its result is handed out. Until a result is counted as owed or as a stray, the pool hands out this result again.
+/// Promise: a posted task is owed until its result is handed out. Until a fetched result is counted as owed or as a stray, the pool hands out only this result.
 pub trait PoolEnd {
     /// The token of the pool's close. Only a closed pool makes one.
     type Closed: Drop;

@@ -1,4 +1,4 @@
-//! A pool of workers behind one lock. Each worker runs in its own thread.
+//! A worker pool behind one lock. Each worker runs in its own thread.
 #![tactic(auto)]
 
 mod end_boxes;

@@ -1,4 +1,4 @@
-//! Exports the pools and the engine under one name.
+//! Exports the pools and the engine under one crate name.
 #![tactic(auto)]
 
 pub use lj_end::{

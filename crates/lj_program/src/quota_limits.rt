@@ -6,5 +6,5 @@ pub const MAX_QUOTA_SESSIONS: u64 = 64;
 /// Maximum number of atoms in a quota, over all sessions.
 pub const MAX_QUOTA_ATOMS: u64 = 65_536;
 
-/// Maximum number of saved simulations in a quota, over all sessions.
+/// Maximum number of saved simulations in a quota, all sessions together.
 pub const MAX_QUOTA_BRANCHES: u64 = 256;

@@ -30,7 +30,7 @@ impl Arcs {
     /// assert_eq!(Arcs::of(&places).x, Arc { start: 4_294_967_290, len: 11 });
     /// ```
     ///
-    /// Promise: the arc along each axis contains every place.
+    /// Promise: the arc along each axis contains every given place.
     pub fn of(places: &[Place]) -> Arcs
         requires { 1 ≤ length places.now }
         ensures value { result ≡ arcs.arcs_of places.now }

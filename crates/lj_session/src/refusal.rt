@@ -14,7 +14,7 @@ pub enum Refusal {
     Line,
     /// A line has no word, the wrong number of words or a word of the wrong form; or LOADMIX has the same symbol twice.
     Syntax,
-    /// A line of LOAD or LOADMIX does not end with a count.
+    /// A LOAD or LOADMIX line lacks a count at its end.
     Body,
     /// 65,536 bytes came without a line feed.
     Long,

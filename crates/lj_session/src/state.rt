@@ -34,7 +34,7 @@ use std::mem;
 
 /// A user's quota, how much of it is used, and the sessions by their names, in order of loading, with their pending steps.
 ///
-/// Promise: some list of commands leads a user without sessions to this state after all its pending steps.
+/// Promise: this state, after all its pending steps, is reached from a user without sessions by some list of commands.
 #[derive(Drop)]
 pub struct UserState {
     quota: Quota,

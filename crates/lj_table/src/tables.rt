@@ -102,7 +102,7 @@ impl Table {
     /// assert_eq!(Table::new().energy(25_165_824 * 25_165_824, &scale, Weight::WHOLE), -5_349_132);
     /// ```
     ///
-    /// Promise: the result is the weight times the entry of the pair's bin, rounded toward zero, or 0 beyond the cutoff.
+    /// Promise: the result is the weight times the entry of the pair's bin (product rounded toward zero), or 0 beyond the cutoff.
     #[inline]
     pub fn energy(&self, s: u64, scale: &Scale, weight: Weight) -> i64
         ensures value { result ≡ weighted_energy weight (energy_at scale.now s) }

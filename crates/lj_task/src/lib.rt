@@ -1,4 +1,4 @@
-//! The tasks that make up a step: their blocks, names and results, and the definition of their sums.
+//! The tasks that make up a step: their blocks, names and results, and the definition of a task's sums.
 #![tactic(auto)]
 
 mod blocks;

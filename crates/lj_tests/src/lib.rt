@@ -1,4 +1,4 @@
-//! Tests of public library items that the dialogues in `tests/` do not cover. The tests have their own crate, since a
+//! Tests of those public library items that the dialogues in `tests/` do not cover. The tests have their own crate, since a
 //! crate with tests is proved twice.
 #![tactic(auto)]
 

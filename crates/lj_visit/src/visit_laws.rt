@@ -3,7 +3,7 @@ ghost use Rattle.lj_visit.specs.VisitLaws.{AttendedIsAnswered, VisitsAreOneFold,
 
 use lj_wire::commands_are_items;
 
-/// Promise: after OK HELLO a user gets the replies to all items read, computed from the lent state. If a write fails, the written bytes end within the reply to the last answered item.
+/// Promise: after OK HELLO a user gets the replies to all items read. These replies are computed from the lent state. If a write fails, the written bytes end within the reply to the last answered item.
 pub fn attended_is_answered()
     ensures { AttendedIsAnswered }
 {}

@@ -9,5 +9,5 @@ pub const LONG_LINE_BYTES: usize = 65_536;
 /// Maximum number of bytes in the body of a load.
 pub const MAX_BODY_BYTES: u64 = 1_048_576;
 
-/// Maximum number of items that are answered on a connection. After them comes the last fault.
+/// Maximum number of items that are answered during a connection. After them comes the last fault.
 pub const MAX_ITEMS: u64 = 1_000_000;

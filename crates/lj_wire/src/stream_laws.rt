@@ -51,7 +51,7 @@ pub fn commands_are_items()
     ensures { CommandsAreItems }
 {}
 
-/// Promise: some list of items with marks leads a user without sessions to this state after all its pending steps.
+/// Promise: this state, after all its pending steps, is reached from a user without sessions by some list of items with marks.
 pub fn state_is_reached_alone(state: &UserState)
     ensures { IsReachedAlone (user_of state.now) }
 {

@@ -41,7 +41,7 @@ pub fn headline()
     agreeing_scripts_agree_in_texts();
 }
 
-/// Promise: at each point of a run, the user's script so far gives the user's state after all pending steps. A pending command
+/// Promise: at each point of a run, the user's script so far gives the state that the user has after all pending steps. A pending command
 /// is the next item of the script.
 pub fn value_is_that_of_script()
     ensures { ValueIsThatOfScript }

@@ -12,7 +12,7 @@ use thiserror::Error;
 /// The kind of a fault of a body.
 #[derive(Clone, Copy, Debug, PartialEq, Eq, Error)]
 pub enum XyzKind {
-    /// The first frame does not begin with a number of atoms from 1 to 4096.
+    /// The first frame does not begin with an atom count from 1 to 4096.
     Count,
     /// The comment line or an atom line is missing, or an atom line has fewer than four words.
     Short,
@@ -24,7 +24,7 @@ pub enum XyzKind {
     Number,
     /// A coordinate is below -1000000 or above 1000000.
     Range,
-    /// The second frame is missing, or has another number of atoms.
+    /// The second frame is missing, or has a different number of atoms.
     Pair,
 }
 

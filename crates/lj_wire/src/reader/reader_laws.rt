@@ -1,7 +1,7 @@
 //! Laws of what a reader hands out: the contracts of functions with empty bodies.
 ghost use Rattle.lj_wire.specs.LineReader.{HandedComeFirst, HandedAreAll, LostIsMarked};
 
-/// Promise: a reader hands out the first items of the stream, in order. A load is marked if there was no memory for its body.
+/// Promise: a reader hands out a prefix of the stream's items, in order. A load is marked if there was no memory for its body.
 pub fn handed_come_first()
     ensures { HandedComeFirst }
 {}
