@@ -1,5 +1,5 @@
 #!/usr/bin/env python3
-"""Melts a crystal, turns the motion back, and goes back to the crystal, bit for bit.
+"""Melts a crystal, reverses the motion, and goes back to the crystal, bit for bit.
 
 Prints the distance of the atoms from where they began, or draws it over the steps with --plot. The status is 1 where an
 atom is not back at its place.

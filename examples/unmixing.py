@@ -1,5 +1,5 @@
 #!/usr/bin/env python3
-"""Lets a mixture of two species separate, turns the motion back, and mixes it again, bit for bit.
+"""Lets a mixture of two species separate, reverses the motion, and mixes it again, bit for bit.
 
 Two atoms of one species attract and repel each other as two of the other do, unlike ones a quarter as much. They start at
 rest on a lattice, each species at random sites. Prints which share of the neighbours within 1.5 sigma is unlike, or draws

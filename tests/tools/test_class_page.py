@@ -302,7 +302,7 @@ def test_a_server_that_is_killed_in_the_middle_of_looks(lesson: PagedLesson) -> 
 
 
 def test_a_class_that_is_killed_in_the_middle_of_looks_keeps_none_half(lesson: PagedLesson) -> None:
-    """A look turns the motion back and again: both are kept, or none."""
+    """A look reverses the motion twice: both are kept, or none."""
     with lesson.student("ann") as user:
         dimer(user).advance(3)
         before, measured = places(user), user.ask("MEASURE a").words

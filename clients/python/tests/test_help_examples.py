@@ -109,7 +109,7 @@ def moving(user: Any) -> Any:
 def test_what_the_help_says_of_reverse(n: Any) -> None:
     told = " ".join(" ".join(helping.help_on("REVERSE")).split())
     assert "n steps, REVERSE and n - 1 steps lead to the places of the start" in told
-    assert "n steps, REVERSE, n steps and REVERSE give back the start exactly." in told
+    assert "n steps, REVERSE, n steps and REVERSE restore the start exactly." in told
     with run(PROGRAM) as user:
         session = moving(user)
         start = user._state_of("a")
@@ -125,14 +125,14 @@ def test_what_the_help_says_of_reverse(n: Any) -> None:
 
 def test_of_two_faults_in_a_text_the_first_is_answered() -> None:
     for name in ("LOAD", "LOADMIX"):
-        assert "the first in the text is answered" in " ".join(" ".join(helping.help_on(name)).split())
+        assert "the reply is the first in the text" in " ".join(" ".join(helping.help_on(name)).split())
     with run(PROGRAM) as user, pytest.raises(refusals.XyzNumber) as refused:
         user.load("a", "2\nfaults\nAr 0 x 0\nAr 1\n", edge=256, sigma=1, h=131072)
     assert refused.value.line == 3
 
 
 def test_classes_are_tested_in_turn() -> None:
-    assert "37, 38 and 40 are tested of each class in turn" in " ".join(helping.help_on("LOADMIX"))
+    assert "37, 38 and 40 are tested for each class in turn" in " ".join(helping.help_on("LOADMIX"))
     classes = [(1, 131072, 0), (200, 131072, 256), (1, 131072, 256)]
     with run(PROGRAM) as user, pytest.raises(refusals.Weight):
         user.load_mix("m", DIMER, edge=256, species=("Ar", "Kr"), classes=classes)

@@ -11,7 +11,7 @@ from ljclient import ConnectionLost, NotRecorded, record_target, refusals, run, 
 from record_texts import commands, is_the_same, replied, without_checks
 from support import PROGRAM, TOKEN, dimer, joined, listed, process_of
 
-# A look that turns the motion back and again, under a branch, and leaves the session as it was.
+# A look that reverses the motion twice, under a branch, and leaves the session as it was.
 LOOK = ["BRANCH a guard", "SHOW a 0", "REVERSE a", "SHOW a 0", "RESTORE a guard", "FORGET a guard"]
 
 

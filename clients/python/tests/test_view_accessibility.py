@@ -70,7 +70,7 @@ def test_the_box_has_a_name_and_a_text(page: Any) -> None:
 
 def test_the_focus_goes_through_all_in_order_and_is_seen(page: Any) -> None:
     way = way_of_focus(page)
-    names = [name if name != "Begin anew" else "begin-anew" for name, _ in way]
+    names = [name if name != "Restart" else "begin-anew" for name, _ in way]
     assert names == [*FIRST, *CHARTS, *SLIDERS, *NUMBERS, *LAST]
     for name, (style, width, colour, below) in way:
         assert style == "solid" and width >= 2 and contrast(colour, below) >= 3, name

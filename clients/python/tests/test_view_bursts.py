@@ -12,7 +12,7 @@ from viewing import View
 pytestmark = pytest.mark.skipif(not CHROMIUM, reason="Chromium is not installed")
 
 PICTURES = os.environ.get("LJVIEW_PICTURES")  # a folder to put what the page looks like into, where somebody wants to look
-BURST = "The simulation has burst: the energy of an atom is more than 10 ε off its start, tugs aside."
+BURST = "The simulation has burst: the energy of an atom is more than 10 ε off its start, not counting tugs."
 FRAME_IS_DRAWN = "new Promise(done => requestAnimationFrame(() => requestAnimationFrame(done))).then(() => true)"
 # A chart of its own, which tells what it writes and where: text, first and last pixel, and whether it is of a step.
 WRITTEN = """import('./charts.js').then(script => {
@@ -77,7 +77,7 @@ def test_a_burst_is_said_with_what_helps_for_as_long_as_it_is_true(opened: Any) 
     page.click("play")
     told = warning_is(page, BURST)
     page.click("play")
-    assert told == f"{BURST} Begin anew with a smaller step than 0.03412 τ."
+    assert told == f"{BURST} Restart with a smaller step than 0.03412 τ."
     page.click("exact")
     page.wait_for("document.getElementById('message').textContent.startsWith('0 of 256')")
     assert page.text("warning") == told
@@ -99,7 +99,7 @@ def test_a_burst_is_said_with_what_helps_for_as_long_as_it_is_true(opened: Any) 
 def test_femtoseconds_are_named_where_they_were_said(opened: Any) -> None:
     page = opened(CLOSE, "--sigma", 1, "--dt", 30)
     page.click("play")
-    assert warning_is(page, BURST) == f"{BURST} Begin anew with a smaller step than 30 fs."
+    assert warning_is(page, BURST) == f"{BURST} Restart with a smaller step than 30 fs."
 
 
 def test_a_tug_is_no_burst(opened: Any) -> None:

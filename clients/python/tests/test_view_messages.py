@@ -307,7 +307,7 @@ def test_an_end_is_said_for_good(shown: Any) -> None:
     shown.says("Saved at step 0.")
     shown.view.end()
     message = shown.says("The live view")
-    assert message == "The live view has ended. Begin it again, and open its new link."
+    assert message == "The live view has ended. Start it again, and open its new link."
     slab = "document.getElementById('depth')"
     shown.browser.value(f"{slab}.value = 0.2; {slab}.dispatchEvent(new Event('input'))")
     shown.browser.value("new Promise(done => requestAnimationFrame(() => requestAnimationFrame(done))).then(() => true)")

@@ -126,7 +126,7 @@ def test_it_is_what_the_same_commands_lead_to(page: Any, view: Any) -> None:
 
 def test_other_atoms_of_the_name_are_noticed(page: Any, view: Any) -> None:
     told = opened(page, view.link + fragment(check="01234567"))
-    assert told == "This is step 3, but the atoms are not those of the link: it was made with others of this name."
+    assert told == "This is step 3, but not of the link's atoms: the link was made with other atoms of this name."
     assert page.value("document.getElementById('message').classList.contains('bad')")
 
 

@@ -49,7 +49,7 @@ COMMANDS = (
         "Loads the atoms of an XYZ text into a new session, at step 0.",
         ("> LOAD a 256 1 131072 rest 28", "> 2", "> dimer", "> Ar 0 0 0", "> Ar 1.5 0 0", "OK LOAD a 0 2"),
         with_file="LOAD s FILE edge sigma h [rest|pair]",
-        order="Of 30 to 35 the first in the text is answered. 90 may come in place of these and of 21.",
+        order="If several of 30 to 35 apply, the reply is the first in the text. 90 may replace these and 21.",
     ),
     Command(
         "LOADMIX s edge P Q s1 h1 e1 s2 h2 e2 s3 h3 e3 rest count",
@@ -61,30 +61,30 @@ COMMANDS = (
             *("> 2", "> mix", "> Na 0 0 0", "> Cl 1.5 0 0", "OK LOADMIX m 0 2"),
         ),
         with_file="LOADMIX s FILE edge P Q s1 h1 e1 s2 h2 e2 s3 h3 e3 [rest|pair]",
-        order="37, 38 and 40 are tested of each class in turn. Of 30 to 35 and 39 the first in the text is answered. "
-        "90 may come in place of these and of 21.",
+        order="37, 38 and 40 are tested for each class in turn. If several of 30 to 35 and 39 apply, the reply is the first in the "
+        "text. 90 may replace these and 21.",
     ),
     Command(
         "ADVANCE s n",
         "OK ADVANCE s step",
         (10, 23),
-        "Goes on by n steps, and waits until they are made.",
+        "Advances by n steps, and waits until they are done.",
         ("> ADVANCE a 2", "OK ADVANCE a 2"),
     ),
     Command(
         "START s n",
         "OK START s step",
         (10, 23),
-        "Begins to go on by n steps more. The reply comes at once, with the step that the session is going to. "
-        "`ADVANCE s 0` waits until it is there.",
+        "Starts n more steps. The reply comes immediately, with the target: the step number after all pending steps. `ADVANCE "
+        "s 0` waits until they are done.",
         ("> START a 2", "OK START a 2", "> ADVANCE a 0", "OK ADVANCE a 2"),
     ),
     Command(
         "REVERSE s",
         "OK REVERSE s step",
         (10,),
-        "Turns the motion back: n steps, REVERSE and n - 1 steps lead to the places of the start, and "
-        "n steps, REVERSE, n steps and REVERSE give back the start exactly.",
+        "Reverses the motion: n steps, REVERSE and n - 1 steps lead to the places of the start, and n steps, REVERSE, n steps "
+        "and REVERSE restore the start exactly.",
         ("> ADVANCE a 2", "OK ADVANCE a 2", "> REVERSE a", "OK REVERSE a 1", "> ADVANCE a 1", "OK ADVANCE a 0"),
     ),
     Command(
@@ -98,22 +98,22 @@ COMMANDS = (
         "RESTORE s b",
         "OK RESTORE s b step",
         (10, 12),
-        "Goes back to what was saved as b, which stays saved.",
+        "Returns to the simulation saved as b, which stays saved.",
         ("> BRANCH a k", "OK BRANCH a k 0", "> ADVANCE a 2", "OK ADVANCE a 2", "> RESTORE a k", "OK RESTORE a k 0"),
     ),
     Command(
         "FORGET s b",
         "OK FORGET s b",
         (10, 12),
-        "Gives up what was saved as b.",
+        "Deletes the simulation saved as b.",
         ("> BRANCH a k", "OK BRANCH a k 0", "> FORGET a k", "OK FORGET a k"),
     ),
     Command(
         "TUG s i dx dy dz",
         "OK TUG s i step",
         (10, 14),
-        "Gives an atom a displacement of so much more for each step. Two runs of a liquid that are nearer than 1/256 sigma, the "
-        "width of a bin, part two to three times as fast as its own chaos has them: fit a Lyapunov exponent from there on.",
+        "Adds to the displacement of an atom per step. If two runs of a liquid differ by less than 1/256 sigma, the width of "
+        "a bin, they separate two to three times as fast as its Lyapunov exponent predicts: fit the exponent from there on.",
         ("> TUG a 0 5 0 0", "OK TUG a 0 0"),
     ),
     Command(
@@ -136,24 +136,24 @@ COMMANDS = (
         "DUMP s",
         "OK DUMP s step lines",
         (10,),
-        "Writes out the frame as lines of XYZ text.",
+        "Shows the frame as lines of XYZ text.",
         ("> DUMP a", "OK DUMP a 0 4", "2", "step 0", "Ar 0.000000 0.000000 0.000000", "Ar 1.500000 0.000000 0.000000"),
     ),
     Command(
         "LIST",
         "OK LIST k",
         (),
-        "Lists the sessions, one a line: name, the step that it is going to, atoms, and how much is saved in it.",
+        "Lists the sessions, one per line: name, target (the step after all pending steps), number of atoms, and number of branches.",
         ("> LIST", "OK LIST 1", "a 0 2 0"),
     ),
     Command(
         "LIST s",
         "OK LIST s k",
         (10,),
-        "Lists what is saved in a session, one a line: name and step.",
+        "Lists the branches of a session, one per line: name and step.",
         ("> BRANCH a k", "OK BRANCH a k 0", "> LIST a", "OK LIST a 1", "k 0"),
     ),
-    Command("DROP s", "OK DROP s", (10,), "Gives up the session with all that is saved in it.", ("> DROP a", "OK DROP a")),
+    Command("DROP s", "OK DROP s", (10,), "Deletes the session and its branches.", ("> DROP a", "OK DROP a")),
     Command("BYE", "OK BYE", (), "Ends the connection, and the prompt.", ("> BYE", "OK BYE")),
 )
 
@@ -170,14 +170,14 @@ class Own(Usage):
 PHYSICS: Tuple[Own, ...] = (
     Own(
         "heat s T [SEED]",
-        "Gives the atoms velocities of a temperature, such as 60K, or 0.5 in epsilon / k_B. They are drawn at random, and the same "
-        "SEED (default: 0) gives the same ones.",
+        "Sets the temperature, such as 60K, or 0.5 in epsilon / k_B. The velocities are random; the same SEED (default: 0) "
+        "gives the same velocities.",
     ),
-    Own("thermo s", "Measures the temperature and the energies at this step. The step that this takes is undone."),
-    Own("distance s", "Tells how far the atoms are from where they were loaded, round the box the nearer way: root mean square."),
+    Own("thermo s", "Measures the temperature and the energies at this step. This makes one step and undoes it."),
+    Own("distance s", "Shows the root mean square distance of the atoms from where they were loaded, the shorter way around the box."),
     Own(
         "go s STRETCH",
-        "Goes on by a stretch of time.",
+        "Advances by a time.",
         (
             "> go a 2steps",
             "  > ADVANCE a 2",
@@ -188,7 +188,7 @@ PHYSICS: Tuple[Own, ...] = (
     ),
     Own(
         "back s [STRETCH]",
-        "Goes back to where the session was loaded, or by a stretch of time, on the way that it came: tugs and heat are taken back too.",
+        "Goes back to the loaded state, or by a time, along the same path: tugs and heat are undone too.",
         (
             *("> ADVANCE a 2", "OK ADVANCE a 2", "> back a", "  > REVERSE a", "OK REVERSE a 1", "  > ADVANCE a 2", "OK ADVANCE a -1"),
             *("  > REVERSE a", "OK REVERSE a 0", "  a is where it was loaded"),
@@ -196,14 +196,14 @@ PHYSICS: Tuple[Own, ...] = (
     ),
     Own(
         "undo [s]",
-        "Takes back what the last line has done to a session, or to this one, by the inverse commands: steps, turns, tugs, heat and "
-        "RESTORE. No branch is needed. Said again it takes back the line before that.",
+        "Undoes what the last line did to a session, or to this one, by inverse commands: steps, reversals, tugs, heat and "
+        "RESTORE. No branch is needed. A second `undo` undoes the line before.",
         (*("> TUG a 0 5 0 0", "OK TUG a 0 0", "> undo", "  taking back `TUG a 0 5 0 0`", "  > TUG a 0 -5 0 0"),),
     ),
     Own(
         "scale s [SCALE]",
-        "Tells what the numbers of a session mean, or says it, as in `scale a edge=21.04 dt=2fs argon`, where somebody else has "
-        "loaded it. What was said is remembered for the next connection to a server.",
+        "Shows what the numbers of a session mean, or sets it, as in `scale a edge=21.04 dt=2fs argon`, if somebody else "
+        "loaded the session. The scale is remembered for the next connection to a server.",
     ),
 )
 
@@ -212,7 +212,7 @@ OWN: Tuple[Own, ...] = (
         "LOAD s FILE dt=.. SUBSTANCE [rest|pair]",
         "Loads a file in physical units: the substance is argon, or sigma=, epsilon= and mass=. A number without a unit is in "
         "angstrom, electronvolt, dalton or femtoseconds; K, kJ/mol, kcal/mol, nm and ps are units too. The edge of the box is "
-        "that of Lattice in the file, or edge=.",
+        "Lattice in the file, or edge=.",
         (
             *("> LOAD argon argon_256.xyz edge=21.04 dt=2fs argon", "OK LOAD argon 0 256"),
             "  edge 21.04, sigma 3.4, h 3706, and the time step 2.000109 fs",
@@ -225,35 +225,36 @@ OWN: Tuple[Own, ...] = (
     ),
     Own(
         "DUMP s > FILE",
-        "Writes the frame into an XYZ file, in place of one that is there.",
+        "Writes the frame to an XYZ file, and replaces an existing file.",
         ("> DUMP a > a.xyz", "  2 atoms at step 0 are in a.xyz"),
     ),
     Own(
         "save s FILE",
-        "Writes the whole simulation into a file, bit for bit, but for what BRANCH has saved: into a new one or an empty one, or in "
-        "place of another saved one. Any other file that is there stays. Of a session that was not loaded "
-        "here its scale is said too, as in `save a a.saved edge=21.04 dt=2fs argon` or with sigma= and h=.",
+        "Writes the whole simulation to a file, bit for bit, except its branches. The file must be new, empty or an older "
+        "saved simulation; any other file stays. If the session was not loaded here, give its scale too, as in `save a "
+        "a.saved edge=21.04 dt=2fs argon`, or with sigma= and h=.",
         ("> save a a.saved", "  a at step 0 is in a.saved"),
     ),
     Own(
         "load_saved FILE [s]",
-        "Goes on from such a file, exactly. Steps are counted on.",
+        "Continues from such a file, exactly, with the same step number.",
         (
             *("> save a a.saved", "  a at step 0 is in a.saved"),
             *("> load_saved a.saved b", "  b goes on at step 0, with 2 atoms"),
         ),
     ),
     *PHYSICS,
-    Own(".read FILE", "Does what each line of a file says, up to one that is refused. What follows ` #` is a comment."),
+    Own(".read FILE", "Carries out each line of a file, up to one that is refused. What follows ` #` is a comment."),
     Own(
         ".lesson FILE [RECORD]",
-        "Goes through a lesson step by step, in the language of its ending, such as examples/lessons/two_atoms.de; alone it shows the "
+        "Goes through a lesson step by step, in the language of its ending, such as examples/lessons/two_atoms.de; alone it "
+        "shows the "
         "step again. With RECORD the session of the lesson is recorded, with the answers in RECORD.answers, and `python3 -m "
         "ljclient check FILE RECORD` marks them.",
     ),
     Own(".answer ANSWER", "Answers the question of a step."),
-    Own(".hint", "Tells the hint of a step."),
-    Own("help [COMMAND]", "Tells of one command; `help 10` and `help NO_SESSION` of a refusal."),
+    Own(".hint", "Shows the hint of a step."),
+    Own("help [COMMAND]", "Explains one command; `help 10` and `help NO_SESSION` explain a refusal."),
     Own("exit", "Ends the prompt, as BYE and Ctrl-D do."),
 )
 
@@ -268,11 +269,11 @@ WORDS: Dict[str, str] = {
     "h": "the step factor, dt^2 epsilon / (m sigma^2) in units of 2^-32: a whole number from 1 to 16777216",
     "P Q": "the symbols of the two species",
     "s1 h1 e1": "sigma, h and weight of two atoms P; a weight is an epsilon in 256ths of a unit, from 1 to 65536",
-    "s2 h2 e2": "those of one P and one Q",
-    "s3 h3 e3": "those of two atoms Q",
-    "rest": "`rest` starts at rest, at the first frame; `pair` from two frames one step apart, the earlier one first",
+    "s2 h2 e2": "the same for one P and one Q",
+    "s3 h3 e3": "the same for two atoms Q",
+    "rest": "`rest` starts at rest, at the first frame; `pair` from two frames one step apart, in order of time",
     "count": "how many bytes of XYZ text follow the line",
-    "FILE": "a file; in quotes if its name has blanks",
+    "FILE": "a file; in quotes if its name has spaces",
     "RECORD": "a file to write; a record that it has is replaced",
     "ANSWER": "a number or one of the choices",
     "i..j": "the numbers of the first atom and of the last one, such as 0..9",

@@ -12,8 +12,8 @@ from .groups import GROUPS
 
 WIDTH = 100
 KEYS = (
-    "`help ADVANCE` tells all of one, with an example.",
-    "Tab completes commands, names and files. The arrow keys go through what was typed before.",
+    "`help ADVANCE` explains one command, with an example.",
+    "Tab completes commands, names and files. The arrow keys go through previous lines.",
     "Ctrl-C ends a long ADVANCE after a piece. Commands may be typed in small letters.",
 )
 

@@ -35,7 +35,7 @@ A prompt for the commands of the protocol. Without HOST:PORT it starts a program
 `help` lists the commands. If the input is not a terminal, it writes only the replies.
 
 The token is read from the file of --token-file (the token alone, or a file of users), from the environment variable LJSERVE_TOKEN,
-or typed. Blanks in it are ignored. `python3 -m ljclient view [FILE.xyz ..]` shows atoms in a browser,
+or typed. Spaces in it are ignored. `python3 -m ljclient view [FILE.xyz ..]` shows atoms in a browser,
 `python3 -m ljclient verify FILE` plays a record again, `python3 -m ljclient diff A B` compares two records, and
 `python3 -m ljclient check LESSON RECORD` marks the record of a lesson.
 """
