@@ -300,7 +300,7 @@ def test_the_page_asks_for_what_it_has_to_know(view: Any, ann: Any) -> None:
         page.wait_for("document.querySelector('#question .message').textContent.includes('type it again')")
         page.type(f"{TOKEN}\r")
         page.wait_for("document.activeElement?.name === 'edge'")
-        assert "it stands in the LOAD of the prompt, or below its reply" in page.text("question")
+        assert "look at the LOAD at the prompt, or below its reply" in page.text("question")
         assert page.value("document.activeElement.value") == "256"
         assert overflow_at_320(page) <= 0
         picture(page, "question")
