@@ -105,7 +105,8 @@ impl Directory {
     /// Lends the state of the ticket's user to this ticket, if it is the user's first one that has not left and the state is at
     /// home; else returns None.
     ///
-    /// Promise: a ticket gets its user's state if and only if no connection has the state and all the user's earlier tickets have left.
+    /// Promise: a ticket gets its user's state if and only if no connection has the state and all the user's earlier tickets
+    /// have left.
     pub fn try_enter(&mut self, ticket: &Ticket) -> Option<UserState>
         ensures enters { IsSome result
             ↔ IsSomeAnd (slice_get self.old ticket.now.user) (CanEnter ticket.now.number) }
@@ -126,7 +127,8 @@ impl Directory {
     /// # Errors
     /// The ticket has not entered, or has already left. Both are handed back, and nothing has changed.
     ///
-    /// Promise: a state is taken back if and only if the ticket that got it returns it. The caller gets any other ticket back with its state, and nothing changes.
+    /// Promise: a state is taken back if and only if the ticket that got it returns it. The caller gets any other ticket back
+    /// with its state, and nothing changes.
     pub fn leave(&mut self, ticket: Ticket, state: UserState) -> Result<(), NotEntered>
         ensures entered { IsOk result
             ↔ IsSomeAnd (slice_get self.old ticket.user) (HasEntered ticket.number) }

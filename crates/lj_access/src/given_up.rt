@@ -53,7 +53,8 @@ impl GivenUp {
     /// Passes over the kept tickets of a user whose turn has come, one after the other: each enters, leaves at once, and is no
     /// longer kept.
     ///
-    /// Promise: a ticket leaves the directory if and only if it is given up and its turn has come. After that, no given-up ticket of this user may enter.
+    /// Promise: a ticket leaves the directory if and only if it is given up and its turn has come. After that, no given-up
+    /// ticket of this user may enter.
     pub fn pass(&mut self, directory: &mut Directory, user: u8)
         ensures passed { PassesOver user directory.old directory.new }
         ensures kept { IsPermutation self.old (self.new ++ tickets_passed user directory.old directory.new) }

@@ -108,8 +108,8 @@ impl Book {
 
     /// Takes the open task of the least key from `pick` on, else of the least key. It is then out.
     ///
-    /// Promise: the open task with the smallest key at or above `pick` is handed out. If there is no such task, the open task with the smallest key is handed out.
-    /// If no task is open, nothing changes.
+    /// Promise: the open task with the smallest key at or above `pick` is handed out. If there is no such task, the open task
+    /// with the smallest key is handed out. If no task is open, nothing changes.
     pub fn take(&mut self, pick: usize) -> Option<(Key, Task)>
         ensures some { IfSome result (λ taken. Takes self.old self.new taken.0 taken.1) }
         ensures picked { IfSome result (λ taken. IsPick (IsOpenAt self.old) pick taken.0) }
@@ -196,7 +196,8 @@ impl Book {
 
     /// Fetches the user's result of the least key from `pick` on, else of the least key, and removes its entry.
     ///
-    /// Promise: the user's result with the smallest key at or above `pick` leaves the book. If there is no such result, the user's result with the smallest key leaves. If the user has no result, nothing changes.
+    /// Promise: the user's result with the smallest key at or above `pick` leaves the book. If there is no such result, the
+    /// user's result with the smallest key leaves. If the user has no result, nothing changes.
     pub fn fetch(&mut self, user: u8, pick: usize) -> Option<Done>
         ensures some { IfSome result (λ done. (key : ℕ) × Fetches self.old self.new done key
             × IsPick (IsDoneAt user self.old) pick key) }
@@ -232,7 +233,8 @@ impl Book {
 
     /// Returns the counts. Each posted task has been fetched or withdrawn, or is still in the book.
     ///
-    /// Promise: every posted task has been fetched or withdrawn, or is still in the book. Accepted results never outnumber posted tasks.
+    /// Promise: every posted task has been fetched or withdrawn, or is still in the book. Accepted results never outnumber
+    /// posted tasks.
     pub fn counts(&self) -> Counts
         ensures posted { result.posted ≡ self.now.posted }
         ensures given { result.given ≡ self.now.given }

@@ -85,8 +85,8 @@ impl BoxBook {
     /// The box, if there are `MAX_ENTRIES` entries, 2^64 - 1 tasks have been posted, or no box is lent, so that this
     /// one comes from elsewhere. Nothing has changed then.
     ///
-    /// Promise: if the book has room and at least one box is handed out, the task in the given box becomes open under a new number. Otherwise
-    /// the box is returned, and the book is unchanged.
+    /// Promise: if the book has room and at least one box is handed out, the task in the given box becomes open under a new
+    /// number. Otherwise the box is returned, and the book is unchanged.
     pub fn post_box(&mut self, task: TaskBox) -> Result<(), TaskBox>
         ensures room { IsOk result ↔ (HasRoom self.old.inner × (boxes_of self.old < self.old.made)) }
         ensures posts { OnOk result ((key : ℕ) × PostsBox self.old self.new task key) }
@@ -103,7 +103,8 @@ impl BoxBook {
 
     /// Takes the open task of the least key from `pick` on, else of the least key, in its box. It is then out.
     ///
-    /// Promise: the open task with the smallest key at or above `pick` is handed out in its box. If there is no such task, the open task with the smallest key is handed out. If no task is open, nothing changes.
+    /// Promise: the open task with the smallest key at or above `pick` is handed out in its box. If there is no such task, the
+    /// open task with the smallest key is handed out. If no task is open, nothing changes.
     pub fn take_box(&mut self, pick: usize) -> Option<LentTask>
         ensures some { IfSome result (λ lent. TakesBox self.old self.new lent) }
         ensures picked { IfSome result (λ lent. IsPick (IsOpenAt self.old.inner) pick lent.key) }
@@ -125,8 +126,8 @@ impl BoxBook {
     /// # Errors
     /// The box, if no task is out under that key with that number. Nothing has changed then.
     ///
-    /// Promise: a result is accepted if and only if its task is handed out under the result's key and number. Otherwise the box is returned,
-    /// and nothing changes.
+    /// Promise: a result is accepted if and only if its task is handed out under the result's key and number. Otherwise the box
+    /// is returned, and nothing changes.
     pub fn give_box(&mut self, lent: LentDone) -> Result<(), DoneBox>
         ensures given { IsOk result ↔ IsOut self.old lent }
         ensures gives { OnOk result (GivesBox self.old self.new lent) }
@@ -160,7 +161,8 @@ impl BoxBook {
 
     /// Fetches the user's result of the least key from `pick` on, else of the least key, in its box, and removes its entry.
     ///
-    /// Promise: the user's result with the smallest key at or above `pick` leaves the book, still in its box. If there is no such result, the user's result with the smallest key leaves. If the user has no result, nothing changes.
+    /// Promise: the user's result with the smallest key at or above `pick` leaves the book, still in its box. If there is no
+    /// such result, the user's result with the smallest key leaves. If the user has no result, nothing changes.
     pub fn fetch_box(&mut self, user: u8, pick: usize) -> Option<DoneBox>
         ensures some { IfSome result (λ done. (key : ℕ) × FetchesBox self.old self.new done key
             × IsPick (IsDoneAt user self.old.inner) pick key) }
@@ -220,7 +222,8 @@ impl BoxBook {
 
     /// Returns the counts. Each posted task has been fetched or withdrawn, or is still in the book.
     ///
-    /// Promise: every posted task has been fetched or withdrawn, or is still in the book. Accepted results never outnumber posted tasks.
+    /// Promise: every posted task has been fetched or withdrawn, or is still in the book. Accepted results never outnumber
+    /// posted tasks.
     pub fn counts(&self) -> Counts
         ensures posted { result.posted ≡ self.now.inner.posted }
         ensures given { result.given ≡ self.now.inner.given }

@@ -124,8 +124,8 @@ impl DoneBox {
         self.into_parts().0
     }
 
-    /// Returns the box, for another task, and the frame that the one in it shared, if it shared one. To drop the frame waits for all
-    /// that was written before, so it is dropped later, when no cache line of the box is on its way any more.
+    /// Returns the box, for another task, and the frame that the one in it shared, if it shared one. To drop the frame waits
+    /// for all that was written before, so it is dropped later, when no cache line of the box is on its way any more.
     pub fn into_parts(self) -> (TaskBox, Option<SharedFrame>) {
         let mut contents = self.contents;
         let frame = contents.as_mut().task.release();

@@ -23,8 +23,8 @@ pub const MAX_POSTS: usize = 16;
 /// Number of consecutive stray results that end the work for a user.
 pub const MAX_STRAYS: u64 = 4096;
 
-/// Maximum number of unfinished tasks of a connection that waits for its next command. 63 waiting connections then leave room for the
-/// last one among the 1,024 entries of a book.
+/// Maximum number of unfinished tasks of a connection that waits for its next command. 63 waiting connections then leave room
+/// for the last one among the 1,024 entries of a book.
 pub const MAX_AHEAD: usize = 15;
 
 /// Why a task was not posted. `C` is the token of the pool's close.
@@ -52,7 +52,8 @@ pub enum Refused {
 ///
 /// Tasks and results are large, so they are passed by reference.
 ///
-/// Promise: a posted task is owed until its result is handed out. Until a fetched result is counted as owed or as a stray, the pool hands out only this result.
+/// Promise: a posted task is owed until its result is handed out. Until a fetched result is counted as owed or as a stray, the
+/// pool hands out only this result.
 pub trait PoolEnd {
     /// The token of the pool's close. Only a closed pool makes one.
     type Closed: Drop;
@@ -137,8 +138,8 @@ pub trait PoolEnd {
         ensures stays_closed { StaysClosed (seen self.old) (seen self.new) }
         ensures own { for_others self.new user ≡ for_others self.old user };
 
-    /// Counts the result that `fetched` returns: as one that was owed, whose task is then owed no more, or as a stray. With `by_name`
-    /// the name of its task is enough to find it among those that are owed.
+    /// Counts the result that `fetched` returns: as one that was owed, whose task is then owed no more, or as a stray. With
+    /// `by_name` the name of its task is enough to find it among those that are owed.
     fn count(&mut self, by_name: bool)
         requires uncounted { uncounted self.old ≡ true }
         requires known { by_name ≡ true → IsKnownByName (seen self.old).owed (last self.old) }

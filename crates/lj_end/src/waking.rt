@@ -50,8 +50,8 @@ impl WaitQueues {
         }
     }
 
-    /// Notes that an end, to which `owed` results are owed, waits in the user's queue. It is woken once half of them were given, but not
-    /// before 16 or all of them; where another end waits there too, at the next result.
+    /// Notes that an end, to which `owed` results are owed, waits in the user's queue. It is woken once half of them were
+    /// given, but not before 16 or all of them; where another end waits there too, at the next result.
     pub fn note_waiting(&mut self, user: u8, owed: usize)
         ensures { self.new ≡ with_waiting self.old user owed }
     {

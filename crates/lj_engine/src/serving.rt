@@ -19,7 +19,8 @@ use std::alloc::Global;
 /// Returns the state, with the pending steps of its sessions, unless the pool was given up; how serving ended; and the reader.
 /// The pool is asked for no other user.
 ///
-/// Promise: with any pool, the replies to all items that were read are written (only a prefix if a write failed). The state after the answered items is returned. If the pool is given up, the replies so far are written, and no state is returned.
+/// Promise: with any pool, the replies to all items that were read are written (only a prefix if a write failed). The state
+/// after the answered items is returned. If the pool is given up, the replies so far are written, and no state is returned.
 pub fn serve<R: Source, W: Sink, P: PoolEnd>(
     alloc: Global,
     state: UserState,

@@ -189,7 +189,8 @@ impl Numeral {
 /// assert_eq!(parse_nano(b"15D-1")?.get(), 1_500_000_000);
 /// ```
 ///
-/// Promise: if the word has an error, the result is this error; otherwise it is the word's value times 10^9, rounded to a whole number (halves away from zero).
+/// Promise: if the word has an error, the result is this error; otherwise it is the word's value times 10^9, rounded to a whole
+/// number (halves away from zero).
 pub fn parse_nano(word: &[u8]) -> Result<Nano, NumberFault>
     ensures { result ≡ nano_of word.now }
 {

@@ -104,7 +104,8 @@ impl<L: Ledger> LockPool<L> {
 
     /// Returns the counts of the book.
     ///
-    /// Promise: every posted task has been fetched or withdrawn, or is still in the book. Accepted results never outnumber posted tasks.
+    /// Promise: every posted task has been fetched or withdrawn, or is still in the book. Accepted results never outnumber
+    /// posted tasks.
     pub fn counts<R: Wait>(&self, rt: &R) -> Counts
         ensures balance { result.posted ≡ result.fetched + result.withdrawn + result.entries }
         ensures given_posted { result.given ≤ result.posted }

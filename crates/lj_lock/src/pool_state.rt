@@ -323,8 +323,8 @@ impl<L: Ledger> PoolState<L> {
         self.idle.note_waiting();
     }
 
-    /// Takes the number of tasks that no worker was woken for, if it has reached `least`. Returns how many idle workers are to be woken
-    /// for them; these count as idle no more.
+    /// Takes the number of tasks that no worker was woken for, if it has reached `least`. Returns how many idle workers are to
+    /// be woken for them; these count as idle no more.
     pub(crate) fn take_woken(&mut self, least: usize) -> usize
         ensures value { result ≡ woken_for (due_of self.old.unsignalled least) self.old.idle }
         ensures left { self.old ≡ record self.new {

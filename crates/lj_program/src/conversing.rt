@@ -44,7 +44,8 @@ pub fn run<R: Read + Drop, W: Write + Drop>(
 /// # Errors
 /// `Read` or `Write`.
 ///
-/// Promise: a sink whose bytes are known gets exactly the bytes that `serve` writes for a user who has this quota and starts without sessions. All these bytes are sent unless a write or a flush fails.
+/// Promise: a sink whose bytes are known gets exactly the bytes that `serve` writes for a user who has this quota and starts
+/// without sessions. All these bytes are sent unless a write or a flush fails.
 pub fn run_over<R: Source + Drop, W: Sink>(
     alloc: Global,
     quota: Quota,

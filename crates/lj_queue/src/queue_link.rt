@@ -22,8 +22,8 @@ use std::sync::Wait;
 /// user's results leave the pool.
 pub type QueueEnd<'p, L, R> = LinkedEnd<QueueLink<'p, L, R>, QueueClosed>;
 
-/// The pass of an end, with its pool, its number, its user and its boxes. Where it is dropped and its pass was a free one, the pass is
-/// free again, and the results of its user leave the pool.
+/// The pass of an end, with its pool, its number, its user and its boxes. Where it is dropped and its pass was a free one, the
+/// pass is free again, and the results of its user leave the pool.
 pub struct QueueLink<'p, L: PoolIdentity, R: Wait> {
     rt: &'p R,
     pool: &'p QueuePool<L>,

@@ -91,8 +91,8 @@ pub struct QueuePool<L: PoolIdentity> {
     not_full: Condvar,
     /// Signalled when results are kept or the pool closes, one for each wait queue. The ends of its users wait on it.
     results_ready: [Condvar; WAIT_QUEUES],
-    /// False only where no worker is idle. A worker sets it before it looks for a task under the lock of the idle ones, so an end that
-    /// has posted a task and then reads false need wake none.
+    /// False only where no worker is idle. A worker sets it before it looks for a task under the lock of the idle ones, so an
+    /// end that has posted a task and then reads false need wake none.
     some_idle: AtomicBool,
     /// The number of ends that wait for room.
     waiting_posters: AtomicUsize,
@@ -102,8 +102,8 @@ pub struct QueuePool<L: PoolIdentity> {
 }
 
 impl<L: PoolIdentity> QueuePool<L> {
-    /// Makes an empty pool, its passes, the first `CONNECTIONS` for connections and the others for the workers, and a share for each
-    /// worker.
+    /// Makes an empty pool, its passes, the first `CONNECTIONS` for connections and the others for the workers, and a share for
+    /// each worker.
     ///
     /// # Errors
     /// Out of memory.

@@ -14,7 +14,8 @@ use std::sync::Wait;
 /// the share, credited with each result that was kept, and the pass, which popped the tasks of these results and each task that
 /// it pushed again because the gate sent it back.
 ///
-/// Promise: a pass pops each task at least as often as it pushes the task back. In total, pops exceed pushes by at least the number of credited results.
+/// Promise: a pass pops each task at least as often as it pushes the task back. In total, pops exceed pushes by at least the
+/// number of credited results.
 pub fn work_queue<L: PoolIdentity, G: Gate, R: Wait>(
     rt: &R,
     pool: &QueuePool<L>,

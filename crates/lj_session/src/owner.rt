@@ -78,8 +78,9 @@ impl Owner {
     /// of its own; else it waits. START is always answered at once, with the step number at the end. Only LOAD, LOADMIX
     /// and BRANCH take memory.
     ///
-    /// Promise: a command waits if pending steps, or steps of its own, come before its reply; waiting does not change the reply. Any other
-    /// command is answered immediately; the reply and the user's next state are as defined. A refused command changes nothing, and no command changes any session but its own.
+    /// Promise: a command waits if pending steps, or steps of its own, come before its reply; waiting does not change the
+    /// reply. Any other command is answered immediately; the reply and the user's next state are as defined. A refused command
+    /// changes nothing, and no command changes any session but its own.
     pub fn begin(&mut self, command: Command) -> Begin
         requires idle { self.old.waiting ≡ None }
         ensures answered { IfAnswered result (AnswersAtOnce command self.old self.new) }
@@ -185,7 +186,8 @@ impl Owner {
 
     /// Accepts the result of a task that the step of a session awaits. Any other is handed back, and nothing has changed.
     ///
-    /// Promise: a result is accepted if and only if its session's step waits for it. Otherwise the result is returned, and nothing changes.
+    /// Promise: a result is accepted if and only if its session's step waits for it. Otherwise the result is returned, and
+    /// nothing changes.
     pub fn accept(&mut self, done: Done) -> Result<(), Stray>
         ensures accepted { IsOk result ↔ IsAwaitedIn self.old done }
         ensures taken { OnOk result (self.new ≡ with_task_in done self.old) }

@@ -25,7 +25,8 @@ pub fn drift_is_conserved()
     ensures reverse { (sim : Simulation) → IsWellFormed sim → drift (reversal sim) ≡ opposite_push (drift sim) }
 {}
 
-/// Promise: a step computed from any cover, with its tiles in any order, equals the step over all pairs. The energies of a cover's tiles add up to the potential.
+/// Promise: a step computed from any cover, with its tiles in any order, equals the step over all pairs. The energies of a
+/// cover's tiles add up to the potential.
 pub fn covers_are_all_pairs()
     ensures step { (u : Composition) (sim : Simulation) (tiles : List Tile) → IsForceCover u sim.cur tiles
         → next_simulation_by u tiles sim ≡ next_simulation u sim }

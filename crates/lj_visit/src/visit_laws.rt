@@ -3,7 +3,8 @@ ghost use Rattle.lj_visit.specs.VisitLaws.{AttendedIsAnswered, VisitsAreOneFold,
 
 use lj_wire::commands_are_items;
 
-/// Promise: after OK HELLO a user gets the replies to all items read. These replies are computed from the lent state. If a write fails, the written bytes end within the reply to the last answered item.
+/// Promise: after OK HELLO a user gets the replies to all items read. These replies are computed from the lent state. If a write
+/// fails, the user gets a prefix of these replies, which ends within the reply to the last answered item.
 pub fn attended_is_answered()
     ensures { AttendedIsAnswered }
 {}
@@ -13,8 +14,8 @@ pub fn visits_are_one_fold()
     ensures { VisitsAreOneFold }
 {}
 
-/// Promise: serving starts from a state that some list of items leads to. The answered items get the replies that they would get after this list, with the same quota and no other users. If a write fails, the last reply is cut
-/// short.
+/// Promise: serving starts from a state that some list of items leads to. The answered items get the replies that they would
+/// get after this list, with the same quota and no other users. If a write fails, the last reply is cut short.
 pub fn reached_is_answered_behind()
     ensures { ReachedIsAnsweredBehind }
 {

@@ -33,7 +33,8 @@ pub fn agreeing_scripts_agree_in_texts()
     ensures { AgreeingScriptsAgreeInTexts }
 {}
 
-/// Promise: if a user's scripts in two lists of events agree, one of the user's two lists of replies is a prefix of the other. Both lists are prefixes of the replies that this user's commands get if there are no other users.
+/// Promise: if a user's scripts in two lists of events agree, one of the user's two lists of replies is a prefix of the other.
+/// Both lists are prefixes of the replies that this user's commands get if there are no other users.
 pub fn headline()
     ensures { Headline }
 {
@@ -41,8 +42,8 @@ pub fn headline()
     agreeing_scripts_agree_in_texts();
 }
 
-/// Promise: at each point of a run, the user's script so far gives the state that the user has after all pending steps. A pending command
-/// is the next item of the script.
+/// Promise: at each point of a run, the user's script so far gives the state that the user has after all pending steps. A
+/// pending command is the next item of the script.
 pub fn value_is_that_of_script()
     ensures { ValueIsThatOfScript }
 {

@@ -57,7 +57,8 @@ impl World {
     /// # Errors
     /// Out of memory, at this step or at an earlier one: a lost world takes no further step.
     ///
-    /// Promise: every event is one step of the state machine. An event that is not possible changes nothing. An event's pick decides which task is taken or which result is fetched.
+    /// Promise: every event is one step of the state machine. An event that is not possible changes nothing. An event's pick
+    /// decides which task is taken or which result is fetched.
     pub fn step(&mut self, event: Event) -> Result<Option<Entry>, OutOfMemory>
         ensures step { IfOk result (λ reply. Step self.old.state event reply self.new.state) }
         ensures picked { IfOk result (λ _. FollowsPick self.old.state event self.new.state) }

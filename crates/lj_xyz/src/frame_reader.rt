@@ -283,7 +283,8 @@ pub fn read_rest(alloc: Global, text: &[u8], symbols: Option<&SymbolPair>) -> Re
 /// assert_eq!(frames.second.as_slice()[0].z.get(), 250_000_000);
 /// ```
 ///
-/// Promise: the result is one of three: the text's first two frames, with equal atom counts; the text's first fault in reading order; or an out-of-memory fault.
+/// Promise: the result is one of three: the text's first two frames, with equal atom counts; the text's first fault in reading
+/// order; or an out-of-memory fault.
 pub fn read_pair(
     alloc: Global,
     text: &[u8],

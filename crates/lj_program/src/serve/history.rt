@@ -231,7 +231,8 @@ impl<J: HistoryIdentity> Model for StateHistories<J> {
 }
 
 impl<J: HistoryIdentity> StateHistories<J> {
-    /// Notes a state as the last one of the history of a user, and returns what was seen of it then. None where there is no such user.
+    /// Notes a state as the last one of the history of a user, and returns what was seen of it then. None where there is no
+    /// such user.
     pub fn note(&mut self, user: u8, next: NextState) -> Option<SeenHistory<J>>
         ensures user { IfSome result (λ seen. seen.user ≡ user) }
         ensures noted { IfSome result (λ seen. IsSomeAnd (slice_get self.old user) (λ before. HasNoted before next seen.states)) }

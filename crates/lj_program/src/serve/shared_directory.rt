@@ -184,8 +184,8 @@ impl<J: HistoryIdentity> DirectoryState<J> {
     }
 }
 
-/// Takes a state home, and notes it as the last one in the history of its user. None where the ticket had not entered, or had already
-/// left; then nothing has changed.
+/// Takes a state home, and notes it as the last one in the history of its user. None where the ticket had not entered, or had
+/// already left; then nothing has changed.
 fn bring_home<J: HistoryIdentity>(
     directory: &mut Directory,
     histories: &mut StateHistories<J>,
@@ -287,8 +287,8 @@ impl<J: HistoryIdentity> SharedDirectory<J> {
         Ok(())
     }
 
-    /// Takes a state home from the ticket that it was lent to, so that the user's next ticket may enter, with the state that is the last
-    /// one in the history returned. None where the ticket had not entered, or had already left.
+    /// Takes a state home from the ticket that it was lent to, so that the user's next ticket may enter, with the state that is
+    /// the last one in the history returned. None where the ticket had not entered, or had already left.
     pub fn leave<R: Wait>(&self, rt: &R, lent: LentState) -> Option<SeenHistory<J>>
         ensures { IfSome result (LeavesLast lent.ticket lent.state) }
     {

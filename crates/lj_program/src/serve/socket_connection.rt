@@ -65,8 +65,8 @@ impl<P: WorkerPool, J: HistoryIdentity> Server<P, J> {
         linger(rt, stream);
     }
 
-    /// Answers a connection on its writer, and returns how it has ended. The last replies are sent once the state is home, so that a
-    /// client that does not read them does not hold it back.
+    /// Answers a connection on its writer, and returns how it has ended. The last replies are sent once the state is home, so
+    /// that a client that does not read them does not hold it back.
     fn answer<R: Wait + Log + Clock, W: Sink>(
         &self,
         rt: &R,

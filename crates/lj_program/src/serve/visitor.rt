@@ -55,8 +55,8 @@ impl<'s, R: Wait + Clock + Log> Visitor<'s, R> {
         directory.hello(self.rt, name, token)
     }
 
-    /// Waits until the ticket enters, and returns the state with what was seen of its history. Each second it checks that the client is
-    /// still there, unless bytes of it are held.
+    /// Waits until the ticket enters, and returns the state with what was seen of its history. Each second it checks that the
+    /// client is still there, unless bytes of it are held.
     pub fn enter<J: HistoryIdentity>(
         &mut self,
         directory: &SharedDirectory<J>,

@@ -98,7 +98,8 @@ impl Sim {
     /// assert!(sim.accept(&label, done).is_err());
     /// ```
     ///
-    /// Promise: a result is accepted if and only if the open step waits for its task. Otherwise the result is returned, and nothing changes.
+    /// Promise: a result is accepted if and only if the open step waits for its task. Otherwise the result is returned, and
+    /// nothing changes.
     pub fn accept(&mut self, label: &Label, done: Done) -> Result<(), Stray>
         ensures accepted { IsOk result ↔ steps.IsAwaitedTask self.old label.now done }
         ensures kind { steps.kind_of self.new.part ≡ steps.kind_of self.old.part }
