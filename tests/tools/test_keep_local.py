@@ -37,6 +37,8 @@ class Streaming(Client):
 class Server:
     """A connection to the reference, whose replies come when they are asked for."""
 
+    is_held = False
+
     def __init__(self) -> None:
         self.reference, self.left, self.waiting, self.items = Reference(QUOTA), 10**6, [], b""  # type: Any, int, List[bytes], bytes
 

@@ -102,12 +102,19 @@ class Writer:
         return change
 
 
+class Watched(User):
+    """A user with its writer, and with what it has noted."""
+
+    writer: Writer
+    noted: List[Any]
+
+
 @pytest.fixture
 def user() -> Any:
     renewed: List[Any] = []
     writer: Any = Writer()
     store: Any = None
-    user: Any = User("ann", Kept(0, [], []), store, writer, lambda *_, **known: renewed.append(known), renewed.append)
+    user: Any = Watched("ann", Kept(0, [], []), store, writer, lambda *_, **known: renewed.append(known), renewed.append)
     user.writer, user.noted = user._writer, renewed
     return user
 

@@ -34,7 +34,8 @@ COUNTED = (b"ADVANCE", b"START")
 WAITING = ("waits", "gone")
 # Those of who is in: by a connection, or by a page of the class.
 INSIDE = ("in", "page")
-# How the words of both begin, so that a thousand lines of SHOW are passed over at once.
+# How the words of these begin, so that a thousand lines of SHOW are passed over at once.
+LONG = {b"DUMP", b"LIST"}
 STEPPING = {b"ADVA", b"STAR", b"REVE", b"REST", b"LOAD", b"DROP"}
 Address = Tuple[str, int]
 
@@ -95,11 +96,11 @@ class Connection:
                 self.state = "denied"
         else:
             self.commands += 1
-            found = MORE_LINES.match(line)
-            self._more = int(found[1]) if found else 0
-            if line[3:7] in STEPPING:
+            if (word := line[3:7]) in STEPPING:
                 self._note_step(line)
-        if REFUSAL.match(line):
+            elif word in LONG and (found := MORE_LINES.match(line)):
+                self._more = int(found[1])
+        if line.startswith(b"ERR ") and REFUSAL.match(line):
             self.refusal = line.decode()
 
     def _note_step(self, line: bytes) -> None:

@@ -65,8 +65,7 @@ class Client(Receiver):
 
     def _hear(self, data: bytes) -> None:
         """Takes bytes. If there is more than an item among those that wait, no more are read."""
-        self._reader.feed(data)
-        if self._reader.held > MAX_BYTES_WAITING and not self._is_paused:
+        if self._reader.feed(data) > MAX_BYTES_WAITING and not self._is_paused:
             self._is_paused = True
             self._transport.pause_reading()
 
@@ -147,6 +146,7 @@ class Client(Receiver):
     def connection_lost(self, error: Optional[Exception]) -> None:
         self._timer.cancel()
         self.is_lost, self.is_full = True, False
+        self._reader.end()
         self._next = None
         if self.passed is not None:
             self.passed.transport.abort() if error else self.passed.transport.close()
@@ -172,14 +172,11 @@ class Client(Receiver):
 
     def next_item(self) -> Optional[Item]:
         """The next item, if it is whole."""
-        item, self._next = self._next or self._cut(), None
+        item, self._next = self._next or self._reader.next(), None
         if self._is_paused and self._reader.held <= MAX_BYTES_WAITING:
             self._is_paused = False
             self._transport.resume_reading()
         return item
-
-    def _cut(self) -> Optional[Item]:
-        return None if self.is_lost else self._reader.next()
 
     def position(self) -> int:
         """How many bytes of items have come."""
@@ -187,7 +184,7 @@ class Client(Receiver):
 
     def has_item_before(self, position: int) -> bool:
         """Whether the next item was whole when so many bytes had come."""
-        self._next = self._next or self._cut()
+        self._next = self._next or self._reader.next()
         return self._next is not None and self._reader.taken <= position
 
     def take_no_more(self) -> None:
@@ -196,9 +193,9 @@ class Client(Receiver):
 
     def has_ended(self) -> bool:
         """Whether no more items will come."""
-        if not (self.is_lost or self._has_sent_all or self._reader.has_ended):
+        if not (self._has_sent_all or self._reader.has_ended):
             return False
-        self._next = self._next or self._cut()
+        self._next = self._next or self._reader.next()
         return self._next is None
 
     def let_in(self) -> None:
@@ -288,7 +285,7 @@ class Link(Receiver):
         self.left = self.most_items
         self._reader = ReplyReader()
         self._transport: asyncio.Transport
-        self._is_in = self._is_closed = self._is_held = False
+        self._is_in = self._is_closed = self.is_held = False
 
     def connection_made(self, transport: asyncio.BaseTransport) -> None:
         assert isinstance(transport, asyncio.Transport)
@@ -324,8 +321,8 @@ class Link(Receiver):
 
     def hold(self, is_held: bool) -> None:
         """Reads no replies for as long as they cannot be told."""
-        if is_held != self._is_held and not self._is_closed:
-            self._is_held = is_held
+        if is_held != self.is_held and not self._is_closed:
+            self.is_held = is_held
             (self._transport.pause_reading if is_held else self._transport.resume_reading)()
 
     def close(self) -> None:

@@ -31,7 +31,7 @@ class Told(NamedTuple):
 def words_of(line: bytes) -> Words:
     """The words of a line without its line feed."""
     line = line[:-1] if line.endswith(b"\r") else line
-    return tuple(word for word in line.replace(b"\t", b" ").split(b" ") if word)
+    return tuple(filter(None, line.replace(b"\t", b" ").split(b" ")))
 
 
 def body_of(words: Words) -> Optional[int]:
@@ -57,10 +57,11 @@ class ItemReader:
     def held(self) -> int:
         return len(self._held)
 
-    def feed(self, data: bytes) -> None:
-        """Takes some bytes. Those behind the end are dropped."""
+    def feed(self, data: bytes) -> int:
+        """Takes some bytes, and returns how many are held. Those behind the end are dropped."""
         if not self.has_ended:
             self._held += data
+        return len(self._held)
 
     def next(self) -> Optional[Item]:
         """The next item, if it is whole. Behind the last one that a connection may have stands what ends it."""
@@ -113,11 +114,14 @@ class ReplyReader:
         *lines, self._partial = (self._partial + data).split(b"\n")
         replies = []
         for line in lines:
-            self._lines.append(line)
-            self._more = self._more - 1 if self._more else lines_after(line)
+            if self._more:
+                self._lines.append(line)
+                self._more -= 1
+            else:
+                self._lines = [line]
+                self._more = lines_after(line)
             if not self._more:
                 replies.append(b"\n".join([*self._lines, b""]))
-                self._lines.clear()
         return replies
 
 

@@ -9,6 +9,7 @@ from typing import ContextManager, Iterator, List, Optional, Sequence
 from .store import SCHEMA, Row, Statement, StoreFault
 
 FORMAT = 3
+BYTES_OF_PAGE = 1024
 # Another process has the database for itself for a moment at most, as while it is opened.
 SECONDS_TO_WAIT = 10.0
 
@@ -23,6 +24,8 @@ class Sqlite:
         self._wal: Optional[int] = None
         with self._use("use"):
             self._base = self._connected()
+            # A record takes one page, so pages are small: each is written whole. A database that is there keeps its own.
+            self._base.execute(f"pragma page_size={BYTES_OF_PAGE}")
             self._base.execute("pragma journal_mode=wal")
             self._base.execute("pragma synchronous=full")
             (version,) = self._base.execute("pragma user_version").fetchone()

@@ -40,6 +40,14 @@ Hear = Callable[[Item, bytes], None]
 class User:
     """A user, with what is kept of it: a snapshot, and the records since."""
 
+    # Attributes of an object that has more than 30 are read more slowly without slots, and these are read at each command.
+    __slots__ = (
+        "allowance away_since client is_ready is_settling link local locals name number on_reply quota records seat sessions stopped "
+        "waiting _again _asking _burst _burst_sent _bytes _bytes_held _bytes_sent _ended _heard _held _is_near_an_end _is_over "
+        "_is_to_try_again _is_wanted _is_writing _long _note _parts _put_back_since _reading _renew _seconds _sent _seq _since "
+        "_snapshot _store _task _timer _writer _written"
+    ).split()
+
     def __init__(self, name: str, kept: Kept, store: Store, writer: Writer, note: Note, renew: Callable[["User"], None]):
         self.name, self.records, self.number = name, kept.records, kept.seq + len(kept.records)
         self.stopped = self.quota = ""
@@ -191,7 +199,8 @@ class User:
             self._renew_link()
         if self.link is not None:
             is_full = self.local is None and self.client is not None and self.client.is_full
-            self.link.hold(self._bytes_held > MAX_BYTES or is_full)
+            if self.link.is_held != (is_held := self._bytes_held > MAX_BYTES or is_full):
+                self.link.hold(is_held)
 
     def _send(self) -> None:
         """Sends items, as many as may be on their way."""
@@ -200,7 +209,7 @@ class User:
             if link is not None:
                 self._send_burst(link)
             return
-        if not self.is_ready or self.is_settling and self.local is None or self._is_due() or self._is_to_read():
+        if not self.is_ready or self.is_settling and self.local is None or self._has_task():
             return
         items = []
         most = 1 if self._is_near_an_end else MAX_SENT
@@ -218,7 +227,12 @@ class User:
     def _next(self) -> Optional[Item]:
         if self._long is not None:
             return None if self._sent else self._long.next_piece(self.sessions, time.monotonic())
-        item = self._again.popleft() if self._again else self._of_clients()
+        if self._again:
+            item: Optional[Item] = self._again.popleft()
+        elif self.local is not None:
+            item = self.local.next_item()
+        else:
+            item = None if self._asking and self._is_next() else self._of_client()
         if item is None or self._is_near_an_end:
             return item and item._replace(last_reply=self.sessions.refusal(item.words) or item.last_reply)
         if item.words and item.words[0] == b"ADVANCE" and (long := Long.of(item, self.sessions)):
@@ -226,16 +240,8 @@ class User:
             return long.next_piece(self.sessions, time.monotonic())
         return item
 
-    def _of_clients(self) -> Optional[Item]:
-        """The next item of the client whose turn it is: none where a transaction begins when all before it is done."""
-        if self.local is not None:
-            return self.local.next_item()
-        return None if self._is_next() else self._of_client()
-
     def _is_next(self) -> bool:
-        """Whether a transaction is what comes next: no item of the client that came before it is left."""
-        if not self._asking:
-            return False
+        """Whether the transaction that was asked for first is what comes next: no item of the client that came before it is left."""
         client, position = self._asking[0].behind
         return client is None or client is not self.client or not client.has_item_before(position)
 
@@ -248,7 +254,7 @@ class User:
             self._ended.append(self.local)
             self.local = None
             return True
-        if not self._is_next() or not self.is_ready or self.is_settling or not self._is_idle():
+        if not self._asking or not self._is_next() or not self.is_ready or self.is_settling or not self._is_idle():
             return False
         local = self._asking.popleft()
         if not local.is_lost:
@@ -324,10 +330,11 @@ class User:
     def _tell(self, held: List[bytes], ended: List[LocalClient]) -> None:
         """Tells replies, and that transactions have ended, before which all is written that they are about."""
         self._is_writing = False
-        self._bytes_held -= sum(map(len, held))
+        replies = b"".join(held)
+        self._bytes_held -= len(replies)
         client = self.local or self.client
-        if client is not None and held:
-            client.tell(b"".join(held))
+        if client is not None and replies:
+            client.tell(replies)
         for local in ended:
             local.note_written()
 
@@ -367,7 +374,7 @@ class User:
 
     def _begin_task(self) -> bool:
         """Begins to put all back, or to take a snapshot or to read, if that is due and nothing is on its way."""
-        if self._task is not None:
+        if self._task is not None or self.is_ready and not self._has_task():
             return False
         if not self.is_ready:
             self._task = None if self._is_writing or self._timer is not None else self._put_back()
@@ -429,6 +436,10 @@ class User:
         self.is_ready = True
         self._is_near_an_end = self.sessions.are_near_an_end()
         self._note("ready", user=self.name)
+
+    def _has_task(self) -> bool:
+        """Whether a task is to begin as soon as nothing is on its way."""
+        return (self._is_over or self._is_wanted) and self._is_due() or self._reading is not None and self._is_to_read()
 
     def _is_due(self) -> bool:
         """Whether a snapshot is to be taken as soon as nothing is on its way. Within a transaction none is."""

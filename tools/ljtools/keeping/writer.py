@@ -61,9 +61,8 @@ class Writer:
         """Writes what comes, up to the end."""
         while (first := self._queue.get()) is not None:
             works: List[Optional[Work]] = [first]
-            with contextlib.suppress(queue.Empty):
-                while works[-1] is not None:
-                    works.append(self._queue.get_nowait())
+            while works[-1] is not None and not self._queue.empty():
+                works.append(self._queue.get())
             self._write_all([work for work in works if work is not None])
             if works[-1] is None:
                 break
