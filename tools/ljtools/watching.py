@@ -35,7 +35,7 @@ WAITING = ("waits", "gone")
 # Those of who is in: by a connection, or by a page of the class.
 INSIDE = ("in", "page")
 # How the words of these begin, so that a thousand lines of SHOW are passed over at once.
-LONG = {b"DUMP", b"LIST"}
+LISTING = {b"DUMP", b"LIST"}
 STEPPING = {b"ADVA", b"STAR", b"REVE", b"REST", b"LOAD", b"DROP"}
 Address = Tuple[str, int]
 
@@ -98,7 +98,7 @@ class Connection:
             self.commands += 1
             if (word := line[3:7]) in STEPPING:
                 self._note_step(line)
-            elif word in LONG and (found := MORE_LINES.match(line)):
+            elif word in LISTING and (found := MORE_LINES.match(line)):
                 self._more = int(found[1])
         if line.startswith(b"ERR ") and REFUSAL.match(line):
             self.refusal = line.decode()

@@ -1,7 +1,7 @@
 """The items of a stream of commands and the replies to them, cut out of bytes as they come (docs/PROTOCOL.md)."""
 from typing import List, NamedTuple, Optional, Tuple
 
-from ..watching import MORE_LINES
+from ..watching import LISTING, MORE_LINES
 
 Words = Tuple[bytes, ...]
 MAX_LINE = 256
@@ -118,14 +118,8 @@ class ReplyReader:
                 self._lines.append(line)
                 self._more -= 1
             else:
-                self._lines = [line]
-                self._more = lines_after(line)
+                found = MORE_LINES.match(line) if line[3:7] in LISTING else None
+                self._lines, self._more = [line], int(found[1]) if found else 0
             if not self._more:
                 replies.append(b"\n".join([*self._lines, b""]))
         return replies
-
-
-def lines_after(line: bytes) -> int:
-    """How many lines follow the first one of a reply."""
-    found = MORE_LINES.match(line) if line[3:7] in (b"DUMP", b"LIST") else None
-    return int(found[1]) if found else 0

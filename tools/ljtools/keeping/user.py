@@ -193,7 +193,7 @@ class User:
             self._send()
             self._answer_last()
             self._keep()
-            if self.link is None or self._sent or not (self._begin_task() or self._change_turn() or self._end_client() or self._admit()):
+            if self.link is None or self._sent or not (self._begin_task() or self._change_turn() or self._change_client()):
                 break
         if self.link is not None and not self.link.left and not self._sent and len(self._heard) == self._burst_sent:
             self._renew_link()
@@ -346,21 +346,19 @@ class User:
         """Whether nothing more is to be done of what was taken."""
         return self._is_quiet() and not self._again and self._long is None and self.local is None
 
-    def _end_client(self) -> bool:
-        """Ends the connection of a client that has no more items. Then a snapshot is wanted."""
-        if self.client is None or not self.is_ready or not self.client.has_ended() or not self._is_idle():
+    def _change_client(self) -> bool:
+        """Ends the connection of a client that has no more items, whereupon a snapshot is wanted, or lets the next client in."""
+        if self.client is not None:
+            if not self.client.has_ended() or not self.is_ready or not self._is_idle():
+                return False
+            self.client.finish()
+            self.client, self.away_since = None, time.monotonic()
+            self._is_wanted = self.number != self._seq
+        elif self.waiting and self.is_ready and not self.is_settling and self._is_idle():
+            self.client = self.waiting.popleft()
+            self.client.let_in()
+        else:
             return False
-        self.client.finish()
-        self.client, self.away_since = None, time.monotonic()
-        self._is_wanted = self.number != self._seq
-        return True
-
-    def _admit(self) -> bool:
-        """Lets the next client in."""
-        if self.client is not None or not self.is_ready or not self.waiting or not self._is_idle() or self.is_settling:
-            return False
-        self.client = self.waiting.popleft()
-        self.client.let_in()
         return True
 
     def _renew_link(self) -> None:
