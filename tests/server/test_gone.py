@@ -28,7 +28,7 @@ def test_clients_that_are_gone_give_up_their_places(serve: Servers) -> None:
     other.leaves()
     first.says(b"TUG a 0 5 0 0\n", b"OK TUG a 0 0\n")
     first.leaves()
-    last = server.enter("A")
+    last = server.let_in("A")
     last.says(b"LIST\nMEASURE a\n", b"OK LIST 1\na 0 2 0\n" + measured(5))
     last.leaves()
     server.finish(tiles=1)
