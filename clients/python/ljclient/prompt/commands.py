@@ -248,9 +248,8 @@ OWN: Tuple[Own, ...] = (
     Own(
         ".lesson FILE [RECORD]",
         "Goes through a lesson step by step, in the language of its ending, such as examples/lessons/two_atoms.de; alone it "
-        "shows the "
-        "step again. With RECORD the session of the lesson is recorded, with the answers in RECORD.answers, and `python3 -m "
-        "ljclient check FILE RECORD` marks them.",
+        "shows the step again. With RECORD the session of the lesson is recorded, with the answers in RECORD.answers, and "
+        "`python3 -m ljclient check FILE RECORD` marks them.",
     ),
     Own(".answer ANSWER", "Answers the question of a step."),
     Own(".hint", "Shows the hint of a step."),
