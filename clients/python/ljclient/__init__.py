@@ -139,7 +139,7 @@ _MODULE_OF = {name: module for module, names in _NAMES.items() for name in names
 
 
 class _Package(ModuleType):
-    """This package, whose names are imported when they are first asked for, and then kept. A module of it is one of its names too."""
+    """This package, whose names are imported at first access and then kept. Its modules are names of it too."""
 
     def __getattr__(self, name: str) -> "Any":
         from importlib import import_module
@@ -156,7 +156,7 @@ class _Package(ModuleType):
             raise AttributeError(f"module {self.__name__!r} has no attribute {name!r}") from error
 
     def __setattr__(self, name: str, value: object) -> None:
-        """As usual, but that `ensemble` stays the function once its module is imported."""
+        """As usual, except that `ensemble` stays the function after its module is imported."""
         if not (name in _MODULE_OF and isinstance(value, ModuleType)):
             super().__setattr__(name, value)
 

@@ -1,4 +1,4 @@
-"""The client for asyncio: the calls of `ljclient`, each of which is awaited.
+"""The client for asyncio: the calls of `ljclient`, to be awaited.
 
     import asyncio
     from ljclient import aio, units
@@ -44,7 +44,7 @@ END = object()
 
 
 class Stopped(BaseException):
-    """Ends a call whose awaiting was cancelled, after a piece."""
+    """Ends a cancelled call after its current piece."""
 
 
 class Worker:
@@ -55,7 +55,7 @@ class Worker:
         self.is_over = False
 
     async def do(self, call: Callable[[], Any], stop: Optional[threading.Event] = None) -> Any:
-        """Makes a call behind those before it, and awaits what it returns. Where the awaiting is cancelled the event is set."""
+        """Makes a call after the earlier ones, and awaits its result. Sets the event if the await is cancelled."""
         if self.is_over:
             raise Closed("the connection was closed")
         future = self._pool.submit(call)
@@ -67,18 +67,18 @@ class Worker:
             raise
 
     def begin(self, call: Callable[[], Any]) -> None:
-        """Makes a call behind those before it, which nobody awaits."""
+        """Makes a call after the earlier ones, without awaiting it."""
         if not self.is_over:
             self._pool.submit(call)
 
     def end(self) -> None:
-        """Has the thread end behind the calls before."""
+        """Ends the thread after the earlier calls."""
         self.is_over = True
         self._pool.shutdown(wait=False)
 
 
 def _stoppable(call: "functools.partial[Any]", stop: threading.Event) -> Callable[[], Any]:
-    """A call that ends after a piece when this is set, where it tells its progress."""
+    """A call that ends after a piece once the event is set, unless `progress` is missing or True."""
     try:
         bound = inspect.signature(call.func).bind(*call.args, **call.keywords)
     except (TypeError, ValueError):
@@ -98,7 +98,7 @@ def _stoppable(call: "functools.partial[Any]", stop: threading.Event) -> Callabl
 
 
 class Iteration:
-    """What a call gives one after the other, in the thread."""
+    """The items that a call yields, in the thread."""
 
     def __init__(self, begin: "functools.partial[Any]"):
         self.stop = threading.Event()
@@ -106,21 +106,21 @@ class Iteration:
         self._items: Any = None
 
     def next(self) -> Any:
-        """The next one, or END."""
+        """The next item, or END."""
         if self._items is None:
             self._items = iter(self._begin())
         return next(self._items, END)
 
     def close(self) -> None:
-        """Ends it where it is, which puts the session right."""
+        """Ends the iteration early, which restores the session."""
         items, self._items = self._items, iter(())
         if hasattr(items, "close"):
             items.close()
 
 
 class Items:
-    """What a call gives one after the other, for `async for`. Where the loop is left, the session is put right before the next call:
-    the thread has no hold of this object, so it is given up at once then."""
+    """The items that a call yields, for `async for`. If the loop is left early, the session is restored before the next call:
+    the thread has no reference to this object, so it is deleted at once."""
 
     def __init__(self, worker: Worker, begin: "functools.partial[Any]"):
         self._worker = worker
@@ -136,7 +136,7 @@ class Items:
         return item
 
     async def aclose(self) -> None:
-        """Ends it where it is."""
+        """Ends the iteration early."""
         await self._worker.do(self._iteration.close)
 
     def __del__(self) -> None:
@@ -144,7 +144,7 @@ class Items:
 
 
 class Block:
-    """A block that something stands around."""
+    """A context manager, for `async with`."""
 
     def __init__(self, worker: Worker, make: Callable[[], Any]):
         self._worker = worker
@@ -171,21 +171,21 @@ class Wrapped:
         return f"aio.{self._thing!r}"
 
     def _given(self, value: Any) -> Any:
-        """What is told here in place of a session or a user."""
+        """A returned value, with a session or a user wrapped."""
         if isinstance(value, sessions.Session):
             return Session(self._worker, value, self._user)
         return self._user if isinstance(value, users.User) else value
 
 
 def _plain(value: Any) -> Any:
-    """What a call takes, with the sessions themselves."""
+    """An argument of a call, with wrapped sessions unwrapped."""
     if isinstance(value, Wrapped):
         return value._thing
     return [_plain(each) for each in value] if isinstance(value, list) else value
 
 
 def _bound(self: Wrapped, name: str, arguments: Any, named: Dict[str, Any]) -> "functools.partial[Any]":
-    """A call of the thing itself."""
+    """A call of the wrapped object."""
     call = getattr(self._thing, name)
     return functools.partial(call, *map(_plain, arguments), **{word: _plain(value) for word, value in named.items()})
 
@@ -202,7 +202,7 @@ def _awaited(name: str, method: Any) -> Any:
 
 
 def _opening(kind: Callable[[Worker, "functools.partial[Any]"], Any], name: str, method: Any) -> Any:
-    """A method that gives items, or what stands around a block."""
+    """A method that returns an asynchronous iterator or context manager."""
 
     @functools.wraps(method)
     def opened(self: Wrapped, *arguments: Any, **named: Any) -> Any:
@@ -212,7 +212,7 @@ def _opening(kind: Callable[[Worker, "functools.partial[Any]"], Any], name: str,
 
 
 def _property(name: str, doc: Any) -> property:
-    """A property: what the thing has itself."""
+    """A property of the wrapped object."""
 
     def told(self: Wrapped) -> Any:
         return self._given(getattr(self._thing, name))
@@ -221,7 +221,7 @@ def _property(name: str, doc: Any) -> property:
 
 
 def public_names(kind: type) -> List[str]:
-    """The names of a class that have a call here."""
+    """The names of a class that are wrapped here."""
     held = ("name", "mixture", "motion", "sampled") if kind is sessions.Session else ("name", "address", "session_names")
     names = {name for name in dir(kind) if not (name.startswith("_") or isinstance(inspect.getattr_static(kind, name), Renamed))}
     return sorted(names.union(held).difference(LEFT_OUT))
@@ -242,7 +242,7 @@ def _wrapping(kind: type) -> Dict[str, Any]:
 
 
 async def _left(self: Any, *error: Any) -> None:
-    """Ends the connection behind the calls before, also where it is cancelled meanwhile."""
+    """Ends the connection after the earlier calls, even if it is cancelled meanwhile."""
     if not self._worker.is_over:
         ending = asyncio.ensure_future(self._worker.do(self._thing.close))
         await asyncio.sleep(0)
@@ -259,7 +259,7 @@ User: Any = type("User", (Wrapped,), {**_wrapping(users.User), "close": _left, "
 
 
 class Connecting:
-    """A connection that is awaited, or that an `async with` begins and ends."""
+    """A connection to await, or to open and close by `async with`."""
 
     def __init__(self, call: Callable[..., Any], arguments: Any, named: Dict[str, Any]):
         self._call = functools.partial(call, *arguments, **named)

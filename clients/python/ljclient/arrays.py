@@ -1,6 +1,6 @@
-"""Lists of coordinates: arrays of numpy where it is installed, else lists of tuples.
+"""Lists of coordinates: numpy arrays if numpy is installed, else lists of tuples.
 
-Type checkers are told of arrays alone: `FloatArray` is an `NDArray[float64]`, and `IntArray` an `NDArray[int64]`.
+Type checkers see arrays only: `FloatArray` is an `NDArray[float64]`, and `IntArray` an `NDArray[int64]`.
 """
 from __future__ import annotations
 
@@ -28,7 +28,7 @@ LONG_TEXT = 10_000
 
 
 def __getattr__(name: str) -> Any:
-    """`numpy`, or None if it is not installed. It is imported when it is first asked for, which takes as long as all else."""
+    """`numpy`, or None if it is not installed. It is imported at first access, which takes as long as the rest of this package."""
     if name != "numpy":
         raise AttributeError(f"module {__name__!r} has no attribute {name!r}")
     # By its name, so that types are the same where it is installed and where not.
@@ -45,13 +45,13 @@ def _numpy() -> Any:
 
 
 def of_places(places: List[Tuple[int, int, int]]) -> IntArray:
-    """Places in ring units: an array of shape (atoms, 3) and whole numbers of 64 bits, or the list itself."""
+    """Places in ring units: an int64 array of shape (atoms, 3), or the list itself."""
     numpy = _numpy()
     return cast(IntArray, places if numpy is None else numpy.array(places, dtype=numpy.int64).reshape(-1, 3))
 
 
 def of_positions(places: Any, edge: float) -> FloatArray:
-    """Positions in the unit of the edge, of what `of_places` gives: an array of shape (atoms, 3), or a list of tuples."""
+    """Positions in the unit of the edge, from the result of `of_places`: an array of shape (atoms, 3), or a list of tuples."""
     numpy = _numpy()
     if numpy is None:
         return cast(FloatArray, [tuple(coordinate * edge / RING for coordinate in place) for place in places])
@@ -59,7 +59,7 @@ def of_positions(places: Any, edge: float) -> FloatArray:
 
 
 def millionths(positions: Any) -> Any:
-    """How many millionths each position is, of numbers of six decimals: whole numbers, as of places."""
+    """Positions with six decimals in millionths: whole numbers, in the form of places."""
     numpy = _numpy()
     if numpy is None:
         return [tuple(round(part * 10**6) for part in position) for position in positions]
@@ -67,16 +67,16 @@ def millionths(positions: Any) -> Any:
 
 
 def part_in_box(part: Any, nanos: int) -> Any:
-    """As `in_box`, of one coordinate of a place, in whole numbers of Python."""
+    """As `in_box`, for one coordinate of a place, in Python integers."""
     return part * nanos // (RING * 1000)
 
 
 def in_box(places: Any, nanos: int) -> Any:
-    """How many millionths the server dumps of places in a box whose edge is so many 10^-9: `place * nanos / (2^32 * 1000)`, rounded
-    down. Whole numbers, as of places.
+    """The millionths that the server dumps for places in a box of edge `nanos` * 10^-9: `place * nanos / (2^32 * 1000)`, rounded
+    down. Whole numbers, in the form of places.
 
     A place is below 2^32, and the edge has two halves of 32 bits. So each product is below 2^64, and so is their sum, since it
-    is at most the edge. An edge of more bits, which no server takes, is multiplied in whole numbers of Python.
+    is at most the edge. An edge of more bits, which no server accepts, is multiplied in Python integers.
     """
     numpy = _numpy()
     if numpy is None:
@@ -89,7 +89,7 @@ def in_box(places: Any, nanos: int) -> Any:
 
 
 def of_millionths(parts: Any) -> Any:
-    """Positions of so many millionths: an array of floats, or a list of tuples."""
+    """Positions from millionths: an array of floats, or a list of tuples."""
     numpy = _numpy()
     if numpy is None:
         return [tuple(part / 10**6 for part in each) for each in parts]
@@ -97,7 +97,7 @@ def of_millionths(parts: Any) -> Any:
 
 
 def listed(places: Any) -> List[Any]:
-    """Places as a list, whose numbers are those of Python."""
+    """Places as a list, with Python numbers."""
     return list(places.tolist() if hasattr(places, "tolist") else places)
 
 
@@ -107,19 +107,19 @@ def greatest(places: Any) -> int:
 
 
 def stacked(things: List[Any]) -> Any:
-    """Positions, or frames of coordinates, as one array with an axis more, or the list itself."""
+    """Positions, or frames of coordinates, as one array with one more axis, or the list itself."""
     numpy = _numpy()
     return things if numpy is None else numpy.array(things)
 
 
 def scaled(images: Any, unit: float) -> FloatArray:
-    """Differences in this unit: an array of floats, or a list of tuples."""
+    """Differences multiplied by this unit: an array of floats, or a list of tuples."""
     numpy = _numpy()
     return cast(FloatArray, [tuple(part * unit for part in image) for image in images] if numpy is None else images * unit)
 
 
 def count_of_lines(text: bytes) -> int:
-    """How many line ends a text has. Those of a long one are counted by numpy, which takes a tenth of the time, if it is imported."""
+    """The number of line ends in a text. In a long text numpy counts them, if it is imported, in a tenth of the time."""
     numpy = globals().get("numpy")
     if numpy is None or len(text) < LONG_TEXT:
         return text.count(b"\n")
@@ -127,8 +127,8 @@ def count_of_lines(text: bytes) -> int:
 
 
 def has_others(text: bytes, plain: bytes) -> bool:
-    """Whether a text has other bytes than the plain ones: printing characters of ASCII, and ends of lines. Those of a long one are
-    looked at by numpy, if it is imported: less that of a blank, a printing character is at most 94."""
+    """Whether a text has bytes other than the plain ones: printable ASCII characters, and line ends. A long text is checked by
+    numpy, if it is imported: a printable character minus a blank is at most 94."""
     numpy = globals().get("numpy")
     if numpy is None or len(text) < LONG_TEXT:
         return bool(text.translate(None, plain))
@@ -146,12 +146,12 @@ def added(images: Any, others: Any) -> Any:
 
 
 def farthest(images: Any) -> Any:
-    """The greatest difference along an axis, by its amount."""
+    """The greatest absolute difference along an axis."""
     return abs(images).max() if hasattr(images, "max") else max(abs(part) for image in images for part in image)
 
 
 def least_images(places: Rows, others: Rows) -> IntArray:
-    """The differences `places - others` round the box the nearer way.
+    """The differences `places - others`, by the shorter way around the box.
 
     Parameters
     ----------
@@ -172,7 +172,7 @@ def least_images(places: Rows, others: Rows) -> IntArray:
 
 
 def distance(places: Rows, others: Rows) -> float:
-    """The root mean square distance of atoms between two lists of places, each round the box the nearer way.
+    """The root mean square distance of atoms between two lists of places, each by the shorter way around the box.
 
     Parameters
     ----------

@@ -1,4 +1,4 @@
-"""ASE's way of molecular dynamics: `ReversibleVerlet`, a driver like those of `ase.md` whose motion is turned back exactly.
+"""Molecular dynamics for ASE: `ReversibleVerlet`, a driver like those of `ase.md` whose motion can be reversed exactly.
 
     from ase import units
     from ase.build import bulk
@@ -12,7 +12,7 @@
         dyn.reverse()
         dyn.run(1000)
 
-Numbers are in the units of ASE. An import of this module without ASE is a `Missing` error.
+Numbers are in the units of ASE. Importing this module without ASE raises `Missing`.
 """
 from __future__ import annotations
 
@@ -47,10 +47,10 @@ class ReversibleVerlet(_Driver):  # type: ignore[misc]
 
     `attach`, `run`, `irun`, `step`, `nsteps` and `get_time` are as in ASE. Attached functions are called at their intervals; the steps
     between are made by commands of at most 100 steps. When a function is called, the atoms have the positions and momenta of the step,
-    and energy and forces by a `SinglePointCalculator`. Positions continue outside the cell if atoms leave it.
+    and a `SinglePointCalculator` with energy and forces. Positions continue outside the cell if atoms leave it.
 
     If your script changes the atoms between two steps, for example by `MaxwellBoltzmannDistribution`, they are loaded again before the
-    next step. A reversed run returns to this change at most. A constraint that is added on the way raises a ValueError at the next step.
+    next step. A reversed run goes back no further than this change. A constraint that is added later raises a ValueError at the next step.
 
     Parameters
     ----------
@@ -152,7 +152,7 @@ class ReversibleVerlet(_Driver):  # type: ignore[misc]
         Returns
         -------
         iterator of bool
-            One for each step.
+            False before the first step and after each step, then True.
         """
         return self._going(steps, 1)
 
@@ -184,7 +184,7 @@ class ReversibleVerlet(_Driver):  # type: ignore[misc]
         self._show()
 
     def _going(self, steps: int, most: int) -> Iterator[bool]:
-        """Makes steps, and stops where something attached is called, and after so many steps at the latest."""
+        """Makes steps, and yields where attached functions are called, and after at most `most` steps."""
         self.max_steps = self.nsteps + count_of(steps, "the number of steps")
         self._take_up()
         yield False
@@ -199,7 +199,7 @@ class ReversibleVerlet(_Driver):  # type: ignore[misc]
         yield True
 
     def _advance(self, count: int) -> None:
-        """Makes so many steps. If they are broken off, those that were made count, and the atoms are as the session is."""
+        """Makes `count` steps. If they are interrupted, finished steps count, and the atoms are updated from the session."""
         start = self.session.get_step()
         try:
             self.session.advance(count)
@@ -209,21 +209,21 @@ class ReversibleVerlet(_Driver):  # type: ignore[misc]
                 self._show()
 
     def _steps_to_call(self) -> int:
-        """How many steps there are until something attached is called, or until the end."""
+        """The number of steps until an attached function is called, or until the end."""
         stops = [self.max_steps]
         for _, interval, *_ in self.observers:
             stops.append((self.nsteps // interval + 1) * interval if interval > 0 else -interval)
         return int(min(stop for stop in stops if stop > self.nsteps) - self.nsteps)
 
     def _steps_within_reach(self) -> int:
-        """In how many steps the fastest atom goes an eighth of the cell, so that it is clear which way round each has gone."""
+        """The number of steps in which the fastest atom moves an eighth of the cell, so that unwrapping is unambiguous."""
         farthest = float(abs(self.atoms.get_velocities()).max()) * self.dt
         return max(1, int(self.session.edge / max(8 * farthest, self.session.edge / MOST_STEPS)))
 
     def _load(self) -> None:
-        """Loads the atoms as they are: at rest, and then with displacements that give them their momenta at this step.
+        """Loads the atoms at rest, and then adds the displacements that give them their momenta at this step.
 
-        The displacement before a step is `v dt` without half of the push that the step has, which three frames at rest tell.
+        The displacement before a step is `v dt` minus half of the step's push, which is read from three frames at rest.
         """
         atoms, name = self.atoms, self._name
         at_rest, symbols = _checked(atoms).copy(), atoms.get_chemical_symbols()
@@ -245,7 +245,7 @@ class ReversibleVerlet(_Driver):  # type: ignore[misc]
         self._show()
 
     def _show(self) -> None:
-        """Has the atoms be as the session is."""
+        """Updates the atoms from the session."""
         atoms, frame = self.atoms, next(self.session.frames([0]))
         atoms.set_positions((self._start + self._path.to(frame.places)) * self.session.edge / RING)
         atoms.set_masses([self._words["mass"]] * len(atoms))
@@ -255,9 +255,9 @@ class ReversibleVerlet(_Driver):  # type: ignore[misc]
         self._shown = atoms.copy()
 
     def _take_up(self) -> None:
-        """Loads the atoms again if they are no longer as they were shown. Whole cells, as of `atoms.wrap()`, are no change.
+        """Loads the atoms again if they have changed since `_show`. Shifts by whole cells, as by `atoms.wrap()`, are no change.
 
-        ValueError if they have constraints by now, or a cell that is not periodic.
+        Raises ValueError if they now have constraints, or a cell that is not periodic.
         """
         atoms, shown, edge = _checked(self.atoms), self._shown, self.session.edge
         if all(numpy.array_equal(*map(read, (atoms, shown))) for read in KEPT):

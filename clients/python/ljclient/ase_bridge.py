@@ -1,4 +1,4 @@
-"""Between sessions and `Atoms` of ASE, where ASE is installed."""
+"""Conversion between sessions and ASE's `Atoms`, if ASE is installed."""
 from __future__ import annotations
 
 import importlib
@@ -16,7 +16,7 @@ TWO_SPECIES = "of two species species=, first= and second= (sigma, epsilon), and
 
 
 def potential_of(said: Dict[str, Any]) -> Dict[str, Any]:
-    """The words of these that say how atoms interact, of one species or of two. Raises ValueError if they are neither."""
+    """The given arguments of the potential, for one species or for two. Raises ValueError if they fit neither."""
     words = {name: value for name, value in said.items() if value is not None}
     two = {"species", "first", "second"}
     if words.keys() != {"sigma", "epsilon"} and not two <= words.keys() <= {*two, "mixed"}:
@@ -27,7 +27,7 @@ def potential_of(said: Dict[str, Any]) -> Dict[str, Any]:
 
 
 def is_atoms(source: Any) -> bool:
-    """Whether this is an `Atoms` of ASE, or speaks like one."""
+    """Whether this is an `Atoms` of ASE, or has the same methods."""
     return all(hasattr(source, name) for name in ("get_chemical_symbols", "get_positions", "get_cell"))
 
 
@@ -41,7 +41,7 @@ def edge_of(atoms: Any) -> float:
 
 
 def velocities_of(atoms: Any) -> Optional[List[List[float]]]:
-    """The velocities of an `Atoms`, in angstrom per femtosecond. None where all its atoms are at rest."""
+    """The velocities of an `Atoms`, in angstrom per femtosecond. None if all its atoms are at rest."""
     read = getattr(atoms, "get_velocities", None)
     told = None if read is None else read()
     velocities = [] if told is None else [[float(part) / TIME_UNIT for part in velocity] for velocity in told]
@@ -49,10 +49,10 @@ def velocities_of(atoms: Any) -> Optional[List[List[float]]]:
 
 
 def elements_of(symbols: Sequence[str], species: Sequence[str], replacements: Optional[Replacements]) -> List[str]:
-    """The element of each atom: its symbol, or what is to stand in its place.
+    """The element of each atom: its symbol, or the replacement of its symbol.
 
-    Raises ValueError if ASE does not know one of them. Without replacements it is one too if ASE does not know one of the
-    symbols and species: beside a species A, B is not boron.
+    Raises ValueError if ASE does not know one of them. Without replacements, ASE must know all symbols and all species:
+    beside a species A, B is not boron.
     """
     elements = importlib.import_module("ase.data").atomic_numbers
     names = list(symbols) if replacements is None else replaced(symbols, replacements)
@@ -70,8 +70,8 @@ def elements_of(symbols: Sequence[str], species: Sequence[str], replacements: Op
 def atoms_of(symbols: Sequence[str], now: Places, before: Places, scale: Scale) -> Any:
     """A frame as an `Atoms`: positions in the unit of the file, in a periodic cubic cell.
 
-    Its step and time are in `info`. With epsilon and mass it has the mass of each atom, and the momenta by which it came here
-    from the frame before.
+    Its step and time are in `info`. With epsilon and mass it has the mass of each atom, and the momenta of the step from the
+    frame before to this one.
     """
     moved = arrays.least_images(now.places, before.places)
     velocities = arrays.scaled(moved, scale.edge / (RING * scale.time(1)))
@@ -79,9 +79,9 @@ def atoms_of(symbols: Sequence[str], now: Places, before: Places, scale: Scale) 
 
 
 def made(symbols: Sequence[str], positions: Any, velocities: Any, step: int, scale: Scale) -> Any:
-    """An `Atoms` of a step, with positions in the unit of the file and velocities in this for each unit of time.
+    """An `Atoms` of a step, from positions in the unit of the file and velocities in this unit per unit of time.
 
-    Masses and momenta are those that it has if epsilon and mass are known.
+    It has masses and momenta if epsilon and mass are known.
     """
     ase = importlib.import_module("ase")
     info = {"step": step, "time": scale.time(step)}

@@ -1,4 +1,4 @@
-"""Atoms of MDAnalysis as a source, which speak like `Atoms` of ASE here."""
+"""Atoms of MDAnalysis as a source, with the methods of ASE's `Atoms`."""
 from __future__ import annotations
 
 from typing import Any, List, Optional, Sequence
@@ -10,8 +10,8 @@ PICOSECOND = 1000.0
 
 
 class GroupAtoms:
-    """An `AtomGroup` or a `Universe` of MDAnalysis at its present frame. Its box is that of `dimensions`, its symbols are those of
-    `elements`, else of `types` or `names` if it has them, and its velocities are in angstrom / ps."""
+    """An `AtomGroup` or a `Universe` of MDAnalysis at its present frame. Its box is from `dimensions`. Its symbols are from
+    `elements`, else `types`, else `names`, if it has them. Its velocities are in angstrom / ps."""
 
     def __init__(self, group: Any):
         self._group = group
@@ -27,7 +27,7 @@ class GroupAtoms:
         return [list(map(float, place)) for place in self._group.positions]
 
     def get_cell(self) -> List[List[float]]:
-        """The cell. ValueError if the frame has no box, or one that is not rectangular."""
+        """The cell. Raises ValueError if the frame has no box, or one that is not rectangular."""
         sides: Optional[Sequence[float]] = self._group.dimensions
         if sides is None or any(abs(float(angle) - 90) > 1e-3 for angle in sides[3:]):
             raise ValueError(f"the box of the atoms must be along the axes, got {shortened(sides)}; use edge=")
@@ -41,7 +41,7 @@ class GroupAtoms:
 
 
 def adapted(source: Any) -> Any:
-    """A source as it is, and atoms of MDAnalysis as what speaks like `Atoms` of ASE."""
+    """Atoms of MDAnalysis as `GroupAtoms`, and any other source unchanged."""
     if all(hasattr(source, name) for name in ("atoms", "universe", "dimensions")):
         return GroupAtoms(source.atoms)
     return source

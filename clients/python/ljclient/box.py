@@ -1,7 +1,7 @@
-"""Which box the server has a session in: that of the user, or the one that shows each ring unit.
+"""The box in which the server has a session: the user's box, or the one that shows each ring unit.
 
-Another connection may have loaded the session, and no command tells its edge. But SHOW tells the place of an atom and DUMP
-its coordinates, and these two tell the edge.
+Another connection may have loaded the session, and no command returns its edge. But SHOW returns the place of an atom and
+DUMP its coordinates, and these two give the edge.
 """
 from __future__ import annotations
 
@@ -21,27 +21,27 @@ if TYPE_CHECKING:
 
 
 class Seen(NamedTuple):
-    """An atom as the server tells it: its place by SHOW, and its coordinates in millionths by DUMP."""
+    """An atom at the server: its place from SHOW, and its coordinates in millionths from DUMP."""
 
     place: Place
     dumped: Tuple[int, ...]
 
     def fits(self, edge: Number) -> bool:
-        """Whether the atom would be dumped so in a box of this edge."""
+        """Whether DUMP would give these coordinates in a box of this edge."""
         nanos = nano(edge)
         return tuple(arrays.part_in_box(part, nanos) for part in self.place) == self.dumped
 
     def edge(self) -> str:
-        """The edge of the box, with as many digits as are known. The atom is not at 0, where each edge fits."""
+        """The edge of the box, with as many digits as are known. The atom must not be at 0, where any edge fits."""
         dumped = max(self.dumped)
         edge = (dumped + 0.5) / MILLION * RING / max(self.place)
         return f"{float(f'{edge:.{max(1, len(str(dumped)) - 1)}g}'):.12g}"
 
 
 def take_up(user: "Loader", name: str, scale: Optional[Scale], order: Union[Order, Sequence[int], None]) -> None:
-    """Has a session at the server be known by what is said of it, and by the box in which the server has it.
+    """Stores the scale and the order given for a session at the server, and the box in which the server has it.
 
-    The box is looked for if an edge is said that is not known yet, or an order of the box that shows each ring unit.
+    The box is determined if an edge is given that is not known yet, or an order of the box that shows each ring unit.
     Raises ValueError, and changes nothing, if the server has the session in another box than these.
     """
     known = user._known_of(name)
@@ -63,7 +63,7 @@ def take_up(user: "Loader", name: str, scale: Optional[Scale], order: Union[Orde
 
 
 def certain(user: "Loader", name: str, order: Order) -> Order:
-    """An order without its doubt: which of both the session has is told by the place of an atom. ValueError if neither."""
+    """An order whose doubt is resolved by the place of an atom. Raises ValueError if neither order fits."""
     doubt = order.doubt
     if doubt is None:
         return order
@@ -76,14 +76,14 @@ def certain(user: "Loader", name: str, order: Order) -> Order:
 
 
 def settle(user: "Loader", name: str) -> None:
-    """Looks once more for the box of a session, where its atoms have not told it yet."""
+    """Determines the box of a session again, if it is still open."""
     known = user._known_of(name)
     if known.is_box_open:
         take_up(user, name, known.scale, None)
 
 
 def checked_ring(name: str, seen: Seen) -> bool:
-    """Raises ValueError if an atom is not in the box that shows each ring unit, in which its order has it."""
+    """True if an atom is in the box that shows each ring unit, as its order says; else raises ValueError."""
     if not seen.fits(RING_EDGE):
         raise ValueError(
             f"the order must be one of a box whose edge is about {seen.edge()} at the server, as that of {name} is, got {RING_EDGE}; "
@@ -93,9 +93,9 @@ def checked_ring(name: str, seen: Seen) -> bool:
 
 
 def box_of(name: str, seen: Seen, edge: float) -> Tuple[bool, bool]:
-    """Whether an atom is in the box that shows each ring unit, and whether that is open, since a box of this edge fits too.
+    """Whether an atom is in the box that shows each ring unit, and whether this is open because a box of this edge fits too.
 
-    As long as it is open, both boxes have the whole frame at the same coordinates.
+    As long as it is open, the whole frame has the same coordinates in both boxes.
     """
     fits = seen.fits(edge)
     on_ring = seen.fits(RING_EDGE) and nano(edge) != nano(RING_EDGE)
@@ -106,7 +106,7 @@ def box_of(name: str, seen: Seen, edge: float) -> Tuple[bool, bool]:
 
 
 def warn_of_numbers(name: str, said: Order) -> None:
-    """Warns that numbers are the server's, unless an order says the user's."""
+    """Warns that numbers are the server's, unless an order gives the user's."""
     if (said.step, said.direction) != (0, 1):
         return
     what = "steps" if said.numbers else "atoms and steps"
@@ -117,9 +117,9 @@ def warn_of_numbers(name: str, said: Order) -> None:
 
 
 def seen_atom(user: "Loader", name: str) -> Seen:
-    """The atom that has the greatest coordinate, which tells the edge best.
+    """The atom with the greatest coordinate, which gives the edge most exactly.
 
-    Both commands tell the same step: DUMP waits for the steps that were started, and SHOW comes after it.
+    Both commands are for the same step: DUMP waits for the steps that were started, and SHOW comes after it.
     """
     _, positions = frames.dumped_positions(user, name)
     dumped = arrays.listed(arrays.millionths(positions))

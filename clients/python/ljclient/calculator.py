@@ -1,4 +1,4 @@
-"""An ASE calculator, and a driver for i-PI: energies, forces and stresses of Lennard-Jones atoms by the program's own table.
+"""An ASE calculator, and a driver for i-PI: energies, forces and stresses of Lennard-Jones atoms from the program's own table.
 
     from ase.build import bulk
     from ase.optimize import BFGS
@@ -10,7 +10,7 @@
     with Ljserve(sigma=3.4, epsilon=119.8 * units.kelvin) as atoms.calc:
         BFGS(atoms).run(fmax=0.01)
 
-Numbers are in the units of ASE. An import of this module without ASE is a `Missing` error.
+Numbers are in the units of ASE. Importing this module without ASE raises `Missing`.
 """
 from __future__ import annotations
 
@@ -129,7 +129,7 @@ class Ljserve(_Base):  # type: ignore[misc]
             self.results["stress"] = _voigt(-tensor * unit / session.edge**3)
 
     def _loaded(self) -> Session:
-        """The session of the atoms as they are, at rest."""
+        """The new session of the present atoms, at rest."""
         atoms = _checked(self.atoms)
         if self._user is None:
             self._user = run()
@@ -187,7 +187,7 @@ def drive(
 
 
 def _words_of(potential: Dict[str, Any]) -> Dict[str, Any]:
-    """The words of `load` or `load_mix` for a potential, with a mass and a time step for forces to be read by."""
+    """The arguments of `load` or `load_mix` for a potential, and for the step by which forces are read."""
     if "sigma" in potential:
         return {**potential, "h": H}
     sigma, epsilon = potential["first"]

@@ -1,7 +1,7 @@
-"""Three frames in a row: the present one and those a step before and after it, of which velocities and forces are differences.
+"""Three consecutive frames: the present one and those a step before and after it. Their differences give velocities and forces.
 
-For the frame before the motion is turned back, and for the frame after a step is made. Both are undone (`guards.look`), and give
-back both frames, the step number and the direction, bit for bit. What is saved in the session stays as it is.
+To read the frame before, the motion is reversed. To read the frame after, a step is made. Both are undone (`guards.look`), which
+restores both frames, the step number and the direction, bit for bit. Saved simulations of the session stay as they are.
 """
 from __future__ import annotations
 
@@ -21,8 +21,8 @@ MAX_STEP = 10**12
 class ThreeFrames(NamedTuple):
     """The places of all atoms a step before, now and a step after, in ring units: arrays of shape (atoms, 3), or lists of tuples.
 
-    step       the step number of the present one
-    direction  1 or -1: by how much a step more changes the step number
+    step       the step number of the present frame
+    direction  1 or -1: the change of the step number by the next step
     """
 
     step: int
@@ -32,25 +32,25 @@ class ThreeFrames(NamedTuple):
     direction: int = 1
 
     def kinetic_after(self) -> int:
-        """The kinetic number of half a step later, as `Measurement.kinetic` is that of half a step ago."""
+        """The kinetic number half a step later, as `Measurement.kinetic` is the one half a step ago."""
         moved = arrays.listed(arrays.least_images(self.after, self.now))
         return sum(part * part for image in moved for part in image)
 
     def velocities(self, scale: Scale) -> arrays.FloatArray:
-        """`(x(n+1) - x(n-1)) / (2 dt)`: in the unit of the file for each femtosecond, or for each unit of time if dt is in none."""
+        """`(x(n+1) - x(n-1)) / (2 dt)`: in the unit of the file per femtosecond, or per unit of time if dt is not in femtoseconds."""
         moved = arrays.added(arrays.least_images(self.now, self.before), arrays.least_images(self.after, self.now))
         return arrays.scaled(moved, scale.edge / (RING * 2 * scale.time(1)))
 
     def forces(self, scale: Scale) -> arrays.FloatArray:
-        """`x(n+1) - 2 x(n) + x(n-1)`, which is what all others push an atom by: in electronvolt / angstrom, or epsilon / unit."""
+        """`x(n+1) - 2 x(n) + x(n-1)`, the push on each atom by all others: in electronvolt / angstrom, or epsilon / unit."""
         pushes = arrays.least_images(arrays.least_images(self.after, self.now), arrays.least_images(self.now, self.before))
         return arrays.scaled(pushes, scale.force(1))
 
 
 def three_frames(user: "User", name: str) -> ThreeFrames:
-    """The three frames of a session, which is then as it was. Its pending steps are done first.
+    """The three frames of a session, which is left as it was. Its pending steps are done first.
 
-    Raises `refusals.StepRange`, and changes nothing, if the session cannot make a step more.
+    Raises `refusals.StepRange`, and changes nothing, if the session cannot make another step.
     """
     wait = f"ADVANCE {name} 0"
     if abs(number_after(wait, user.ask(wait).words, 2)) >= MAX_STEP:

@@ -1,4 +1,4 @@
-"""What changes a session, but for steps."""
+"""The methods that change a session, except for steps."""
 from __future__ import annotations
 
 from typing import TYPE_CHECKING, Sequence, Union
@@ -16,7 +16,7 @@ else:
 
 
 class Changes(Looks):
-    """The methods of a session that change it, and those that keep what it was."""
+    """The methods of a session that change it or save it."""
 
     __slots__ = ()
 
@@ -136,7 +136,7 @@ class Changes(Looks):
         self._user._known_of(self.name).branches.pop(name, None)
 
     def resort(self) -> None:
-        """Sorts the atoms in space at the server, where steps of many atoms then take less time. Their numbers here stay.
+        """Sorts the atoms in space at the server, so that steps of many atoms take less time. The client keeps their numbers.
 
         With `load(.., order="space")`, `advance` sorts them every 250 steps. Atoms of the same symbol change places by tugs, so the
         session, its box and its step numbers stay.

@@ -1,7 +1,7 @@
 """Files of saved sessions: readable text, in which a check on each line shows damage.
 
 The first line is the head, and the last is `end`. Each line below the head begins with the CRC-32 of all text up to its
-own end, without the digits of the checks. So the first line that was changed is known.
+own end, without the digits of the checks. So the first changed line is known.
 """
 from __future__ import annotations
 
@@ -36,16 +36,16 @@ UNITS = ("epsilon", "mass")
 
 
 def write(state: State, path: Path) -> None:
-    """Writes a state to a file. An older file of that name stays until the new one is whole.
+    """Writes a state to a file. An older file of that name stays until the new one is complete.
 
-    Raises ValueError if something is there that is neither a saved session nor an empty file: it stays as it is.
+    Raises ValueError, and changes nothing, if the path has something other than a saved session or an empty file.
     """
     check_may_be_replaced(path)
     write_whole(path, text_of(state).encode("ascii"))
 
 
 def check_may_be_replaced(path: Path) -> None:
-    """Raises ValueError if something is there that is neither a saved session nor an empty file."""
+    """Raises ValueError if the path has something other than a saved session or an empty file."""
     try:
         with open(checked_target(path), "rb") as file:
             head = file.read(len(FAMILY))
@@ -67,7 +67,7 @@ def text_of(state: State) -> str:
 
 
 def _check_of(line: str, above: int) -> int:
-    """The check of a line below the text that has this one."""
+    """The check of a line below text with the check `above`."""
     return zlib.crc32(line.encode("ascii") + b"\n", above)
 
 
@@ -94,7 +94,7 @@ def _atoms_of(state: State) -> Iterator[str]:
 
 
 def read(path: Path) -> State:
-    """The state that a file has. Raises `Damaged`, with the line, if the file is not as it was written."""
+    """The state in a file. Raises `Damaged`, with the line, if the file is not as it was written."""
     with open(path, "rb") as file:
         data = file.read(MAX_SIZE + 1)
     reader = _Reader(os.fspath(path))
@@ -111,7 +111,7 @@ class _Reader:
         self._at = 0
 
     def check(self, data: bytes) -> None:
-        """Takes the lines below the head, each without its check."""
+        """Checks the lines below the head, and keeps them without checks."""
         head, *rows = data.split(b"\n")
         if head != HEAD.encode():
             raise self._damaged(f"a saved session must begin with `{HEAD}`")
@@ -128,7 +128,7 @@ class _Reader:
         raise self._damaged("the file ends too early")
 
     def state(self) -> State:
-        """The state that the lines tell."""
+        """The state in the lines."""
         name = self._shaped(self._pairs(("session",))["session"], NAME)
         moved = self._pairs(("step", "direction"))
         step, direction = self._whole(moved["step"], -MAX_STEP, MAX_STEP), int(self._shaped(moved["direction"], DIRECTION))
@@ -144,7 +144,7 @@ class _Reader:
         return State(name, classes[0], mixture, step, direction, symbols, places, before, is_sorted)
 
     def _next(self) -> str:
-        """The next line. The last one is `end`, which is not of the kinds before."""
+        """The next line; at the end always `end`, which fits no other kind."""
         self._at += 1
         return self._lines[min(self._at, len(self._lines)) - 1]
 
@@ -152,7 +152,7 @@ class _Reader:
         return self._lines[min(self._at, len(self._lines) - 1)].startswith(name + " ")
 
     def _pairs(self, names: Sequence[str], more: Sequence[str] = ()) -> Dict[str, str]:
-        """The words of the next line, each behind its name: these names, and after them some of others."""
+        """The words of the next line by their names: all of `names`, and then any of `more`."""
         words = self._next().split(" ")
         told = dict(zip(words[::2], words[1::2]))
         if tuple(told)[: len(names)] != tuple(names) or not set(told) <= {*names, *more} or 2 * len(told) != len(words):

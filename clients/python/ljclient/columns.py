@@ -1,4 +1,4 @@
-"""The columns of extended XYZ, which its comment line names, and the velocities of atoms that stand in them."""
+"""The columns of extended XYZ, which its comment line names, and the velocities of atoms in them."""
 from __future__ import annotations
 
 import itertools
@@ -17,7 +17,7 @@ MOMENTA, MASSES = "momenta", "masses"
 
 
 class Column(NamedTuple):
-    """Words of each atom's line: from this one on, so many, of the kind R (real), I (whole), S (a word) or L (true or false)."""
+    """Words of an atom's line: the index of the first, their kind R (real), I (whole), S (a word) or L (true or false), and their count."""
 
     start: int
     kind: str
@@ -25,18 +25,18 @@ class Column(NamedTuple):
 
 
 class Velocities(NamedTuple):
-    """The velocities that a text tells, in angstrom / femtosecond, and the column that has them."""
+    """The velocities in a text, in angstrom / femtosecond, and the name of their column."""
 
     column: str
     values: List[List[float]]
 
 
 def velocities_of(body: bytes, mass: float) -> Optional[Velocities]:
-    """The velocities of the first frame of extended XYZ text. None where it has none, and where all are 0.
+    """The velocities of the first frame of extended XYZ text. None if it has none, or if all are 0.
 
-    mass  that of an atom in dalton, by which momenta are divided if the text has no column `masses`
+    mass  the mass of an atom in dalton; momenta are divided by it if the text has no column `masses`
 
-    Raises ValueError if the first columns are not what the server reads, or if an atom has no numbers in these columns.
+    Raises ValueError if the first columns are not those that the server reads, or if an atom has no numbers in the columns used here.
     """
     comment, rows = _frame_of(body)
     columns = columns_of(comment)
@@ -52,9 +52,9 @@ def velocities_of(body: bytes, mass: float) -> Optional[Velocities]:
 
 
 def columns_of(comment: bytes) -> Dict[str, Column]:
-    """The columns that the comment line of extended XYZ names. None of them if it names none.
+    """The columns that the comment line of extended XYZ names; an empty dict if it names none.
 
-    Raises ValueError if the first ones are not a symbol and three coordinates, which is what the server reads.
+    Raises ValueError if the first columns are not the symbol and three coordinates that the server reads.
     """
     told = PROPERTIES.search(comment)
     if told is None:
@@ -71,7 +71,7 @@ def columns_of(comment: bytes) -> Dict[str, Column]:
 
 
 def without_columns(body: bytes) -> bytes:
-    """A text whose first comment line names no columns, so that its atoms are at rest."""
+    """The text with no columns named in its first comment line, so that its atoms are at rest."""
     comment, _ = _frame_of(body)
     return body.replace(comment, PROPERTIES.sub(b"", comment), 1) if comment else body
 
@@ -87,7 +87,7 @@ def _frame_of(body: bytes) -> Tuple[bytes, List[bytes]]:
 
 
 def _numbers(rows: Sequence[bytes], name: str, column: Column, count: int) -> List[List[float]]:
-    """The numbers that each atom has in a column of so many. Raises ValueError if it has others, or another count."""
+    """The numbers of each atom in a column of this width. Raises ValueError for other words, or another width."""
     if column.kind not in ("R", "I") or column.width != count:
         raise ValueError(f"a column {name} must be {name}:R:{count}, got {name}:{column.kind}:{column.width}")
     numbers = []

@@ -1,4 +1,4 @@
-"""Atoms to begin with, at rest in a cubic box: lattices, slabs, droplets and mixtures, and a relaxation of overlapping atoms."""
+"""Starting configurations, at rest in a cubic box: lattices, slabs, droplets and mixtures, and a relaxation of overlapping atoms."""
 from __future__ import annotations
 
 import dataclasses
@@ -29,7 +29,7 @@ BLOCK = 512
 
 @dataclasses.dataclass(frozen=True, eq=False)
 class Configuration:
-    """Atoms at rest in a cubic box, as a source of `User.load` and `User.load_mix`.
+    """Atoms at rest in a cubic box, as a source for `User.load` and `User.load_mix`.
 
     Attributes
     ----------
@@ -50,16 +50,16 @@ class Configuration:
 
     @property
     def n_atoms(self) -> int:
-        """How many atoms there are."""
+        """The number of atoms."""
         return len(self.positions)
 
     @property
     def density(self) -> float:
-        """How many atoms there are for each sigma^3 of the box."""
+        """The number of atoms per sigma^3 of the box."""
         return self.n_atoms * (self.sigma / self.edge) ** 3
 
     def get_chemical_symbols(self) -> List[str]:
-        """The symbol of each atom, as of `Atoms` of ASE.
+        """The symbol of each atom, as in ASE's `Atoms`.
 
         Returns
         -------
@@ -69,7 +69,7 @@ class Configuration:
         return list(self.symbols)
 
     def get_positions(self) -> List[Position]:
-        """The positions, as of `Atoms` of ASE.
+        """The positions, as in ASE's `Atoms`.
 
         Returns
         -------
@@ -79,7 +79,7 @@ class Configuration:
         return list(self.positions)
 
     def get_cell(self) -> List[List[float]]:
-        """The cell, as of `Atoms` of ASE.
+        """The cell, as in ASE's `Atoms`.
 
         Returns
         -------
@@ -97,19 +97,19 @@ def lattice(
     Parameters
     ----------
     kind : {"fcc", "bcc", "sc", "random"}
-        The lattice: face-centred, body-centred or simple cubic. Atoms at random are relaxed: no two are nearer than 0.9 sigma.
+        The lattice: face-centred, body-centred or simple cubic. Random atoms are relaxed: no two are nearer than 0.9 sigma.
     density : float
-        How many atoms there are for each sigma^3; with `mass`, grams in a cubic centimetre.
+        The number of atoms per sigma^3; with `mass`, grams per cubic centimetre.
     atoms : int
-        How many atoms: 4 n^3 for "fcc", 2 n^3 for "bcc" and n^3 for "sc", of any whole number n.
+        The number of atoms: 4 n^3 for "fcc", 2 n^3 for "bcc" and n^3 for "sc", with a whole number n.
     sigma : float, optional
-        The length of the potential, in the unit that positions are to have: 1 in reduced units, 3.4 for argon in angstrom.
+        The length of the potential, in the unit of the positions: 1 in reduced units, 3.4 for argon in angstrom.
     mass : float, optional
-        The mass of an atom in dalton. Sigma is in angstrom then.
+        The mass of an atom in dalton. With it, sigma is in angstrom.
     symbol : str, optional
         The symbol of all atoms.
     seed : int, optional
-        Of atoms at random; the same seed gives the same ones.
+        The same seed gives the same random atoms.
 
     Returns
     -------
@@ -119,7 +119,7 @@ def lattice(
     Raises
     ------
     ValueError
-        If there is no such lattice, or none of so many atoms, or no room for atoms at random.
+        If there is no such lattice, `atoms` does not fit it, or there is no room for random atoms.
 
     Examples
     --------
@@ -147,11 +147,11 @@ def slab(kind: str, *, density: float, edge: float, thickness: float, sigma: flo
     kind : {"fcc", "bcc", "sc"}
         The lattice.
     density : float
-        How many atoms there are for each sigma^3 of the slab.
+        The number of atoms per sigma^3 of the slab.
     edge : float
-        The edge of the box, in the unit of sigma. The box has the nearest whole number of cells of the lattice along x and y.
+        The edge of the box, in the unit of sigma. It is rounded to a whole number of lattice cells along x and y.
     thickness : float
-        How thick the slab is along z, in the unit of sigma: the nearest whole number of cells, and less than the edge.
+        The thickness of the slab along z, in the unit of sigma, rounded to a whole number of cells. It is less than the edge.
     sigma : float, optional
         As in `lattice`.
     symbol : str, optional
@@ -160,7 +160,7 @@ def slab(kind: str, *, density: float, edge: float, thickness: float, sigma: flo
     Returns
     -------
     Configuration
-        The atoms, at rest, with the edge of the box that they have.
+        The atoms, at rest, with the rounded edge of the box.
 
     Raises
     ------
@@ -185,7 +185,7 @@ def droplet(kind: str, *, density: float, radius: float, edge: float, sigma: flo
     kind : {"fcc", "bcc", "sc"}
         The lattice.
     density : float
-        How many atoms there are for each sigma^3 of the droplet.
+        The number of atoms per sigma^3 of the droplet.
     radius, edge : float
         The radius of the sphere and the edge of the box, in the unit of sigma. The diameter is less than the edge.
     sigma : float, optional
@@ -216,7 +216,7 @@ def droplet(kind: str, *, density: float, radius: float, edge: float, sigma: flo
 def binary(
     configuration: Configuration, species: Sequence[str], *, fraction: float = 0.5, apart: bool = False, seed: int = 0
 ) -> Configuration:
-    """The same atoms as two species, for `User.load_mix`.
+    """The atoms with symbols of two species, for `User.load_mix`.
 
     Parameters
     ----------
@@ -256,17 +256,17 @@ def binary(
 
 
 def relax(source: Any, closest: float = CLOSEST, sigma: Optional[float] = None) -> Configuration:
-    """Pushes atoms apart that overlap, until no two are nearer than a distance. It needs numpy.
+    """Pushes overlapping atoms apart, until no two are nearer than a distance. It needs numpy.
 
-    Each pair that is closer is pushed apart along the line between both atoms; other atoms stay. A liquid of density 0.85 takes about
+    Each pair that is closer is pushed apart along the line between its atoms; other atoms stay. A liquid of density 0.85 takes about
     ten rounds. The remaining potential energy becomes heat in the first steps, so set the temperature of the session after that.
 
     Parameters
     ----------
     source : Configuration or ase.Atoms
-        The atoms, wherever they are, in a cubic box.
+        The atoms, at any positions, in a cubic box.
     closest : float, optional
-        The distance in sigma.
+        The minimum distance, in sigma.
     sigma : float, optional
         The length of the potential, in the unit of the positions. It is required for `Atoms` of ASE.
 
@@ -278,7 +278,7 @@ def relax(source: Any, closest: float = CLOSEST, sigma: Optional[float] = None) 
     Raises
     ------
     ValueError
-        If there is no room for so many atoms at this distance, or none was found in 2,000 rounds, or sigma is not known.
+        If there is no room for the atoms at this distance, no such positions are found in 2,000 rounds, or sigma is not known.
     """
     numpy, configuration = needed_numpy("a relaxation"), _taken(source, sigma)
     positions, edge = numpy.array(configuration.positions, dtype=float) % configuration.edge, configuration.edge
@@ -298,7 +298,7 @@ def relax(source: Any, closest: float = CLOSEST, sigma: Optional[float] = None) 
 
 
 def _taken(source: Any, sigma: Optional[float]) -> Configuration:
-    """A source as a configuration, of this sigma if it is said."""
+    """A source as a configuration, with this sigma if it is given."""
     if isinstance(source, Configuration):
         return source if sigma is None else dataclasses.replace(source, sigma=scalars.checked_positive("sigma", sigma))
     if not ase_bridge.is_atoms(source):
@@ -311,7 +311,7 @@ def _taken(source: Any, sigma: Optional[float]) -> Configuration:
 
 
 def _pairs(positions: Any, edge: float, reach: float) -> Any:
-    """The pairs of atoms that are nearer than a reach, as two arrays of numbers."""
+    """The pairs of atoms nearer than `reach`, as two arrays of atom numbers."""
     numpy, found = needed_numpy("a relaxation"), []
     for start in range(0, len(positions), BLOCK):
         block = positions[start : start + BLOCK]
@@ -323,13 +323,13 @@ def _pairs(positions: Any, edge: float, reach: float) -> Any:
 
 
 def _image(apart: Any, edge: float) -> Any:
-    """Differences the nearer way round the box."""
+    """The minimum images of differences."""
     return apart - edge * needed_numpy("a relaxation").rint(apart / edge)
 
 
 def _pushes(positions: Any, edge: float, distance: float, pairs: Any, drawn: Any) -> Any:
-    """By how much each atom is pushed by those that are nearer than a distance, each half of what is missing and a bit. None if no
-    atoms are. Atoms at one place are pushed in a direction that is drawn."""
+    """The displacements of atoms away from atoms nearer than a distance: half of the missing distance each, and a bit more. None if no
+    atoms are nearer. Atoms at the same place are pushed in a random direction."""
     numpy = needed_numpy("a relaxation")
     apart = _image(positions[pairs[0]] - positions[pairs[1]], edge)
     lengths = numpy.sqrt((apart**2).sum(axis=1))
@@ -348,7 +348,7 @@ def _pushes(positions: Any, edge: float, distance: float, pairs: Any, drawn: Any
 
 
 def _alike(sites: Sequence[Position], edge: float, sigma: float, symbol: str) -> Configuration:
-    """Atoms of one symbol. ValueError if there is none."""
+    """Atoms of one symbol. Raises ValueError if there are none."""
     scalars.checked_positive("sigma", sigma)
     if not sites:
         raise ValueError("the configuration must have at least one atom, got none; use a greater density or radius")
@@ -363,7 +363,7 @@ def _sites_of(kind: str) -> List[Position]:
 
 
 def _cells_of(kind: str, atoms: int) -> int:
-    """How many cells along each axis have so many atoms. ValueError, which tells what numbers are near, if none has."""
+    """The number of cells along each axis for a number of atoms. Raises ValueError, with the nearest numbers, if none fits."""
     each = len(SITES[kind])
     cells = max(1, round(math.exp(math.log(atoms / each) / 3)))
     if each * cells**3 != atoms:
@@ -373,7 +373,7 @@ def _cells_of(kind: str, atoms: int) -> int:
 
 
 def _filled(basis: Sequence[Position], cell: float, counts: Tuple[int, int, int]) -> List[Position]:
-    """The positions of a lattice of so many cells along each axis, a quarter of a cell inside of the first one's faces."""
+    """The positions of a lattice with these numbers of cells, shifted by a quarter of a cell along each axis."""
     corners: Iterator[Tuple[int, ...]] = itertools.product(*map(range, counts))
     shifted = [(x + 0.25, y + 0.25, z + 0.25) for x, y, z in basis]
     return [(cell * (i + x), cell * (j + y), cell * (k + z)) for i, j, k in corners for x, y, z in shifted]

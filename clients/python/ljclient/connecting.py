@@ -1,4 +1,4 @@
-"""How a user is connected to a server, or to a program of its own."""
+"""Connects a user to a server, or to a program of its own."""
 from __future__ import annotations
 
 import functools
@@ -56,7 +56,7 @@ def connect(
     token : str
         The token of the user; blanks in it are ignored.
     timeout : float, optional
-        How many seconds a connection, or the reply to a command, may take. A long `advance` runs in pieces that are much shorter.
+        The time limit in seconds for a connection, or for the reply to a command. A long `advance` runs in pieces that are much shorter.
     tls : bool, optional
         Whether to encrypt the connection. The server, or the proxy in front of it, needs a certificate with the name `host`.
     ca : path, optional
@@ -95,8 +95,8 @@ def connect(
 
 
 def joined(open_transport: Callable[[float], Transport], name: str, token: str, timeout: float, address: str, retry: float = 0.0) -> User:
-    """A user who is let in over what is opened so within some seconds, at this address, where each reply may take `timeout` seconds.
-    What an earlier connection has left half done is put right (`leftovers`). `retry` is as in `connect`."""
+    """A user at this address, over a transport from `open_transport`, which takes a time limit in seconds. Each reply may take `timeout`
+    seconds. What an earlier connection has left half done is repaired (`leftovers`). `retry` is as in `connect`."""
 
     def open_wire(seconds: float = timeout) -> Wire:
         wire = Wire(open_transport(min(seconds, timeout)), min(seconds, timeout))
@@ -125,7 +125,7 @@ def joined(open_transport: Callable[[float], Transport], name: str, token: str, 
 
 
 def transport_opener(tls: bool, ca: Optional[Path], fingerprint: Optional[str] = None) -> Callable[[str, int, float], Transport]:
-    """What opens a connection, encrypted or not."""
+    """The function that opens a connection, encrypted or not."""
     if ca is not None and fingerprint is not None:
         raise ValueError("cannot use fingerprint= with ca=: a fingerprint names the one certificate that is trusted; use one of them")
     if not tls and fingerprint is None:
@@ -138,7 +138,7 @@ def transport_opener(tls: bool, ca: Optional[Path], fingerprint: Optional[str] =
 
 
 def _greet(wire: Wire, name: str, token: str) -> None:
-    """Says who asks, and waits until this user's earlier connections have ended."""
+    """Sends HELLO, and waits until this user's earlier connections have ended."""
     try:
         reply = wire.ask(f"HELLO {name} {token}")
     except TimedOut as error:

@@ -1,7 +1,7 @@
-"""Lines of atoms with other positions in place of theirs, which numpy writes all at once.
+"""Lines of atoms with replaced positions, which numpy writes all at once.
 
-Each piece of a line is written as one number of eight bytes, and may be shorter: what is too much lies in the pieces after it.
-So all symbols are written first, then the whole numbers, and then the decimals, which are eight bytes with their point and with
+Each piece of a line is written as one number of eight bytes, but may be shorter: the pieces after it overwrite the excess.
+So all symbols are written first, then the whole numbers, and then the decimals, which are eight bytes with their point and
 the blank or line end after them.
 """
 from __future__ import annotations
@@ -22,9 +22,9 @@ LONGEST = 17
 
 
 def lines(text: bytes, rows: Rows, columns: Any, order: Order) -> Optional[bytes]:
-    """The lines of a text, with the millionths of these columns in place of its own, and in the user's order.
+    """The lines of a text, with its numbers replaced by the millionths of these columns, in the user's order.
 
-    None if one of them has more than six digits before its point, or if a symbol is not one that the server takes.
+    None if a number has more than six digits before its point, or if a symbol is not one that the server accepts.
     """
     lengths = rows.blanks - rows.begins
     lengths += 1
@@ -47,7 +47,7 @@ def lines(text: bytes, rows: Rows, columns: Any, order: Order) -> Optional[bytes
 
 
 def _begins(lengths: Any, widths: Any) -> Tuple[Any, Any]:
-    """Where lines begin, and where their points are, whose symbols and whole numbers have so many bytes."""
+    """Where lines begin, and where their points are, by the numbers of bytes of their symbols and whole numbers."""
     points = numpy.empty_like(widths)
     numpy.add(lengths, widths[0], out=points[0])
     for axis in (1, 2):
@@ -61,12 +61,12 @@ def _begins(lengths: Any, widths: Any) -> Tuple[Any, Any]:
 
 
 def _pieces(data: Any) -> Any:
-    """Bytes as numbers of eight of them, of which one begins at each byte."""
+    """Bytes as overlapping numbers of eight bytes, one from each byte on."""
     return numpy.ndarray((data.size - PIECE + 1,), dtype="<u8", buffer=data, strides=(1,))
 
 
 def _whole_pieces(numbers: Any) -> Tuple[Any, Any]:
-    """The digits of whole numbers below 10^6 as pieces, and how many each has."""
+    """The digits of whole numbers below 10^6 as pieces, and the number of digits of each."""
     plain, counts, threes = _tables()
     if numbers.max() < 1000:
         return plain.take(numbers), counts.take(numbers)
@@ -78,8 +78,8 @@ def _whole_pieces(numbers: Any) -> Tuple[Any, Any]:
 
 
 def _decimal_pieces(numbers: Any) -> Any:
-    """Points, and six decimals and what is after them, as pieces: three digits with their point, and three with a blank, which is
-    made a line end in the last column."""
+    """Points, six decimals and the byte after them, as pieces: three digits with their point, and three with a blank, which
+    becomes a line end in the last column."""
     first, last = _decimal_tables()
     thousands = numbers // 1000
     pieces = first.take(thousands)
@@ -91,14 +91,14 @@ def _decimal_pieces(numbers: Any) -> Any:
 
 @functools.lru_cache(maxsize=1)
 def _decimal_tables() -> Tuple[Any, Any]:
-    """Of the numbers below 1000: a point and three digits, and three digits in the places after these and a blank."""
+    """For the numbers below 1000: a point and three digits, and three digits in the bytes after these and a blank."""
     threes = _tables()[2]
     return threes << numpy.uint64(8) | numpy.uint64(ord(".")), threes << numpy.uint64(32) | numpy.uint64(ord(" ") << 56)
 
 
 @functools.lru_cache(maxsize=1)
 def _tables() -> Tuple[Any, Any, Any]:
-    """Of the numbers below 1000: their digits, how many they are, and their digits with zeros before them, three in all."""
+    """For the numbers below 1000: their digits, the number of digits, and three digits with leading zeros."""
     words, threes = [str(number) for number in range(1000)], [f"{number:03}" for number in range(1000)]
     numbers = [[int.from_bytes(word.encode(), "little") for word in each] for each in (words, threes)]
     plain, filled = (numpy.array(each, dtype=numpy.uint64) for each in numbers)

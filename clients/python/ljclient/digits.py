@@ -1,8 +1,7 @@
-"""Whole numbers out of the bytes of many lines, which numpy reads all at once.
+"""Whole numbers from the bytes of many lines, which numpy reads all at once.
 
-A place is found by where it ends: the eight bytes before are taken as one number, and those that stand before its digits count for
-nothing. A position is found by where it ends, too: its point stands six digits before. Little memory is allocated, since that costs
-as much as to compute.
+A place is found by its end: the eight bytes before are taken as one number, and the bytes before its digits are ignored. A position
+is found by its end too: its point is six digits before. Little memory is allocated, since allocation costs as much as computing.
 """
 from __future__ import annotations
 
@@ -18,8 +17,8 @@ MOST_DIGITS = 7
 
 
 def places(text: bytes, head: bytes) -> Optional[Any]:
-    """The numbers and places of atoms, of lines that are this head, of 8 bytes or more, and four whole numbers: an array of shape
-    (4, atoms). None if any line is something else.
+    """The numbers and places of atoms, from lines with this head, of 8 bytes or more, and four whole numbers: an array of shape
+    (4, atoms). None if any line has another form.
     """
     data = numpy.frombuffer(text, dtype=numpy.uint8)
     ends = _last_ends(data, head.count(b" ") + 4)
@@ -40,10 +39,10 @@ def places(text: bytes, head: bytes) -> Optional[Any]:
 
 
 class Rows(NamedTuple):
-    """The lines of atoms, each of a symbol and three numbers of six decimals. All is in columns, which are computed with at once.
+    """The lines of atoms, each of a symbol and three numbers of six decimals. They are in columns, to compute with all at once.
 
-    begins   where the symbol of each line begins, and `blanks` where the blank after it stands
-    columns  how many millionths each number is: an array of shape (3, atoms) and whole numbers of 64 bits
+    begins   where the symbol of each line begins, and `blanks` where the blank after it is
+    columns  the numbers in millionths: an int64 array of shape (3, atoms)
     """
 
     begins: Any
@@ -52,17 +51,17 @@ class Rows(NamedTuple):
 
 
 def positions(text: bytes, start: int, count: int) -> Optional[Any]:
-    """The numbers of the lines of atoms that `rows` reads, an array of shape (atoms, 3): what `float` gives, since their millionths
-    are below 2^53."""
+    """The numbers of the lines of atoms that `rows` reads, an array of shape (atoms, 3). They equal `float` of the words, since
+    their millionths are below 2^53."""
     found = rows(text, start, count)
     return None if found is None else numpy.ascontiguousarray(found.columns.T / 10**DECIMALS)
 
 
 def rows(text: bytes, start: int, count: int) -> Optional[Rows]:
-    """The lines of a text from a start on, which are so many: of a symbol and three numbers of six decimals, with one blank between
-    two words. Before the start there are 8 bytes at least.
+    """The `count` lines of a text from `start` on, each a symbol and three numbers of six decimals, with one blank between two
+    words. Before the start there are at least 8 bytes.
 
-    None if any line is something else. Symbols are not looked at further.
+    None if any line has another form. Symbols are not checked further.
     """
     data = numpy.frombuffer(text, dtype=numpy.uint8)
     ends = numpy.flatnonzero(data[start:] <= ord(" "))
@@ -88,9 +87,9 @@ def _eights(data: Any, starts: Any) -> Any:
 
 
 def _whole_between(data: Any, blanks: Any, points: Any) -> Optional[Any]:
-    """The whole numbers that stand between blanks and points. None if one is not a number, or too long.
+    """The whole numbers between blanks and points. None if one is not a number, or too long.
 
-    Eight bytes before a point are taken as one number, and those before its digits are made zeros.
+    Eight bytes before a point are taken as one number, and the bytes before its digits are set to zero.
     """
     lengths = points - blanks
     lengths -= 1
@@ -107,9 +106,9 @@ def _whole_between(data: Any, blanks: Any, points: Any) -> Optional[Any]:
 
 
 def _decimals_after(data: Any, points: Any) -> Optional[Any]:
-    """The six decimals after each point as a whole number. None if any has others, or if the lines do not end after three.
+    """The six decimals after each point as a whole number. None if one has another form, or if the lines do not end after three.
 
-    Eight bytes are taken as one number: the point, six digits, and what is after them.
+    Eight bytes are taken as one number: the point, six digits, and the byte after them.
     """
     eights = _eights(data, points)
     inner, last = (numpy.uint64(int.from_bytes(text, "little")) for text in (b".000000 ", b".000000\n"))
@@ -119,10 +118,10 @@ def _decimals_after(data: Any, points: Any) -> Optional[Any]:
 
 
 def _numbers(eights: Any, free: Any, carry: int, wrong: int, shift: int = 0) -> Optional[Any]:
-    """The numbers of which these are the eight digits, the first in the lowest byte, after a shift by so many bits. An array of the
-    same shape is free for use.
+    """The numbers with these eight digits, the first in the lowest byte, after a shift by `shift` bits. `free` is an array of the
+    same shape to overwrite.
 
-    None if a digit is wrong: one of the wrong bits is set, or is by a carry.
+    None if a digit is wrong: one of the `wrong` bits is set, or a carry sets it.
     """
     numpy.add(eights, numpy.uint64(carry), out=free)
     free |= eights
@@ -144,8 +143,8 @@ def _numbers(eights: Any, free: Any, carry: int, wrong: int, shift: int = 0) -> 
 
 
 def _last_ends(data: Any, words: int) -> Optional[Any]:
-    """Where the last five words of each line end, of which there are so many with one blank between two: an array of shape (5, lines).
-    None if any line has others."""
+    """Where the last five words of each line end, if each has `words` words with one blank between two: an array of shape (5, lines).
+    None if any line has another form."""
     marks = data <= ord(" ")
     ends = numpy.flatnonzero(marks)
     lines, blanks = (numpy.count_nonzero(numpy.equal(data, ord(end), out=marks)) for end in "\n ")
@@ -162,7 +161,7 @@ def _begin_with(data: Any, starts: Any, head: bytes) -> bool:
 
 
 def _last_eight(data: Any, ends: Any, lengths: Any) -> Optional[Any]:
-    """The whole numbers of the last eight digits, or of all if there are fewer, of words that end here. None if one is not a number."""
+    """The whole numbers of the last eight digits, or all if there are fewer, of words with these ends. None if one is not a number."""
     kept = numpy.array([0xFFFFFFFFFFFFFFFF << 64 - 8 * min(length, 8) & 0xFFFFFFFFFFFFFFFF for length in range(PLACE_DIGITS + 1)], "<u8")
     masks, eights = kept.take(lengths), _eights(data, ends - 8)
     eights &= masks
@@ -172,7 +171,7 @@ def _last_eight(data: Any, ends: Any, lengths: Any) -> Optional[Any]:
 
 
 def _first_two(data: Any, ends: Any, lengths: Any) -> Optional[Any]:
-    """What the digits are worth that stand before the last eight. None if one is not a number."""
+    """The value of the digits before the last eight. None if one is not a number."""
     kept = numpy.array([0] * 9 + [0xFF00, 0xFFFF], "<u8")
     masks, twos = kept.take(lengths), _eights(data, ends - PLACE_DIGITS)
     twos &= masks

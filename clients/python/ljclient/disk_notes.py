@@ -1,8 +1,8 @@
-"""Notes on this machine's disk: what a session was before a look or a change for which the server had no place.
+"""Notes on this machine's disk: the state of a session before a look or a change that the server had no room to save.
 
 They are files of the folder `ljclient` in the user's folder of state (`XDG_STATE_HOME`, else `~/.local/state`). A note, `.json`,
-is there as long as the session may be on its way. A session that is replaced, and for which the quota has no place beside the
-new one, is saved there meanwhile, `.saved`. Other machines know nothing of either.
+exists while the look or change may be incomplete. A session that is replaced is saved there meanwhile, `.saved`, if the quota has
+no room for it beside the new one. Other machines have no access to either.
 """
 from __future__ import annotations
 
@@ -35,9 +35,9 @@ SHAPE = re.compile(rf"([A-Za-z0-9_-]{{1,16}}?)-[0-9a-f]{{{DIGITS}}}(?:-[0-9a-f]{
 
 @dataclasses.dataclass(frozen=True)
 class Owned:
-    """Whose session a file is of.
+    """The session that a file belongs to.
 
-    server         the address as it was said, HOST:PORT
+    server         the address as given, HOST:PORT
     user, session  their names
     """
 
@@ -46,7 +46,7 @@ class Owned:
     session: str
 
     def path(self, ending: str) -> pathlib.Path:
-        """Its file with this ending."""
+        """The path of its file with this ending."""
         host, _, port = self.server.rpartition(":")
         words = "\n".join(("localhost" if host in THIS_MACHINE else host, port, self.user, self.session))
         return folder() / f"{self.session}-{hashlib.sha256(words.encode()).hexdigest()[:DIGITS]}{ending}"
@@ -54,12 +54,12 @@ class Owned:
 
 @dataclasses.dataclass(frozen=True)
 class Note:
-    """What a session was, in the server's numbers.
+    """The state of a session, in the server's numbers.
 
-    owned           whose it is
-    measured        what MEASURE told of it: step, atoms, three of momentum, kinetic number and potential
-    direction       1 or -1: by how much the next step changes the step number. None where only REVERSE was on its way
-    places, before  of a change the places of all atoms then and a step before; None of a look
+    owned           its server, user and name
+    measured        its reply to MEASURE: step, atoms, three of momentum, kinetic number and potential
+    direction       1 or -1: the change of the step number by the next step. None if only REVERSE was under way
+    places, before  for a change, the places of all atoms then and a step before; None for a look
     """
 
     owned: Owned
@@ -74,7 +74,7 @@ class Note:
 
     @property
     def is_sound(self) -> bool:
-        """Whether it is as one is written."""
+        """Whether it has the form of a written note."""
         numbers = [*self.measured, *(part for place in (*(self.places or ()), *(self.before or ())) for part in place)]
         is_whole = len(self.measured) == MEASURED and all(type(number) is int for number in numbers)
         is_change = (self.places is None) == (self.before is None) and len(self.places or ()) == len(self.before or ())
@@ -85,7 +85,7 @@ class Note:
         return self.owned.path(".json")
 
     def write(self) -> None:
-        """Writes it to the disk. Raises ClientError where it cannot be."""
+        """Writes it to the disk. Raises ClientError if this fails."""
         told = dataclasses.asdict(self)
         del told["owned"]
         try:
@@ -97,7 +97,7 @@ class Note:
             raise ClientError(text) from error
 
     def remove(self) -> None:
-        """Takes its file away."""
+        """Removes its file."""
         with contextlib.suppress(FileNotFoundError):
             self.path.unlink()
 
@@ -109,21 +109,21 @@ def folder() -> pathlib.Path:
 
 
 def made_folder() -> None:
-    """Makes the folder where it is missing."""
+    """Makes the folder if it is missing."""
     folder().mkdir(mode=0o700, parents=True, exist_ok=True)
 
 
 @contextlib.contextmanager
 def noted(note: Note) -> Iterator[Callable[[Note], None]]:
-    """A note is on the disk within, and another one of the same session after the call that is given. It stays there where what is
-    done within is broken off."""
+    """Keeps a note on the disk within the block. The function that is given replaces it by another note of the same session. The
+    note stays if the block raises."""
     note.write()
     yield Note.write
     note.remove()
 
 
 def saved_file_of(owned: Owned) -> pathlib.Path:
-    """A file that is not there yet, for a session that is to be replaced. OSError where the folder cannot be made."""
+    """The path of a new file, for a session that is to be replaced. OSError if the folder cannot be made."""
     made_folder()
     return owned.path(f"-{secrets.token_hex(4)}.saved")
 
@@ -134,7 +134,7 @@ def saved_files_of(server: str, user: str) -> List[Tuple[str, pathlib.Path]]:
 
 
 def notes_of(server: str, user: str) -> Tuple[List[Note], List[pathlib.Path]]:
-    """The notes of a user's sessions at a server, and other files in their places."""
+    """The notes of a user's sessions at a server, and files of other form."""
     read = [(_read(Owned(server, user, name), path), path) for name, path in _files_of(server, user, ".json")]
     return [note for note, _ in read if note is not None], [path for note, path in read if note is None]
 

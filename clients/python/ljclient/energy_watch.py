@@ -1,4 +1,4 @@
-"""Whether the energy of a session stays what it was. With a time step that is too long it grows, and the atoms heat up."""
+"""Checks whether the energy of a session stays constant. With a time step that is too long it grows, and the atoms heat up."""
 from __future__ import annotations
 
 import contextlib
@@ -44,13 +44,13 @@ class EnergyWarning(UserWarning):
 
 @dataclass
 class EnergyWatch:
-    """What is known of the energy of a session, to tell whether it changes.
+    """What is known of the energy of a session, to detect changes.
 
-    is_on       whether it is measured: with `watch=False` it is not, nor after a warning, which comes once
-    start       the step where it was measured first, and what it was: the total energy of an atom in epsilon
-    settled     the same of the first measurement after 1,000 steps, when the atoms have left the places where they began
-    gone        how many steps were made since then; without a start, since something else than steps has changed the energy
-    next_check  after how many of these steps it is measured next
+    is_on       whether it is measured: not with `watch=False`, and not after a warning, which is given once
+    start       the step of the first measurement, and the total energy per atom there, in epsilon
+    settled     the same for the first measurement after 1,000 steps, when the atoms have left their initial places
+    gone        the number of steps since the start; without a start, since something other than steps has changed the energy
+    next_check  the number of these steps after which it is measured next
     """
 
     is_on: bool = True
@@ -60,17 +60,17 @@ class EnergyWatch:
     next_check: int = FIRST_CHECK
 
     def begin_anew(self) -> None:
-        """Forgets the start, since something else than steps has changed the energy."""
+        """Forgets the start, since something other than steps has changed the energy."""
         self.start, self.settled, self.gone, self.next_check = None, None, 0, FIRST_CHECK
 
     def room(self, left: int) -> int:
-        """By how many steps a session may go on until it is measured, if so many are left of a run. 0: it is measured now."""
+        """The number of steps that a session may make until it is measured, if so many are left of a run. 0: it is measured now."""
         if self.start is None:
             return 0 if self.gone + left > SHORT_RUN else UNBOUNDED
         return max(self.next_check - 1 - self.gone, 0)
 
     def look(self, name: str, scale: Scale, row: Thermo, atoms: int) -> None:
-        """Takes in the energy of a step, and warns if it is far from what it was before."""
+        """Records the energy of a step, and warns if it is far from the earlier value."""
         energy, kinetic = row.total / atoms, row.kinetic / atoms
         if self.start is None:
             self.start, self.gone = (row.step, energy), 1
@@ -92,20 +92,20 @@ class EnergyWatch:
 
 
 def largest_rise(kinetic: float, atoms: int) -> float:
-    """By how much the energy of an atom may rise, in epsilon, if that is its kinetic energy.
+    """The largest allowed rise of the energy per atom, in epsilon, at this kinetic energy per atom.
 
-    By the bins of the table the energy of one pair is off by little more and of another one by less: the fewer atoms there are,
-    the more of it is left in the mean of them, however short the time step is.
+    Because of the bins of the table, the energies of pairs have small errors of different sizes. The fewer atoms there are, the
+    more of these errors is left in their mean, however short the time step is.
     """
     return max(LARGE_PART * kinetic, RISE_BY_TABLE / math.sqrt(atoms))
 
 
 class WatchedHooks:
-    """What a session meets as it goes on: its atoms are sorted where this is asked for, and its energy is measured.
+    """The hooks of a session that is advanced: its atoms are sorted if this is wanted, and its energy is measured.
 
-    The energy of a step takes a measurement there and one a step later, as a row of `thermo` does. So it is the same forth and
-    back, and a start at rest has the energy that it keeps. Where the pieces are given no step is made alone for that, and the
-    kinetic energy is that of half a step ago.
+    The energy of a step takes a measurement there and one a step later, like a row of `thermo`. So it is the same in both directions
+    of time, and atoms at rest start with the energy that they keep. If the size of the pieces is given, no single step is made for
+    that, and the kinetic energy is the value half a step ago.
     """
 
     def __init__(self, loader: "Loader", name: str, steps: int, piece: Optional[int] = None):
@@ -117,7 +117,7 @@ class WatchedHooks:
         self._here: Optional[Measurement] = None
 
     def ready(self) -> int:
-        """Makes the session ready to go on, and returns by how many steps it may until this is asked again."""
+        """Makes the session ready to advance, and returns how many steps it may make before the next call."""
         room = self._resorting.ready()
         known = self._loader._known_of(self._name)
         if not (known.watch.is_on and can_be_measured(known.scale)):
@@ -132,7 +132,7 @@ class WatchedHooks:
         return room
 
     def made(self, steps: int, step: int) -> int:
-        """Counts steps that were made or begun, and returns the user's number of the server's step."""
+        """Counts steps that were made or started, and returns the user's number of the server's step."""
         number = self._resorting.made(steps, step)
         self._loader._known_of(self._name).watch.gone += steps
         self._left -= steps
@@ -141,9 +141,9 @@ class WatchedHooks:
         return number
 
     def measure_start(self) -> int:
-        """Measures the energy before steps are started, if it is to be known, for which a step is made. Returns how many were made.
+        """Measures the energy before steps are started, if it is due, and makes a step for this. Returns the number of steps made.
 
-        After steps that were started before nothing is measured, since they would be waited for.
+        After steps that were started before, nothing is measured, since this would wait for them.
         """
         known = self._loader._known_of(self._name)
         watch = known.watch
@@ -154,7 +154,7 @@ class WatchedHooks:
         return 1
 
     def begun(self, steps: int, step: int) -> int:
-        """As `made`, of steps that are not waited for. The energy is measured later, by the first command that waits for them."""
+        """As `made`, for steps that are not waited for. The first command that waits for them measures the energy."""
         number, known = self.made(steps, step), self._loader._known_of(self._name)
         known.is_started = True
         if known.watch.is_on and can_be_measured(known.scale) and not known.watch.room(0):
@@ -162,7 +162,7 @@ class WatchedHooks:
         return number
 
     def _look(self, after: Measurement) -> None:
-        """Takes in the energy of the step that was measured, by what was measured after it."""
+        """Records the energy of the measured step, from both measurements."""
         here, self._here = self._here, None
         known = self._loader._known_of(self._name)
         if here is not None and known.scale is not None:
@@ -173,16 +173,16 @@ class WatchedHooks:
 
 
 def measured(loader: "Loader", name: str) -> Measurement:
-    """What is measured of a session."""
+    """A measurement of a session."""
     line, known = f"MEASURE {name}", loader._known_of(name)
     told = Measurement.of(of_session(line, loader.ask(line).words)[2:], known.scale)
     return replace(told, step=known.order.step_of(told.step))
 
 
 def look_at_started(loader: "Loader", lines: Iterable[str]) -> None:
-    """Measures the energy of each session whose steps were started, and are waited for by one of these commands, before it is asked.
+    """Measures the energy of each session whose started steps these commands will wait for, before they are sent.
 
-    It takes one measurement, so the kinetic energy is that of half a step ago. A session that is gone is skipped.
+    It takes one measurement, so the kinetic energy is the value half a step ago. A session that is gone is skipped.
     """
     commands = [line.split()[:2] for line in lines]
     names = {words[1] for words in commands if len(words) == 2 and words[0] in WAITING}
@@ -196,12 +196,12 @@ def look_at_started(loader: "Loader", lines: Iterable[str]) -> None:
 
 
 def can_be_measured(scale: Optional[Scale]) -> bool:
-    """Whether enough was said of a session to tell its total energy."""
+    """Whether enough is known of a session to compute its total energy."""
     return scale is not None and min(scale.sigma_on_ring, scale.h, scale.weight) > 0
 
 
 def warn_of_large_steps(scale: Scale, mixture: Optional[Mixture] = None) -> None:
-    """Warns if the step factor h is so large that the energy grows fast: that of any class of a mixture."""
+    """Warns if the step factor h, of any class in a mixture, is so large that the energy grows fast."""
     largest = max([scale] if mixture is None else mixture.classes, key=lambda each: each.h)
     if largest.h <= LARGE_STEP_FACTOR:
         return

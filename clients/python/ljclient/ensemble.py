@@ -1,7 +1,7 @@
-"""Many independent runs over any executor of `concurrent.futures`: threads, processes, MPI, Dask.
+"""Many independent runs on any executor of `concurrent.futures`: threads, processes, MPI, Dask.
 
-A run is a `Job`. Wherever it runs it has a program of its own, so its results are the same to the byte. What a worker that
-is lost had done is not lost: the job is begun again from its last checkpoint.
+A run is a `Job`. It has its own program wherever it runs, so its results are the same to the byte. If a worker is lost, its job
+starts again from its last checkpoint.
 """
 from __future__ import annotations
 
@@ -68,7 +68,7 @@ class Job:
 
 
 class Task(NamedTuple):
-    """A job with where its checkpoints are, how many seconds lie between two, its program, and whether the folder is kept."""
+    """A job with the place of its checkpoints, the seconds between two of them, its program, and whether the folder is kept."""
 
     job: Job
     place: str
@@ -120,14 +120,14 @@ def ensemble(
 
 
 def _has_broken(executor: Pool, lost: BaseException) -> bool:
-    """Whether this is an executor that was made elsewhere, and that a lost worker has broken."""
+    """Whether a lost worker has broken an executor that the caller made."""
     from concurrent.futures import BrokenExecutor, Executor
 
     return isinstance(executor, Executor) and isinstance(lost, BrokenExecutor)
 
 
 def _round(executor: Pool, tasks: Dict[int, Task], results: Results, report: Optional[bars.Report]) -> Optional[BaseException]:
-    """Runs the jobs that have no results yet. Returns the loss of a worker, if there was one."""
+    """Runs the jobs that have no results yet. Returns the error of a lost worker, if there was one."""
     lost: Optional[BaseException] = None
     with _opened(executor) as pool:
         for number, told in _told_by(pool, {number: task for number, task in tasks.items() if number not in results}):
@@ -142,7 +142,7 @@ def _round(executor: Pool, tasks: Dict[int, Task], results: Results, report: Opt
 
 @contextlib.contextmanager
 def _made(folder: Optional[Path]) -> Iterator[pathlib.Path]:
-    """The folder of checkpoints. One without a name is removed at the end."""
+    """The folder of checkpoints. A temporary folder is removed at the end."""
     if folder is None:
         with tempfile.TemporaryDirectory() as temporary:
             yield pathlib.Path(temporary)
@@ -155,7 +155,7 @@ def _made(folder: Optional[Path]) -> Iterator[pathlib.Path]:
 
 
 def perform(task: Task) -> List[Any]:
-    """Runs a job from its last checkpoint on, or from its beginning."""
+    """Runs a job from its last checkpoint, or from its beginning."""
     job, kept = task.job, _kept_at(task)
     if kept is not None and kept.done == job.steps:
         return kept.notes
@@ -174,7 +174,7 @@ def perform(task: Task) -> List[Any]:
 
 
 def _look(task: Task, sessions: Sequence[Session]) -> Any:
-    """What is noted now. Raises TypeError if the folder is kept, and this cannot be kept there."""
+    """The result of `look` now. Raises TypeError if the folder is kept and the result cannot be stored there."""
     note = task.job.look(*sessions)
     if task.is_kept:
         notes.to_json(note)
@@ -188,7 +188,7 @@ def _begun(user: User, task: Task) -> Tuple[int, List[Any], List[Session]]:
 
 
 def _resumed(user: User, task: Task, kept: Optional[Noted]) -> Optional[Tuple[int, List[Any], List[Session]]]:
-    """Goes on from a checkpoint. One whose files are damaged or gone does not count: the same notes are computed once more."""
+    """Continues from a checkpoint. One with damaged or missing files is ignored: the same notes are computed again."""
     if kept is None:
         return None
     sessions = []
@@ -203,13 +203,13 @@ def _resumed(user: User, task: Task, kept: Optional[Noted]) -> Optional[Tuple[in
 
 
 def _files_of(task: Task, done: int, sessions: int) -> List[str]:
-    """The names of the files of a job's sessions. No file tells them, so none can have others read or removed."""
+    """The names of the files of a job's sessions. They are not read from a file, so no file can cause others to be read or removed."""
     return [f"{task.place}.{done}.{number}.saved" for number in range(sessions)]
 
 
 def _keep(task: Task, done: int, noted: List[Any], sessions: Sequence[Session]) -> None:
-    """Writes a checkpoint. The one before stays until this one is whole. In a folder that is not kept there is none of notes of
-    other kinds: their job begins again if its worker is lost."""
+    """Writes a checkpoint. The previous one stays until this one is complete. In a folder that is not kept, notes of other types get
+    no checkpoint: their job begins again if its worker is lost."""
     try:
         text = notes.text_of(Noted(done, len(sessions), noted))
     except TypeError:
@@ -226,9 +226,9 @@ def _keep(task: Task, done: int, noted: List[Any], sessions: Sequence[Session]) 
 
 
 def _kept_at(task: Task) -> Optional[Noted]:
-    """The last checkpoint of a job, if there is one that can be read, and that is of such a job.
+    """The last checkpoint of a job. None if there is none that can be read and fits the job.
 
-    Raises ValueError for a pickle, as earlier versions wrote it.
+    Raises ValueError for a pickle of an earlier version.
     """
     path = f"{task.place}.notes"
     try:
@@ -248,7 +248,7 @@ def _kept_at(task: Task) -> Optional[Noted]:
 
 
 def _key_of(job: Job) -> str:
-    """What tells the files of a job in a folder that is kept from those of another one of the same number."""
+    """A hash of a job. In a folder that is kept it separates the files of jobs with the same number."""
     import hashlib
     import pickle
 
@@ -256,7 +256,7 @@ def _key_of(job: Job) -> str:
 
 
 def _told_by(pool: Optional[Executor], tasks: Dict[int, Task]) -> Iterator[Tuple[int, Union[List[Any], BaseException]]]:
-    """For each task its notes, or that its worker was lost."""
+    """The number of each task, with its notes or the error of its lost worker."""
     from concurrent.futures import BrokenExecutor
 
     if pool is None:
@@ -277,7 +277,7 @@ def _told_by(pool: Optional[Executor], tasks: Dict[int, Task]) -> Iterator[Tuple
 
 
 def _result_of(job: Callable[[], List[Any]]) -> Union[List[Any], BaseException]:
-    """What a job gives, or why its worker is lost. Any other error is raised."""
+    """The notes of a job, or the error that shows the loss of its worker. Any other error is raised."""
     from concurrent.futures import BrokenExecutor, CancelledError
 
     try:

@@ -1,4 +1,4 @@
-"""Runs in which atoms are brought to a temperature, by their velocities, after stretches whose mean temperature is measured."""
+"""Runs that bring atoms to a temperature: velocities are rescaled after stretches whose mean temperature is measured."""
 from __future__ import annotations
 
 from typing import TYPE_CHECKING, List, Optional, Sequence
@@ -32,7 +32,7 @@ def equilibrate(session: "Session", temperature: float, steps: int, every: Optio
 
 
 def _wanted(temperature: float, told: Sequence[float]) -> float:
-    """The temperature of now which has the mean of a stretch be this one, by the temperatures of the stretch up to now."""
+    """The temperature to set now, so that the mean of the last stretch would have been the wanted one."""
     return temperature * told[-1] / _mean(told) if _mean(told) else temperature
 
 
@@ -41,7 +41,7 @@ def _mean(told: Sequence[float]) -> float:
 
 
 def _temperatures(session: "Session", steps: int, made: int, total: int, report: Optional[bars.Report]) -> List[float]:
-    """Goes on by so many steps, behind those of a total that are made, and returns the temperatures on the way."""
+    """Advances by `steps`, after `made` steps of a total, and returns the temperatures on the way."""
     points, told = min(POINTS, steps), []
     stops = [steps * number // points for number in range(points + 1)]
     for start, stop in zip(stops, stops[1:]):

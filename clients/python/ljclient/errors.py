@@ -12,7 +12,7 @@ class ClientError(Exception):
     Attributes
     ----------
     unanswered : str or None
-        The command line whose reply did not come, if there is one. It may be a part of the call.
+        The command line whose reply did not come, if there is one. It may be one of several commands of the call.
     more : str
         If a session was being changed, replaced or read: its state before, or where it is now.
     """
@@ -170,13 +170,13 @@ class Refused(ClientError):
 
 
 def reply_of(refusal: Refused) -> str:
-    """A refusal as it came."""
+    """The `ERR` line of a refusal."""
     where = "" if refusal.line is None else f" line {refusal.line}"
     return f"ERR {refusal.number:02} {refusal.name}{where}"
 
 
 def printable(text: str) -> str:
-    """A text for a terminal: what would not be printed, but obeyed, as the start of a colour or a title, is written as in Python.
+    """A text for a terminal: unprintable characters, such as the start of a colour or a title, are escaped as in Python.
 
     Line ends and tabs stay as they are.
     """
@@ -184,7 +184,7 @@ def printable(text: str) -> str:
 
 
 def shown(command: str) -> str:
-    """A command line as messages show it: cut where it is long, without the token of a HELLO, and printable."""
+    """A command line as messages show it: cut if it is long, without the token of a HELLO, and printable."""
     text = printable(" ".join(command.split()[:2]) if command.startswith("HELLO") else command)
     return text if len(text) <= 60 else text[:57] + "..."
 
@@ -197,7 +197,7 @@ def not_answered(kind: Type[ClientError], why: str, command: str) -> ClientError
 
 
 def refusal_of(words: "list[str]", command: str) -> Refused:
-    """The refusal that the words of an `ERR` line say. One that this client does not know is a plain `Refused`."""
+    """The refusal for the words of an `ERR` line: a plain `Refused` if this client does not know its number."""
     number, name = int(words[1]), words[2]
     line = int(words[4]) if len(words) == 5 and words[3] == "line" else None
     kind = Refused.by_number.get(number, Refused)

@@ -1,6 +1,6 @@
-"""XYZ text as whole numbers: the places that the server would load from it, bit for bit, and text that gives back places.
+"""XYZ text as whole numbers: the places that the server would load from it, bit for bit, and text that reproduces places.
 
-The grammar is that of the server. A text that it refuses is not read here, and the server says what is wrong with it.
+The grammar is the server's. A text that it refuses is not read here, and the server says what is wrong with it.
 """
 from __future__ import annotations
 
@@ -24,7 +24,7 @@ class Exact(NamedTuple):
     """The frames of a text, in ring units.
 
     symbols         the symbol of each atom
-    places, before  of each atom now and one step before
+    places, before  the place of each atom now and one step before
     """
 
     symbols: Tuple[str, ...]
@@ -32,13 +32,13 @@ class Exact(NamedTuple):
     before: Tuple[Place, ...]
 
     def moved(self, displacements: Sequence[Sequence[int]]) -> "Exact":
-        """The same atoms that have come by these displacements since the step before."""
+        """The same atoms with these displacements since the step before."""
         before = [tuple((a - b) % RING for a, b in zip(*each)) for each in zip(self.places, displacements)]
         return self._replace(before=tuple((x, y, z) for x, y, z in before))
 
 
 def exact_frames(mode: str, body: bytes, edge: int) -> Optional[Exact]:
-    """The frames that a body has for a LOAD of this mode, in a box whose edge is so many 10^-9 of the file's unit. None if it has
+    """The frames of a body for a LOAD of this mode, in a box whose edge is `edge` * 10^-9 of the file's unit. None if it has
     none."""
     if not MIN_EDGE <= edge <= MAX_EDGE:
         return None
@@ -53,14 +53,14 @@ def exact_frames(mode: str, body: bytes, edge: int) -> Optional[Exact]:
 
 
 def text_in_box(comment: str, symbols: Sequence[str], places: Sequence[Place], edge: int) -> bytes:
-    """A frame of XYZ text that has these places in a box of this edge, of 2^32 * 10^-9 at least: there each place has a coordinate
-    in 10^-9."""
+    """A frame of XYZ text with these places in a box of this edge, at least 2^32 * 10^-9. In it each place has a coordinate in
+    units of 10^-9."""
     lines = [f"{symbol} {' '.join(f'{-(-part * edge // RING)}e-9' for part in place)}\n" for symbol, place in zip(symbols, places)]
     return f"{len(lines)}\n{comment}\n{''.join(lines)}".encode()
 
 
 def _lines(body: bytes) -> Iterator[bytes]:
-    """The lines of a text, without their ends. What stands after the last line feed is a line if it has any byte."""
+    """The lines of a text, without their ends. Text after the last line feed is a line unless it is empty."""
     lines = body.split(b"\n")
     if not lines[-1]:
         del lines[-1]
@@ -86,7 +86,7 @@ def _count(word: bytes) -> int:
 
 
 def _atom(words: Sequence[bytes], edge: int) -> Tuple[str, Place]:
-    """The symbol of an atom and its place: `floor(q * 2^32 / edge)` of each coordinate q in 10^-9, in the ring."""
+    """The symbol of an atom and its place: `floor(q * 2^32 / edge)` of each coordinate q in 10^-9, modulo 2^32."""
     symbol, x, y, z = words[:4]
     text = symbol.decode("ascii")
     if not SYMBOL.match(text):
@@ -99,7 +99,7 @@ def _place(word: bytes, edge: int) -> int:
 
 
 def nano_of(word: bytes) -> int:
-    """A decimal word of the protocol in units of 10^-9, halves away from zero. ValueError if it has another form, or is out of range."""
+    """A decimal word of the protocol in units of 10^-9, halves rounded away from zero. ValueError for another form, or out of range."""
     found = NUMBER.match(word)
     if found is None or len(word) > MAX_WORD:
         raise ValueError("a number must be decimal, as in the protocol")

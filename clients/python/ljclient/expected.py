@@ -1,9 +1,9 @@
 """The state of a user's sessions by the replies so far, and how a command changes it: no frames, but numbers that distinguish two
 states.
 
-They are the step number, the direction, what is saved, and the drift: the sum over all atoms of how far each went in the last step,
-counted round the box on each axis. Steps keep the drift, REVERSE negates it, and TUG adds to it, so one MEASURE tells it for long.
-Nothing here reads or writes.
+They are the step number, the direction, the saved simulations, and the drift: the sum of all atoms' displacements in the last step,
+modulo 2^32 on each axis. Steps keep the drift, REVERSE negates it, and TUG adds to it, so one MEASURE is enough for long. Nothing
+here does input or output.
 """
 from __future__ import annotations
 
@@ -38,11 +38,11 @@ SHAPES: Mapping[str, Sequence["re.Pattern[str]"]] = {
 
 @dataclass(frozen=True)
 class Motion:
-    """Where a simulation is on its way.
+    """The step number, direction and drift of a simulation.
 
-    step       the step number, after all steps that are pending
-    direction  1 or -1: by how much the next step changes it. None where this is not known
-    drift      the sum of the displacements of the last step, modulo 2^32 on each axis. None where this is not known
+    step       the step number, after all pending steps
+    direction  1 or -1: the change of the step number by the next step. None if unknown
+    drift      the sum of the displacements of the last step, modulo 2^32 on each axis. None if unknown
     """
 
     step: int
@@ -52,12 +52,12 @@ class Motion:
 
 @dataclass(frozen=True)
 class Expected:
-    """A session, as the replies tell it.
+    """A session, according to the replies.
 
-    atoms       how many; None of a load that is not replied to, and whose body does not tell
-    motion      where it is
-    saved       what is saved in it, by name in order of saving. None where only the count is known
-    count       how much is saved in it
+    atoms       how many; None for a load without a reply whose body does not give it
+    motion      its step number, direction and drift
+    saved       the saved simulations, by name in order of saving. None if only the count is known
+    count       the number of saved simulations
     is_pending  whether steps may be pending
     """
 
@@ -73,7 +73,7 @@ Sessions = Dict[str, Expected]
 
 
 class Words(NamedTuple):
-    """The words of a command that the server takes for one: its first, the name of its session, and the others."""
+    """The words of a command that the server recognizes: its verb, the name of its session, and the others."""
 
     verb: str
     name: str
@@ -81,7 +81,7 @@ class Words(NamedTuple):
 
 
 def parsed(line: str) -> Optional[Words]:
-    """The words of a command that may change something. None for any other line, and for one that is refused for its form."""
+    """The words of a command that may change something. None for any other line, and for one whose form is refused."""
     words = [word.decode("latin-1") for word in words_of(line.encode())]
     if len(line.encode()) > MAX_LINE or len(words) < 2 or not NAME.match(words[1]):
         return None
@@ -92,10 +92,10 @@ def parsed(line: str) -> Optional[Words]:
 
 
 def after(sessions: Sessions, line: str, body: bytes = b"") -> List[Sessions]:
-    """What the sessions may be after a command: one case, or two where the direction of its session is not known. It is the same
-    object where the command changes nothing, as one that reads or that is refused. A RESTORE counts as a change always.
+    """The possible sessions after a command: one case, or two if the direction of its session is not known. A case is the same
+    object if the command changes nothing, as one that reads or that is refused. A RESTORE always counts as a change.
 
-    What cannot be known, such as a refusal for want of memory or of quota, leaves the sessions as they are too.
+    Refusals that cannot be known here, such as for lack of memory or quota, leave the sessions as they are too.
     """
     words = parsed(line)
     if words is None:
@@ -111,7 +111,7 @@ def after(sessions: Sessions, line: str, body: bytes = b"") -> List[Sessions]:
 
 
 def loaded(words: Words, body: bytes) -> Expected:
-    """A session that is loaded."""
+    """A session after its load."""
     is_at_rest = words.others[-2:-1] == ["rest"]
     counts = [row.split()[0] for row in body.split(b"\n") if row.split()]
     atoms = int(counts[0]) if counts and NUMBER.match(counts[0].decode("latin-1")) else None
@@ -119,7 +119,7 @@ def loaded(words: Words, body: bytes) -> Expected:
 
 
 def _changed(here: Expected, words: Words) -> List[Expected]:
-    """What a session may be after a command of its own."""
+    """The possible states of a session after one of its commands."""
     if words.verb in ("ADVANCE", "START", "REVERSE"):
         directions = (1, -1) if here.motion.direction is None else (here.motion.direction,)
         moved = [_moved(replace(here.motion, direction=each), words) for each in directions]
@@ -130,7 +130,7 @@ def _changed(here: Expected, words: Words) -> List[Expected]:
 
 
 def _moved(motion: Motion, words: Words) -> Optional[Motion]:
-    """A motion of a known direction after steps or a turn. None where these are refused, or none."""
+    """A motion of a known direction after steps or REVERSE. None if the steps are refused, or zero."""
     direction = motion.direction or 1
     if words.verb == "REVERSE":
         drift = None if motion.drift is None else vector([-part for part in motion.drift])
@@ -141,7 +141,7 @@ def _moved(motion: Motion, words: Words) -> Optional[Motion]:
 
 
 def _tugged(here: Expected, atom: int, displacement: Sequence[int]) -> Expected:
-    """A session after a tug. One by nothing, of an atom that is not there, or beyond what a word can say, changes nothing."""
+    """A session after a tug. A tug by zero, of a missing atom, or outside the signed 32-bit range changes nothing."""
     is_granted = (here.atoms is None or atom < here.atoms) and all(-RING // 2 <= part < RING // 2 for part in displacement)
     if not is_granted or not any(displacement):
         return here
@@ -164,6 +164,6 @@ def _with_saved(here: Expected, verb: str, name: str) -> Expected:
 
 
 def vector(parts: Sequence[int]) -> Vector:
-    """Three numbers counted round the ring."""
+    """Three numbers modulo 2^32."""
     x, y, z = (part % RING for part in parts)
     return x, y, z

@@ -1,4 +1,4 @@
-"""Files that are written whole: what stands there stays until the new file is complete."""
+"""Files that are written whole: an older file stays until the new one is complete."""
 from __future__ import annotations
 
 import contextlib
@@ -25,7 +25,7 @@ KINDS = {
 
 
 def write_whole(path: Path, data: bytes) -> None:
-    """Writes a file, behind symbolic links. An older file of that name stays until the new one is whole, and gives it its mode.
+    """Writes a file, following symbolic links. An older file stays until the new one is complete, and the new one gets its mode.
 
     Raises ValueError, and changes nothing, if something other than a regular file is there.
     """
@@ -44,9 +44,9 @@ def write_whole(path: Path, data: bytes) -> None:
 
 
 def begin_beside(target: str) -> Tuple[int, str]:
-    """A new empty file in the folder of another one, by a name that nobody can know before: open, and its name.
+    """The open descriptor and the unpredictable name of a new empty file in the folder of another one.
 
-    Its mode is that of the other file or, if that is not there, of a new one.
+    It has the mode of the other file or, if that does not exist, of a new one.
     """
     folder, name = os.path.split(target)
     descriptor, partial = tempfile.mkstemp(".part", f"{name}.", folder)
@@ -55,7 +55,7 @@ def begin_beside(target: str) -> Tuple[int, str]:
 
 
 def _mode_for(target: str) -> int:
-    """The mode of a file, or that of a new one if it is not there."""
+    """The mode of a file, or of a new one if it does not exist."""
     with contextlib.suppress(FileNotFoundError):
         return os.stat(target).st_mode & 0o777
     # It is told only by being set: for this moment what other threads make is for its owner alone.
@@ -65,7 +65,7 @@ def _mode_for(target: str) -> int:
 
 
 def put_in_place(partial: str, target: str) -> None:
-    """Gives a whole file the name of another one, which it replaces, on the disk too: the folder is written out."""
+    """Renames a complete file to replace another one, on the disk too: the folder is synced."""
     os.replace(partial, target)
     try:
         folder = os.open(os.path.dirname(target), os.O_RDONLY)
@@ -81,9 +81,9 @@ def put_in_place(partial: str, target: str) -> None:
 
 
 def checked_target(path: Path) -> str:
-    """The file that a path names, behind symbolic links. Raises ValueError if it is there and is no regular file.
+    """The file that a path names, behind symbolic links. Raises ValueError if it exists and is not a regular file.
 
-    Such a one would be replaced by a file: a device would be gone.
+    Otherwise a device, for example, would be replaced by a file.
     """
     target = os.path.realpath(path)
     try:

@@ -1,7 +1,7 @@
-"""The frames of a session, in the server's numbers.
+"""The frames of a session, with the server's numbers.
 
-In a box whose edge is 4294.967296 a ring unit is a millionth of the file's unit. So six decimals give a place exactly, in
-what DUMP tells and in what LOAD takes. In any other box each place takes a SHOW.
+In a box whose edge is 4294.967296 a ring unit is a millionth of the file's unit. So six decimals give a place exactly, both
+in DUMP and in LOAD. In any other box each place needs a SHOW.
 """
 from __future__ import annotations
 
@@ -39,19 +39,19 @@ def place(user: "Loader", name: str, number: int) -> Place:
 
 
 def shown(user: "Loader", name: str, count: int) -> Tuple[Places, ...]:
-    """The places of so many atoms, of a session with any box."""
+    """The places of `count` atoms, in a session with any box."""
     return (reading.places_of(name, count, user._ask_rows(reading.shows(name, count))),)
 
 
 def both_shown(user: "Loader", name: str, count: int) -> Tuple[Places, ...]:
-    """The places now and one step before, for which the motion is turned back."""
+    """The places now and one step before, for which the motion is reversed."""
     shows, turn = reading.shows(name, count), f"REVERSE {name}"
     with look(user, name, 2 * count) as way:
         return reading.both_of(name, count, user._ask_rows([*shows, turn, *shows, *way.turned, *way.end]))
 
 
 def three_shown(user: "Loader", name: str, count: int) -> Tuple[Places, ...]:
-    """The places one step before, now and one step after, of a session with any box. For these it is turned back and makes a step."""
+    """The places one step before, now and one step after, in a session with any box. For this it reverses and makes a step."""
     shows, step, turn = reading.shows(name, count), f"ADVANCE {name} 1", f"REVERSE {name}"
     with look(user, name, 3 * count) as way:
         lines = [*shows, turn, *shows, *way.turned, step, *shows, *way.stepped, *way.end]
@@ -59,7 +59,7 @@ def three_shown(user: "Loader", name: str, count: int) -> Tuple[Places, ...]:
 
 
 def three_dumped(user: "Loader", name: str) -> Tuple[Places, ...]:
-    """The same of a session whose box shows each ring unit."""
+    """As `three_shown`, in a session whose box shows each ring unit."""
     dump, step, turn = f"DUMP {name}", f"ADVANCE {name} 1", f"REVERSE {name}"
     with look(user, name, 3) as way:
         replies = user.ask_all([dump, turn, dump, *way.turned, step, dump, *way.stepped, *way.end])
@@ -68,7 +68,7 @@ def three_dumped(user: "Loader", name: str) -> Tuple[Places, ...]:
 
 
 def text_of(reply: Reply) -> bytes:
-    """The lines of a reply, as they came."""
+    """The lines of a reply, unchanged."""
     return "\n".join([*reply.lines, ""]).encode()
 
 
@@ -93,25 +93,25 @@ def dumped_in_box(user: "Loader", name: str, edge: float) -> Frame:
 
 
 def positions_in_box(user: "Loader", name: str, edge: float) -> Tuple[int, Any]:
-    """The step and the positions of the same frame."""
+    """As `dumped_in_box`, the step and the positions."""
     step, places = _on_ring(name, *user._ask_text(f"DUMP {name}"))
     order = user._known_of(name).order
     return order.step_of(step), order._for_user(arrays.of_millionths(arrays.in_box(places, nano(edge))))
 
 
 def on_ring(frame: Frame) -> Places:
-    """The places that a frame tells whose box shows each ring unit."""
+    """The places of a frame whose box shows each ring unit."""
     return Places(frame.step, _checked(arrays.millionths(frame.positions())))
 
 
 def _on_ring(name: str, words: List[str], text: bytes) -> Tuple[int, Any]:
-    """The step and the places that a reply to `DUMP` tells, of such a frame."""
+    """The step and the places of such a frame, from a reply to `DUMP`."""
     step, places = reading.millionths_of(name, words, text)
     return step, _checked(places)
 
 
 def _checked(places: Any) -> Any:
-    """These places, which were told in a box that shows each ring unit. Raises BadReply if one is beyond it."""
+    """Places from a box that shows each ring unit. Raises BadReply if one is outside the box."""
     if arrays.greatest(places) >= RING:
         raise BadReply("a place of a frame must be below the edge of the box")
     return places

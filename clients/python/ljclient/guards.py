@@ -1,9 +1,9 @@
-"""What brings a session back where a connection is lost while it is looked at or changed: a branch of a reserved name.
+"""A branch of a reserved name, which restores a session if the connection is lost while the session is read or changed.
 
-A look makes steps and turns the motion back, and a change of many atoms tugs one after the other. Both begin with BRANCH of a
-reserved name, and end when that is forgotten. If the connection is lost between, the next one restores it (`leftovers`). Where
-the quota has no place for it, a note on this machine's disk says what the session was (`disk_notes`). A program of its own ends
-with its connection, so there neither is needed.
+A look makes steps and reverses the motion, and a change tugs many atoms one after the other. Both begin with BRANCH of a reserved
+name, and end with FORGET. If the connection is lost in between, the next connection restores the branch (`leftovers`). If the
+quota has no room for a branch, a note on this machine's disk has the state of the session (`disk_notes`). A program of its own
+ends with its connection, so it needs neither.
 """
 from __future__ import annotations
 
@@ -33,11 +33,11 @@ NO_PLACE = (BranchExists, QuotaBranches, Memory)
 
 
 class Way(NamedTuple):
-    """The commands that bring a session back in a look.
+    """The commands that restore a session in a look.
 
     turned   after REVERSE
     stepped  after a step
-    end      at the end, when it is back
+    end      at the end, when it is restored
     """
 
     turned: Tuple[str, ...]
@@ -46,23 +46,23 @@ class Way(NamedTuple):
 
     @staticmethod
     def by_turns(name: str) -> "Way":
-        """By its own motion: n steps and REVERSE undo themselves."""
+        """By its own motion: n steps and REVERSE, done twice, lead back."""
         turn, step = f"REVERSE {name}", f"ADVANCE {name} 1"
         return Way((turn,), (turn, step, turn))
 
     @staticmethod
     def by_branch(name: str) -> "Way":
-        """By what the look has saved."""
+        """By the branch of the look."""
         restore = (f"RESTORE {name} {LOOK}",)
         return Way(restore, restore, (f"FORGET {name} {LOOK}",))
 
 
 @contextlib.contextmanager
 def look(user: "Loader", name: str, count: int) -> Iterator[Way]:
-    """A look at a session by so many commands, which is at the end as it was. An interrupt waits until then, but steps that were
-    started before are waited for first.
+    """A look at a session by so many commands, which leaves it as it was. Steps that were started before are waited for first;
+    then an interrupt waits until the end.
 
-    The commands of the way that is given have to be asked within, the last of them those of its end.
+    The block must send the commands of the yielded `Way`, and its `end` last.
     """
     with _begun(user, name, count):
         if not user._outlasts_connections:
@@ -77,9 +77,9 @@ def look(user: "Loader", name: str, count: int) -> Iterator[Way]:
 
 @contextlib.contextmanager
 def change(user: "Loader", name: str, places: Sequence[Place], before: Sequence[Place]) -> Iterator[Tuple[str, ...]]:
-    """A change of many atoms of a session by tugs, whose places now and a step before are given in the server's order.
+    """A change of many atoms of a session by tugs. Places now and one step before are in the server's order.
 
-    The commands that are given end it, and have to be the last ones that are asked within. An interrupt waits until then.
+    The yielded commands end the change, and must be the last ones that the block sends. An interrupt waits until then.
     """
     with _begun(user, name, len(before)):
         if not user._outlasts_connections:
@@ -94,9 +94,9 @@ def change(user: "Loader", name: str, places: Sequence[Place], before: Sequence[
 
 @contextlib.contextmanager
 def turning(user: "Loader", name: str, count: int) -> Iterator[Tuple[str, ...]]:
-    """As `change`, of what takes so many commands, on whose way a session is turned back or goes a step on. It is guarded as a look.
+    """As `change`, for so many commands that reverse a session or advance it by a step. It is guarded like a look.
 
-    Raises a refusal of NO_PLACE, and nothing is changed, where the quota has no place for it.
+    Raises a refusal of NO_PLACE, and changes nothing, if the quota has no room for the branch.
     """
     with _begun(user, name, count):
         if not user._outlasts_connections:
@@ -111,8 +111,8 @@ def turning(user: "Loader", name: str, count: int) -> Iterator[Tuple[str, ...]]:
 
 @contextlib.contextmanager
 def _begun(user: "Loader", name: str, count: int) -> Iterator[None]:
-    """So many commands of a session go over one connection, behind steps that were started, and have no effect on what is known of
-    its direction. An interrupt waits until the end."""
+    """Lets so many commands of a session use one connection, after steps that were started, and keeps its known direction. An
+    interrupt waits until the end."""
     known = user._known_of(name)
     if known.is_started:
         user.ask(f"ADVANCE {name} 0")
@@ -128,7 +128,7 @@ def _begun(user: "Loader", name: str, count: int) -> Iterator[None]:
 
 
 def _saved(user: "Loader", name: str, branch: str) -> Optional[int]:
-    """Saves a session under a reserved name. Returns the server's step, or None where there is no place for it."""
+    """Saves a session under a reserved name. Returns the server's step, or None if there is no room for it."""
     line = f"BRANCH {name} {branch}"
     try:
         with _forgotten(user, name, branch):
@@ -139,15 +139,15 @@ def _saved(user: "Loader", name: str, branch: str) -> Optional[int]:
 
 @contextlib.contextmanager
 def _put_back(user: "Loader", name: str, branch: str, step: int) -> Iterator[None]:
-    """What is saved within under a reserved name is forgotten at the end, or else named by the error."""
+    """Restores and forgets a reserved branch if the block fails. If the connection is lost, the error states the old step instead."""
     with _said_if_lost(user, name, step, user._known_of(name).direction), _forgotten(user, name, branch):
         yield
 
 
 @contextlib.contextmanager
 def _forgotten(user: "Loader", name: str, branch: str) -> Iterator[None]:
-    """Where what is asked within is broken off and the connection goes on, the session is put back at once. What an earlier
-    connection has left stays."""
+    """Restores the session at once if the block is interrupted or fails, and the connection is still open. A branch that an
+    earlier connection has left stays."""
     try:
         yield
     except NO_PLACE:
@@ -161,7 +161,7 @@ def _forgotten(user: "Loader", name: str, branch: str) -> Iterator[None]:
 
 @contextlib.contextmanager
 def _noted(user: "Loader", name: str, places: Optional[Sequence[Place]] = None, before: Optional[Sequence[Place]] = None) -> Iterator[None]:
-    """A note on the disk says within what the session was. Its direction is learnt by turning it back and again."""
+    """Keeps a note of the state of the session on the disk during the block. In a look, two REVERSE commands show its direction."""
     line = f"MEASURE {name}"
     measured = [whole_number(word) for word in user.ask(line).words[2:]]
     note = Note(Owned(user.address, user.name or "", name), measured, places=places, before=before)
@@ -174,7 +174,7 @@ def _noted(user: "Loader", name: str, places: Optional[Sequence[Place]] = None, 
 
 @contextlib.contextmanager
 def _said_if_lost(user: "Loader", name: str, step: int, direction: Optional[int], whose: str = "the next connection") -> Iterator[None]:
-    """Has the error of a connection that is lost within say what the session was before, and who puts it back."""
+    """Adds to the error of a lost connection the step and direction of the session before, and who restores it."""
     try:
         yield
     except ClientError as error:
@@ -203,5 +203,5 @@ def _checked(name: str, reserved: Collection[str]) -> str:
 
 
 def branches_of(user: "Loader", name: str) -> List[str]:
-    """The names of all that is saved in a session, the reserved ones too."""
+    """The names of all branches of a session, including the reserved ones."""
     return [line.split(" ")[0] for line in user.ask(f"LIST {name}").lines]

@@ -1,4 +1,4 @@
-"""A session by its name: what is known of it, and how it is asked."""
+"""The base of a session: its name, what is known of it, and how it is asked."""
 from __future__ import annotations
 
 import dataclasses
@@ -22,7 +22,7 @@ if TYPE_CHECKING:
 
 
 class Handle:
-    """What the package has of a session beside what users call: its name, what is known of it, and commands that are whole."""
+    """The internal part of a session: its name, what is known of it, and commands during which other threads wait."""
 
     # So that a name that is none, as in `session.temprature = 3`, is an AttributeError.
     __slots__ = ("name", "mixture", "motion", "sampled", "_lock", "_user", "_given", "_pace", "_path", "__weakref__")
@@ -55,22 +55,22 @@ class Handle:
 
     @property
     def scale(self) -> Scale:
-        """What its whole numbers mean; of a mixture, the scale of its first class. ValueError if it is not known."""
+        """The scale of its whole numbers; for a mixture, the scale of the first class. Raises ValueError if it is not known."""
         return known(self._given)
 
     @property
     def _is_free(self) -> bool:
-        """Whether it can be asked for something at once: the connection is there, and no command is under way."""
+        """Whether a command can be sent at once: the connection is open, and no command is in progress."""
         return self._user._is_free
 
     @property
     def order(self) -> Order:
-        """How the server's numbers of atoms and steps stand to those here: `ask` and other connections see the server's."""
+        """How the server numbers atoms and steps, compared with the numbers here: `ask` and other connections use the server's numbers."""
         return self._user._known_of(self.name).order
 
     @property
     def n_atoms(self) -> int:
-        """How many atoms there are. It is known since the session was loaded or taken up."""
+        """The number of atoms. It is known since the session was loaded, or returned by `User.session`."""
         known = self._user._known_of(self.name)
         return self._row().atoms if known.n_atoms is None else known.n_atoms
 
@@ -86,23 +86,23 @@ class Handle:
 
     @property
     def dt(self) -> Optional[float]:
-        """The time step in femtoseconds that the whole number h stands for, which is not quite the one that was asked for.
+        """The time step in femtoseconds that belongs to the whole number h; it differs slightly from the requested one.
 
         None if epsilon and mass are not known; `scale.reduced_dt` is the time step in reduced units.
         """
         return self.scale.dt
 
     def _measured(self, words: List[str]) -> Measurement:
-        """The measurement that the words of a reply to MEASURE tell."""
+        """The measurement from the words of a reply to MEASURE."""
         told = Measurement.of(of_session(f"MEASURE {self.name}", words)[2:], self._given)
         return dataclasses.replace(told, step=self.order.step_of(told.step))
 
     def _look(self, row: Thermo, atoms: int) -> None:
-        """Warns if the energy of a row is far from that of the start."""
+        """Warns if the energy of a row is far from the energy at the start."""
         self._user._known_of(self.name).watch.look(self.name, self.scale, row, atoms)
 
     def _number_of(self, atom: Any) -> int:
-        """The number by which the server knows an atom. Each number of an atom that goes out is of here."""
+        """The server's number of an atom. Numbers of atoms are converted here before they are sent."""
         return self.order.number_of(count_of(atom, "the number of an atom"))
 
     def _tug(self, atom: Any, displacement: Union[Sequence[int], arrays.IntArray]) -> str:
@@ -112,8 +112,8 @@ class Handle:
 
     @whole
     def _frame(self) -> reading.Frame:
-        """The frame as the server dumps it, with atoms, step and positions as they are here. Each line of an atom that comes
-        in is of here. Asking may move a session to another box."""
+        """The frame from DUMP, with the user's order of atoms, step number and positions. Lines of atoms are converted here. A
+        command may move the session to another box."""
         box.settle(self._user, self.name)
         if not self.order.on_ring:
             frame = frames.dumped(self._user, self.name)
@@ -123,7 +123,7 @@ class Handle:
 
     @whole
     def _positions_of_frame(self) -> Tuple[int, Any]:
-        """The step and the positions of the frame, with six decimals. They are read without its lines."""
+        """The step and the positions of the frame, with six decimals. They are read without splitting the text into lines."""
         box.settle(self._user, self.name)
         if not self.order.on_ring:
             step, positions = frames.dumped_positions(self._user, self.name)
@@ -134,7 +134,7 @@ class Handle:
 
     @whole
     def _frames_of_places(self, both: bool = False) -> Tuple[reading.Places, ...]:
-        """The places of all atoms, and if both frames are asked for, those of the step before. All places come in here."""
+        """The places of all atoms, and with `both` also the places one step before. Places are converted here."""
         if self.order.on_ring:
             told = (frames.both_dumped if both else frames.dumped_places)(self._user, self.name)
         else:
@@ -143,13 +143,13 @@ class Handle:
         return tuple(reading.Places(order.step_of(step), order._for_user(places)) for step, places in told)
 
     def _set_in_motion(self, now: reading.Places, before: reading.Places, wanted: Sequence[Sequence[int]]) -> None:
-        """Gives the atoms of both frames these displacements in place of those of the last step. An interrupt waits until all have
-        theirs, and where the connection is lost between, the next one gives back those that they had."""
+        """Replaces the displacements of the last step, between these frames, by the wanted ones. An interrupt waits until all are
+        replaced. If the connection is lost meanwhile, the next connection restores the old displacements."""
         changes = arrays.listed(arrays.least_images(wanted, arrays.least_images(now.places, before.places)))
         self._tug_all(changes, arrays.listed(now.places), arrays.listed(before.places))
 
     def _tug_all(self, changes: Sequence[Sequence[int]], places: Sequence[Place], before: Sequence[Place]) -> None:
-        """Tugs each atom by such a displacement, which has these places now and a step before: all of them or none."""
+        """Tugs each atom by its change: all atoms or none. `places` and `before` are the places now and one step before."""
         self._user._known_of(self.name).watch.begin_anew()
         tugs = [self._tug(atom, change) for atom, change in enumerate(changes) if any(change)]
         for_server = self.order._for_server
@@ -158,7 +158,7 @@ class Handle:
 
     @whole
     def _step_and_turn(self) -> None:
-        """Goes on by a step and turns the motion back, which leaves the places as they are: both or, at a server, none."""
+        """Advances by a step and reverses the motion, which leaves the places as they are. At a server, both are done or none."""
         lines = [f"ADVANCE {self.name} 1", f"REVERSE {self.name}"]
         direction = self._user._known_of(self.name).direction
         try:
@@ -176,7 +176,7 @@ class Handle:
 
     @whole
     def _number(self, line: str, index: int) -> int:
-        """The step number that stands last in the reply, at this index of its words."""
+        """The step number, which is the last word of the reply and has this index."""
         step = number_after(line, self._user.ask(line).words, index)
         self._user._known_of(self.name).is_started = False
         return self.order.step_of(step)

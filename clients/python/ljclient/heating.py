@@ -1,4 +1,4 @@
-"""Velocities of a temperature, drawn at random or stretched, in whole ring units for each step."""
+"""Velocities at a temperature, drawn at random or rescaled, in whole ring units per step."""
 from __future__ import annotations
 
 import math
@@ -14,10 +14,10 @@ Displacement = Tuple[int, ...]
 
 
 def displacements(atoms: int, temperature: float, scale: Scale, seed: int) -> List[Displacement]:
-    """Displacements in a step of atoms that have this temperature together, and whose sum is 0 along each axis.
+    """Displacements per step of atoms at this temperature, whose sum is 0 along each axis.
 
-    The temperature is in kelvin if the scale has epsilon, else in epsilon / k_B. Each axis of each atom is drawn from the same
-    normal distribution; then the mean is taken away, and all are stretched alike to the temperature and rounded.
+    The temperature is in kelvin if the scale has epsilon, else in epsilon / k_B. Each component of each atom is drawn from the same
+    normal distribution. Then the mean is subtracted, and all are multiplied by one factor to reach the temperature, and rounded.
     """
     wanted = _kinetic_number(atoms, temperature, scale)
     if atoms == 1 and temperature > 0:
@@ -31,9 +31,9 @@ def displacements(atoms: int, temperature: float, scale: Scale, seed: int) -> Li
 
 
 def rescaled(moved: Sequence[Sequence[int]], temperature: float, scale: Scale) -> List[Displacement]:
-    """Displacements in a step, all stretched alike to a temperature and rounded. Their sum is stretched alike and rounded too.
+    """Displacements per step, multiplied by one factor to reach a temperature, and rounded. Their sum is treated alike.
 
-    The temperature is as in `displacements`. Raises ValueError if all are at rest, unless it is 0.
+    The temperature is as in `displacements`. Raises ValueError if all atoms are at rest, unless it is 0.
     """
     wanted = _kinetic_number(len(moved), temperature, scale)
     kinetic = sum(part * part for each in moved for part in each)
@@ -44,14 +44,14 @@ def rescaled(moved: Sequence[Sequence[int]], temperature: float, scale: Scale) -
 
 
 def _kinetic_number(atoms: int, temperature: float, scale: Scale) -> float:
-    """The kinetic number of so many atoms at a temperature. Raises ValueError unless this is a number from 0 on."""
+    """The kinetic number of `atoms` atoms at a temperature. Raises ValueError unless this is finite and at least 0."""
     if not 0 <= real_of("temperature", temperature) < math.inf:
         raise ValueError(f"temperature must be a finite number from 0 on, got {temperature!r}")
     return scale.kinetic_number(3 * atoms * temperature / (2 * scale.temperature_unit))
 
 
 def _stretched(parts: Sequence[Sequence[float]], stretch: float, temperature: float, sums: Sequence[int]) -> List[Displacement]:
-    """Displacements that are stretched and rounded, and that have these sums along the axes."""
+    """Displacements multiplied by `stretch` and rounded, with these sums along the axes."""
     if stretch * max(abs(part) for each in parts for part in each) >= HALF - 1:
         why = "an atom would move by half the box or more in a step; use a lower temperature or a shorter time step"
         raise ValueError(f"cannot set a temperature of {temperature:g}: {why}")
@@ -59,7 +59,7 @@ def _stretched(parts: Sequence[Sequence[float]], stretch: float, temperature: fl
 
 
 def _with_sums(moved: List[List[int]], sums: Sequence[int]) -> List[Displacement]:
-    """The same displacements without what rounding adds to these sums: it is less than one for each atom."""
+    """The displacements corrected to these sums. Rounding changes a sum by less than one per atom."""
     for axis, wanted in enumerate(sums):
         surplus = sum(each[axis] for each in moved) - wanted
         for each in moved[: abs(surplus)]:

@@ -1,7 +1,7 @@
 """The equation of state of the Lennard-Jones fluid by Johnson, Zollweg and Gubbins (Molecular Physics 78, 591, 1993).
 
-It is the modified Benedict-Webb-Rubin equation, fitted to simulations of the whole potential. They had it have its critical point
-at temperature 1.313 and density 0.310.
+It is the modified Benedict-Webb-Rubin equation, fitted to simulations of the full potential. The fit fixes the critical point at
+temperature 1.313 and density 0.310.
 """
 from __future__ import annotations
 
@@ -31,7 +31,7 @@ def johnson(density: float, temperature: float) -> float:
     Parameters
     ----------
     density : float
-        How many atoms there are for each sigma^3, up to 1.25.
+        Atoms per sigma^3, up to 1.25.
     temperature : float
         In epsilon / k_B, from 0.7 to 6.
 

@@ -1,4 +1,4 @@
-"""Files of LAMMPS: dumps of frames (.lammpstrj), which are written here as text, and data files, by ASE."""
+"""Files of LAMMPS: dumps of frames (.lammpstrj), written here as text, and data files, handled by ASE."""
 from __future__ import annotations
 
 import io
@@ -21,7 +21,7 @@ UNITS = ("lj", "metal", "real", "si", "cgs", "electron", "micro", "nano")
 class DumpFile:
     """A dump of LAMMPS: positions and velocities as text, each atom with its type from 1 on and its symbol.
 
-    Numbers are in the units of the session: those that LAMMPS calls `real` if epsilon and mass are known, else `lj` where sigma is 1.
+    Numbers are in the units of the session: LAMMPS's `real` units if epsilon and mass are known, else `lj` units if sigma is 1.
     """
 
     def __init__(self, path: Path, types: Dict[str, int], symbols: List[str], append: bool, unwrap: bool):
@@ -42,7 +42,7 @@ class DumpFile:
 
 
 def types_of(symbols: Sequence[str]) -> Dict[str, int]:
-    """A type for each symbol, from 1 on in the order in which they come."""
+    """The type of each symbol, from 1 on in the order of first appearance."""
     return {symbol: number for number, symbol in enumerate(dict.fromkeys(symbols), 1)}
 
 
@@ -54,7 +54,7 @@ def read_lammps_data(path: Path, symbols: Union[str, Sequence[str]], *, units: s
     path : str or os.PathLike
         The file.
     symbols : str or sequence of str
-        The element of the one type, or of each type from 1 on.
+        The element of the only type, or of each type from 1 on.
     units : str, optional
         The units of the file, by their LAMMPS name. With "lj", lengths are in sigma, and velocities are used if the session is loaded
         with `sigma=1, epsilon=1, mass=1`.
@@ -133,7 +133,7 @@ def write_lammps_data(session: "Session", path: Path, *, units: Optional[str] = 
 
 
 def _text_of(atoms: Any, kinds: List[str], masses: List[float], units: str) -> str:
-    """A data file as ASE writes it, and the masses of its types."""
+    """A data file as ASE writes it, with the masses of its types added."""
     file = io.StringIO()
     library = optional.ase("ase.io.lammpsdata", WHY)
     library.write_lammps_data(file, atoms, specorder=kinds, velocities=True, units=units, atom_style="atomic")
@@ -144,7 +144,7 @@ def _text_of(atoms: Any, kinds: List[str], masses: List[float], units: str) -> s
 
 
 def _metal() -> float:
-    """A velocity of 1 in the units `metal`, in those of ASE."""
+    """A velocity of 1 in `metal` units, converted to ASE's."""
     return float(optional.ase("ase.calculators.lammps", WHY).convert(1.0, "velocity", "metal", "ASE"))
 
 
@@ -155,7 +155,7 @@ def _checked_units(units: str) -> str:
 
 
 class _Types(Dict[int, int]):
-    """The atomic number of each type. ValueError for a type that has none."""
+    """The atomic number of each type. Raises ValueError for a type without one."""
 
     def __missing__(self, number: int) -> int:
         raise ValueError(f"symbols must have one for each type of the file, got {len(self)} and type {number}; use a list from type 1 on")

@@ -1,4 +1,4 @@
-"""Modules that are imported when something of them is first asked for, since `import ljclient` would take twice as long with them."""
+"""Modules that are imported when they are first used, since `import ljclient` would take twice as long with them."""
 from __future__ import annotations
 
 import importlib
@@ -6,7 +6,7 @@ from typing import Any
 
 
 class Later:
-    """A module of this package, or of Python, which stands for it until it is there. Type checkers are told of the module itself."""
+    """A placeholder for a module of this package or of Python, until it is used. Type checkers see the module itself."""
 
     def __init__(self, name: str):
         self._name = name

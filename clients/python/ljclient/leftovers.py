@@ -1,8 +1,8 @@
-"""Repairs what a lost connection has left while a session was read, changed or replaced, or warns of it.
+"""Repairs sessions that were being read, changed or replaced when a connection was lost, or warns of them.
 
-A branch of a reserved name, or a note on this machine's disk, says what the session was (`guards`). Somebody may have gone on
-since then, so it is put back only where it is as near as a look may have left it: within a step, and after a change at the same
-one. Else both are left, and a warning says so.
+A branch of a reserved name, or a note on this machine's disk, has the state of the session (`guards`). Another connection may have
+advanced the session since then. So it is restored only if it is at most one step from that state after a look, or at the same step after a
+change. Otherwise both are left as they are, and a warning says so.
 """
 from __future__ import annotations
 
@@ -29,8 +29,8 @@ class LeftWarning(UserWarning):
     If the quota has no room for another branch, the client writes a note to this machine's disk: step, direction and, for a change,
     the frame. Notes are in `~/.local/state/ljclient`, or in `ljclient` in `$XDG_STATE_HOME`. The next `connect` from this account to
     the same address restores the session from the note, if nobody else has changed the session. Other machines, accounts and clients
-    cannot read the note: they may find the session a step forward or back, reversed, or with some of its atoms tugged. Atoms that are
-    kept in the order of space are not sorted again then.
+    cannot read the note: they may find the session a step forward or back, reversed, or with some of its atoms tugged. Without room
+    for a branch, atoms that are kept in the order of space are not sorted again.
 
     `load(.., replace=True)`, `load_saved` and `copy` first load the new session as `ljclient-new`, so a bad file loses nothing. If the
     connection is lost between the DROP of the old session and the LOAD of the new one, `connect` warns that the old session is gone,
@@ -41,7 +41,7 @@ class LeftWarning(UserWarning):
 
 
 def put_right(user: "Loader") -> None:
-    """Puts all of a user's sessions right, and then tells what was left and what was not."""
+    """Repairs all sessions of a user, and then warns of what was repaired and what was left."""
     rows = [fields(line, 4) for line in user.ask("LIST").lines]
     names, told = [name for name, *_ in rows], []
     if REPLACING in names:
@@ -57,7 +57,7 @@ def put_right(user: "Loader") -> None:
 
 
 def _saved_in(user: "Loader", names: List[str]) -> List[Tuple[str, List[str]]]:
-    """The lines of what is saved in each of these sessions, but for those that the user's page in a class has dropped since."""
+    """The lines of LIST of each of these sessions, without sessions that the user's page in a class has dropped since."""
     lists = [f"LIST {name}" for name in names]
     with contextlib.suppress(NoSession):
         return [(name, reply.lines) for name, reply in zip(names, user.ask_all(lists))]
@@ -69,8 +69,8 @@ def _saved_in(user: "Loader", names: List[str]) -> List[Tuple[str, List[str]]]:
 
 
 def session(user: "Loader", name: str, step: int, saved: Iterable[str]) -> None:
-    """Puts a session right by the branches that are saved in it, whose lines these are, and tells of it. It is at this step of the
-    server, or will be."""
+    """Repairs a session from its branches, and warns of it. `saved` are the lines of its branches, and `step` is the server's step
+    number after its pending steps."""
     _tell(_branches(user, name, step, saved))
 
 
@@ -81,7 +81,7 @@ def _tell(texts: Iterable[Optional[str]]) -> None:
 
 
 def _branches(user: "Loader", name: str, step: int, saved: Iterable[str]) -> List[str]:
-    """Puts a session right by the branches that are saved in it, and returns what is to be told."""
+    """Repairs a session from its branches, and returns the texts of the warnings."""
     steps: Dict[str, int] = {branch: whole_number(at) for branch, at in (fields(line, 2) for line in saved)}
     known, told = user._known_of(name), []
     known.left = frozenset()
@@ -102,7 +102,7 @@ def _branches(user: "Loader", name: str, step: int, saved: Iterable[str]) -> Lis
 
 
 def _replacement(user: "Loader", names: List[str]) -> Optional[str]:
-    """What was to replace another session is dropped, unless that one is gone already: its name is saved in it before that."""
+    """Drops the replacement of a session, unless the session is gone already. The replacement has a branch of the session's name."""
     gone = gone_of(user, names)
     if gone is None:
         user.ask(f"DROP {REPLACING}")
@@ -114,7 +114,7 @@ def _replacement(user: "Loader", names: List[str]) -> Optional[str]:
 
 
 def _saved_files(user: "Loader", names: Iterable[str]) -> List[str]:
-    """What is told of sessions that are not there, and of the files that they are saved in since they were to be replaced."""
+    """The warnings of sessions that are gone, and that were saved to files because they were to be replaced."""
     return [
         f"{name} is not there, and {path} has it as it was before an earlier connection replaced it: user.load_saved(..) loads it; "
         f"delete the file if it is not wanted"
@@ -124,7 +124,7 @@ def _saved_files(user: "Loader", names: Iterable[str]) -> List[str]:
 
 
 def _noted(user: "Loader", note: Note, is_there: bool) -> Optional[str]:
-    """Puts a session right by a note on the disk, and returns what is to be told. A note of a session that is gone is deleted."""
+    """Repairs a session from a note on the disk, and returns the warning. A note of a session that is gone is deleted."""
     name = note.owned.session
     if not is_there:
         note.remove()
@@ -140,10 +140,10 @@ def _noted(user: "Loader", note: Note, is_there: bool) -> Optional[str]:
 
 
 def _turned_back(user: "Loader", note: Note, step: int) -> bool:
-    """Goes back to the step and the direction of a note, from where a look may have left the session. Returns whether it was there:
-    else it is as before.
+    """Brings a session back to the step and direction of a note, from where a look may have left it. Returns whether it was there; if not,
+    the session stays as it was.
 
-    On the way of a look it is, with the step n and the direction d of the note, at (n, d), (n + d, d), (n, -d) or (n - d, -d).
+    With step n and direction d of the note, a look may leave the session at (n, d), (n + d, d), (n, -d) or (n - d, -d).
     """
     name, n = note.owned.session, note.step
     turn, on = f"REVERSE {name}", f"ADVANCE {name} 1"
@@ -164,8 +164,8 @@ def _turned_back(user: "Loader", note: Note, step: int) -> bool:
 
 
 def _changed_back(user: "Loader", note: Note, step: int) -> bool:
-    """Gives the atoms the places of the step before that a note has. Returns whether the session was the one of the note: else it is as
-    before."""
+    """Moves the atoms to the places that a note has for one step before. Returns whether the session was the one of the note; if not,
+    it stays as it was."""
     name, before = note.owned.session, note.before or ()
     turn = f"REVERSE {name}"
     if user._row(name).atoms != len(before):

@@ -1,7 +1,7 @@
-"""Lessons: steps whose replies, places, frames, energies and answers are expected, and how replies are compared with them.
+"""Lessons: steps with expected replies, places, frames, energies and answers, and how replies are compared with them.
 
-A lesson is a file `.steps` of lines of words, in which what follows a `#` is a comment, and beside it a file of texts for each
-language, such as `.en` and `.de`:
+A lesson is a file `.steps` of lines of words, with comments after a `#`, and beside it a file of texts for each language, such
+as `.en` and `.de`:
 
     ljserve lesson 1
     session a
@@ -14,9 +14,9 @@ language, such as `.en` and `.de`:
     ask 589 to 589
     ask b of a b c
 
-A step is done when a reply was each of those that it expects, in any order, and when its question was answered right. `*` stands for
-any word of a reply, and for any step. A frame is told by the first 16 digits or more of the SHA-256 of the lines of a DUMP.
-Energies are in epsilon an atom, by the numbers of the LOAD of the session; the kinetic energy is that of half a step ago.
+A step is done when all replies that it expects were seen, in any order, and its question was answered right. `*` matches any word
+of a reply, and any step. A frame is given by the first 16 digits or more of the SHA-256 of the lines of a DUMP. Energies are in
+epsilon per atom, by the numbers of the LOAD of the session. The kinetic energy is the one half a step ago.
 """
 from __future__ import annotations
 
@@ -41,11 +41,11 @@ LANGUAGE = re.compile(r"[a-z]{2}\Z")
 
 
 class Seen(NamedTuple):
-    """A reply: its words, the SHA-256 of the lines after them, and how many energies of the session are one epsilon.
+    """A reply: its words, the SHA-256 of the lines after them, and the unit of the session's kinetic energy.
 
-    words  those of the first line
+    words  the words of the first line
     more   64 digits, or nothing if there are no more lines
-    unit   by what the kinetic number is multiplied to be in epsilon, or 0 if the LOAD is not known
+    unit   the factor from the kinetic number to epsilon, or 0 if the LOAD is not known
     """
 
     words: Sequence[str]
@@ -59,7 +59,7 @@ class Seen(NamedTuple):
 
 @dataclasses.dataclass(frozen=True)
 class Expected:
-    """A reply that a step expects, whose words are these, where `*` stands for any."""
+    """A reply with these words that a step expects, where `*` matches any word."""
 
     words: Tuple[str, ...]
 
@@ -73,7 +73,7 @@ class Expected:
 
 @dataclasses.dataclass(frozen=True)
 class Place(Expected):
-    """A SHOW whose place is at most so many ring units from this one along each axis."""
+    """A SHOW whose place is at most `within` ring units from this one along each axis."""
 
     place: Tuple[int, ...] = ()
     within: int = 0
@@ -87,7 +87,7 @@ class Place(Expected):
 
 @dataclasses.dataclass(frozen=True)
 class Frame(Expected):
-    """A DUMP whose lines have a SHA-256 that begins so."""
+    """A DUMP whose lines have a SHA-256 that begins with `digest`."""
 
     digest: str = ""
 
@@ -97,7 +97,7 @@ class Frame(Expected):
 
 @dataclasses.dataclass(frozen=True)
 class Energy(Expected):
-    """A MEASURE whose energy of an atom is between these, in epsilon."""
+    """A MEASURE whose energy per atom is from `low` to `high`, in epsilon."""
 
     kind: str = ""
     low: float = 0.0
@@ -113,7 +113,7 @@ class Energy(Expected):
 
 @dataclasses.dataclass(frozen=True)
 class Question:
-    """A question, whose answer is one of some choices, or a number between these, with a decimal point or a comma."""
+    """A question, whose answer is one of some choices, or a number from `low` to `high`, with a decimal point or a comma."""
 
     choices: Tuple[str, ...] = ()
     right: str = ""
@@ -132,7 +132,7 @@ class Question:
 
 @dataclasses.dataclass(frozen=True)
 class Step:
-    """A step of a lesson, by its key, which is that of its text too."""
+    """A step of a lesson, with its key, which is also the key of its text."""
 
     key: str
     expected: Tuple[Expected, ...] = ()
@@ -145,8 +145,8 @@ class Lesson:
 
     session  the name of its session
     steps    in order
-    texts    of each step its text, its hint and its question, by `KEY`, `KEY hint` and `KEY question`; and the `title`
-    language that of the texts, such as `en`
+    texts    the text, hint and question of each step, by `KEY`, `KEY hint` and `KEY question`; and the `title`
+    language of the texts, such as `en`
     stem     the path of its files without their endings
     """
 
@@ -162,14 +162,14 @@ class Lesson:
         return os.path.basename(self.stem)
 
     def index_of(self, key: object) -> Optional[int]:
-        """Which step has this key, from 0."""
+        """The index of the step with this key, from 0."""
         return next((at for at, step in enumerate(self.steps) if step.key == key), None)
 
 
 class Walk:
-    """Somebody's way through a lesson: which step it is, and what of it is still to come.
+    """Progress through a lesson: the present step, and its replies that are still missing.
 
-    at       the number of the step, from 0; as many as there are steps at the end
+    at       the number of the step, from 0; at the end, the number of steps
     missing  the replies of this step that were not seen yet
     """
 
@@ -181,12 +181,12 @@ class Walk:
 
     @property
     def step(self) -> Optional[Step]:
-        """The step that it is at. None at the end."""
+        """The present step. None at the end."""
         return self.lesson.steps[self.at] if self.at < len(self.lesson.steps) else None
 
     def see(self, command: str, first: str, more: str) -> bool:
-        """Takes in a command of the session, the first line of its reply, and the SHA-256 of the lines after that. Returns whether
-        the step expects no more replies, after one that it expects."""
+        """Checks a command of the session, the first line of its reply, and the SHA-256 of the lines after that. Returns whether
+        this was the last reply that the step expects."""
         words = first.split(" ")
         if words[:2] in (["OK", "LOAD"], ["OK", "LOADMIX"]):
             self._unit = unit_of(command)
@@ -206,35 +206,35 @@ class Walk:
         return {"step": step and step.key, "missing": missing, "unit": self._unit}
 
     def resume(self, known: Dict[str, Any]) -> None:
-        """Continues from there, or begins where the lesson has no such step any more."""
+        """Continues from there, or stays at the beginning if the lesson no longer has this step."""
         at = len(self.lesson.steps) if known["step"] is None else self.lesson.index_of(known["step"])
         if at is not None:
             self.at, self._unit = at, float(known["unit"])
             self.missing = [] if self.step is None else [self.step.expected[each] for each in known["missing"]]
 
     def go_on(self) -> None:
-        """Goes on to the next step, since this one is done."""
+        """Advances to the next step, since this one is done."""
         self.at += 1
         self.missing = list(self.step.expected) if self.step else []
 
     def pass_over(self) -> None:
-        """Goes on over all steps that expect no more replies, whatever is answered to their questions."""
+        """Skips all steps that expect no more replies, regardless of the answers to their questions."""
         while self.step is not None and not self.missing:
             self.go_on()
 
 
 def unit_of(load: str) -> float:
-    """By what the kinetic number of a session is multiplied to be in epsilon, by the command that loads it: `2^32 / (2 sigma^2 h)`,
-    with sigma in ring units. Of a mixture it is that of the first class."""
+    """The factor from the kinetic number of a session to epsilon, by the command that loads it: `2^32 / (2 sigma^2 h)`, with
+    sigma in ring units. For a mixture, the first class gives it."""
     words = load.split()
     sigma, h = (words[3], words[4]) if words[0] == "LOAD" else (words[5], words[6])
     return RING / (2 * (nano(sigma) * RING // nano(words[2])) ** 2 * int(h))
 
 
 def read(path: Path) -> Lesson:
-    """Reads a lesson, by its file of steps or by one of its texts. Without one it is English.
+    """Reads a lesson, by its file of steps, or by one of its texts. By its file of steps it is English.
 
-    Raises `Damaged`, which names the file and the line, if one is not as it should be, and OSError if it cannot be read.
+    Raises `Damaged`, which names the file and the line, if a file is malformed, and OSError if it cannot be read.
     """
     stem, ending = os.path.splitext(os.fspath(path))
     language = "en" if ending == ".steps" else ending[1:]
@@ -247,7 +247,7 @@ def read(path: Path) -> Lesson:
 
 
 def in_all_languages(lesson: Lesson) -> Dict[str, Lesson]:
-    """A lesson by each language that it has texts of."""
+    """The lesson in each language for which it has texts."""
     folder, name = os.path.split(lesson.stem)
     endings = [each[len(name) + 1 :] for each in sorted(os.listdir(folder or ".")) if each.startswith(f"{name}.")]
     return {ending: read(f"{lesson.stem}.{ending}") for ending in endings if LANGUAGE.match(ending)}
@@ -262,7 +262,7 @@ def names_of_texts(lesson: Lesson) -> List[str]:
 
 
 def texts_of(path: str) -> Dict[str, str]:
-    """The texts of a file: each stands below its name in brackets."""
+    """The texts of a file: each is below its name in brackets."""
     texts: Dict[str, str] = {}
     name = ""
     for number, line in enumerate(_lines(path), 1):
@@ -310,7 +310,7 @@ class _Reader:
         return self._session, self._steps
 
     def _take(self, words: List[str]) -> None:
-        """Takes in a line that has these words."""
+        """Processes a line with these words."""
         verb, *rest = words
         try:
             if verb == "session" and len(rest) == 1 and not self._session:
@@ -331,7 +331,7 @@ class _Reader:
 
 
 def expected_of(session: str, words: List[str]) -> Expected:
-    """What a line expects. Raises ValueError if it is not as it should be."""
+    """The reply that a line expects. Raises ValueError if the line is malformed."""
     kind, *rest = words or [""]
     if kind == "reply" and rest[:1] in (["OK"], ["ERR"]) and rest[1:]:
         return Expected(tuple(rest))
@@ -375,7 +375,7 @@ def question_of(words: List[str]) -> Question:
 
 
 def bounds(low: str, high: str) -> Tuple[float, float]:
-    """Two numbers, of which the second is not below the first."""
+    """The numbers of two bounds, the second not below the first."""
     for word in (low, high):
         if not NUMBER.match(word):
             raise ValueError(f"a bound must be a number, got `{word}`")

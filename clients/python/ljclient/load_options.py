@@ -1,4 +1,4 @@
-"""What `User.load`, `load_mix` and `load_saved` are told alike of a new session, and the atoms that a source has by it."""
+"""The options that `User.load`, `load_mix` and `load_saved` have in common, and the atoms of a source."""
 from __future__ import annotations
 
 from dataclasses import dataclass
@@ -16,10 +16,10 @@ from .units import Scale
 class SourceAtoms(NamedTuple):
     """The atoms of a source.
 
-    source     the source, or what speaks like `Atoms` of ASE for it
+    source     the source, or an adapter with the interface of ASE `Atoms`
     frames     the mode of the load, and its body
     edge       the edge of the box
-    has_motion whether the source may say velocities itself, since no frame of one step before does
+    has_motion whether velocities may come from the source, since no frame of one step before is given
     """
 
     source: Any
@@ -28,13 +28,13 @@ class SourceAtoms(NamedTuple):
     has_motion: bool
 
     def motion(self, scale: Scale) -> Optional[Motion]:
-        """The velocities of the source, rounded. None for atoms at rest, and for two frames."""
+        """The rounded velocities of the source. None for atoms at rest, and for two frames."""
         return motion_of(self.source, self.frames[1], scale) if self.has_motion else None
 
 
 @dataclass(frozen=True)
 class LoadOptions:
-    """The words of a load, as `User.load` has them. Here `continues` is the SHA-256 of the record that the new one continues."""
+    """The options of a load, as in `User.load`. Here `continues` is the SHA-256 of the record that the new one continues."""
 
     edge: Optional[Number] = None
     before: Any = None
@@ -47,7 +47,7 @@ class LoadOptions:
     continues: str = ""
 
     def atoms_of(self, source: Any) -> SourceAtoms:
-        """The atoms of a source. ValueError if nothing says the edge of their box."""
+        """The atoms of a source. Raises ValueError if neither `edge` nor the source has the edge of the box."""
         source, before = adapted(source), adapted(self.before)
         frames = xyz.frames_of(source, before, self.symbols, self.pair)
         edge = xyz.edge_of(source, frames) if self.edge is None else self.edge

@@ -1,4 +1,4 @@
-"""How a user's atoms come to a server: sessions of one species and of two."""
+"""Loads the atoms of a user into sessions of one species or of two."""
 from __future__ import annotations
 
 import contextlib
@@ -36,7 +36,7 @@ else:
 
 
 class Loader:
-    """The part of a `User` that loads atoms, and knows what was said of each session."""
+    """The part of a `User` that loads atoms, and stores what is known of each session."""
 
     def __init__(self, versions: Optional[Versions] = None) -> None:
         # Of the thread that uses the user. It is held as long as something has to be whole, and may be taken again.
@@ -103,7 +103,7 @@ class Loader:
         mass : float, optional
             The mass of an atom in dalton.
         dt : float, optional
-            The time step in femtoseconds. `Session.dt` is the time step of the simulation, which belongs to the rounded h.
+            The time step in femtoseconds. `Session.dt` is the actual time step, from the rounded h.
         before : object, optional
             The atoms one step before, also a source. Both frames together set the atoms in motion.
         pair : bool, optional
@@ -111,10 +111,10 @@ class Loader:
         symbols : str or sequence of str, optional
             The symbol of all atoms, or a symbol for each atom. They replace the symbols of the source.
         replace : bool, optional
-            Whether it replaces a session of that name. The old session stays until the server has accepted the new one.
+            Whether to replace a session of that name. The old session stays until the server has accepted the new one.
         order : {"space"}, optional
             "space" sorts the atoms in space at the server, so that steps of many atoms take less time, and `advance` sorts them again
-            every 250 steps. Everything here keeps the numbers of the source; `Session.order` has the server's.
+            every 250 steps. The client keeps the atom numbers of the source; `Session.order` has the server's numbers.
         watch : bool, optional
             Whether the energy is measured during runs, with a warning if it changes (`Session.advance`).
         record : path, optional
@@ -138,7 +138,7 @@ class Loader:
         UserWarning
             If two atoms are closer than 0.8 sigma.
         EnergyWarning
-            If h is above 200,000, because the energy then grows fast.
+            If `watch` and h is above 200,000, because the energy then grows fast.
         """
         checked_session(name)
         options = LoadOptions(edge, before, pair, symbols, replace, order, watch, record)
@@ -223,7 +223,7 @@ class Loader:
     def _load(
         self, name: str, words: str, atoms: SourceAtoms, scale: units.Scale, mixture: Optional[Mixture], options: LoadOptions
     ) -> Session:
-        """Loads atoms into a new session by the words of the command between its name and the mode."""
+        """Loads atoms into a new session. `words` is the command's text between the session's name and the mode."""
         motion = atoms.motion(scale)
         known = Known(scale, mixture, is_sorted=is_in_space(options.order), watch=EnergyWatch(options.watch))
         warn_of_close_atoms(atoms.frames, scale, mixture)
@@ -235,7 +235,7 @@ class Loader:
 
     @whole
     def _send(self, new: NewSession, name: str, known: Known, options: LoadOptions) -> None:
-        """Asks for a new session, in place of one of that name where it is to be replaced."""
+        """Loads a new session, and replaces a session of that name if `options.replace` is set."""
         line, body = new.command(name)
         with held():
             with self._recorded(name, options, new.command):
@@ -244,10 +244,10 @@ class Loader:
 
     @contextlib.contextmanager
     def _recorded(self, name: str, options: LoadOptions, command_of: CommandOf) -> Iterator[None]:
-        """Drops a session that is to be replaced, once the server has taken the new one, and has the record of that begin with what
-        loads it.
+        """Drops a session that is to be replaced, once the server has accepted the new one, and begins the record of the new one with
+        its load.
 
-        The file is opened first, so that nothing is dropped if it cannot be. If nothing is loaded it stays as it was.
+        The file is opened first, so nothing is dropped if it cannot be opened. If nothing is loaded, the file stays as it was.
         """
         path = self._record_for(name) if options.record is None and self._record_for is not None else options.record
         is_same = options.replace and self._listeners.writes(name, path)
@@ -270,7 +270,7 @@ class Loader:
 
     @whole
     def _listen(self, name: str, listener: Optional[Listener]) -> None:
-        """Has this one, or nobody, hear of each command of a session and its reply."""
+        """Sets the listener that gets each command of a session with its reply. None removes it."""
         self._listeners.put(name, listener)
         self._attach()
 
@@ -299,7 +299,7 @@ class Loader:
 
     @contextlib.contextmanager
     def _heard_by(self, name: str, listener: Optional[Listener]) -> Iterator[None]:
-        """Has someone hear of the commands of a session. Who heard of it before does so again if this one heard of no session."""
+        """Sets the listener of a session. If it has not begun by the end of the block, the previous one is set again."""
         before = self._listeners.by_name.get(name)
         if listener is not None:
             self._listen(name, listener)
@@ -334,14 +334,14 @@ class Loader:
         replace : bool, optional
             As in `load`.
         order : {"space"}, optional
-            As in `load`. By default as it was when it was saved.
+            As in `load`. The default is the saved setting.
         watch : bool, optional
             As in `load`.
         record : path, optional
             As in `load`.
         continues : path, optional
-            The record that the new record continues, such as the record of a killed run: another file, whose SHA-256 is written into
-            the new record.
+            The record that the new record continues, such as the record of a killed run. It is another file; its SHA-256 is written
+            into the new record.
 
         Returns
         -------
@@ -392,12 +392,12 @@ class Loader:
 
     @whole
     def _state_of(self, name: str) -> State:
-        """The whole state of a session, which is as it was then. Its pending steps are done first."""
+        """The whole state of a session after its pending steps. Reading it leaves the session unchanged."""
         return state_of(self, name)
 
     def _put(self, state: State, order: Order, watch: EnergyWatch, options: LoadOptions) -> None:
-        """Has a state be a session in this order, in place of one of its name where that is to be replaced. An interrupt waits until
-        this is done."""
+        """Loads a state as a session with this order, and replaces a session of its name if `options.replace` is set. An interrupt
+        waits until this is done."""
 
         def command_of(new: str) -> Command:
             return dataclasses.replace(state, name=new).command(order)
@@ -408,7 +408,7 @@ class Loader:
             self._learn(state.name, dataclasses.replace(state.known(order), watch=watch, direction=1))
 
     def _learn(self, name: str, known: Known) -> None:
-        """Notes what is known of a session that was loaded, beside what the server has said."""
+        """Stores what is known of a loaded session, with the number of atoms that the server has reported."""
         self._known[name] = dataclasses.replace(known, n_atoms=self._known_of(name).n_atoms)
 
     def _known_of(self, name: str) -> Known:
@@ -416,13 +416,13 @@ class Loader:
         return self._known.setdefault(name, Known())
 
     def _forget(self, name: str) -> None:
-        """Forgets what was said of a session that is gone."""
+        """Forgets what is known of a session that is gone."""
         self._known.pop(name, None)
         self._started.discard(name)
 
     @property
     def _outlasts_connections(self) -> bool:
-        """Whether what is loaded is still there when the connection has ended."""
+        """As `User._outlasts_connections`."""
         raise NotImplementedError
 
     @property
@@ -439,7 +439,7 @@ class Loader:
         raise NotImplementedError
 
     def _attach(self) -> None:
-        """Has the connection tell what it hears to those who record it."""
+        """Attaches the listeners of the sessions to the connection."""
         raise NotImplementedError
 
     def ask(self, line: str, body: bytes = b"") -> Reply:

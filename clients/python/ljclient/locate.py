@@ -24,8 +24,8 @@ NONE_FOUND = "cannot find ljserve; use run(program), set LJSERVE, install the wh
 def find_program() -> str:
     """The program that `run` starts by default.
 
-    It is the one that LJSERVE names, else that of the wheel `ljserve` in the folder of this package, else bin/ljserve of the
-    repository that this package stands in, else that of the wheel wherever it is installed, else `ljserve` on the PATH.
+    It is the program that LJSERVE names, else the one of the wheel `ljserve` beside this package, else bin/ljserve of the
+    repository that contains this package, else the one of the wheel wherever it is installed, else `ljserve` on the PATH.
     """
     if named := os.environ.get("LJSERVE"):
         return named
@@ -52,7 +52,7 @@ def _of_wheel(folders: List[str]) -> Optional[str]:
 
 
 def _of_repository(package: pathlib.Path) -> Optional[str]:
-    """The program of the repository, or of the release, that the package stands in. It is built, if it is not."""
+    """The program of the repository, or of the release, that contains the package. It is built if needed."""
     for folder in package.parents:
         script = folder / "bin" / "ljserve"
         if script.is_file() and any((folder / name).is_file() for name in ("crates.txt", "VERSION")):
@@ -62,7 +62,7 @@ def _of_repository(package: pathlib.Path) -> Optional[str]:
 
 
 def _build(script: pathlib.Path) -> None:
-    """Has the repository's program built, if it is not; it says itself on standard error that this takes minutes."""
+    """Builds the repository's program if needed; the script says on standard error that this takes minutes."""
     words, env = [str(script), "--version"], environment_without_token()
     try:
         done = subprocess.run(words, stdin=subprocess.DEVNULL, stdout=subprocess.DEVNULL, timeout=BUILD_SECONDS, env=env)
@@ -73,7 +73,7 @@ def _build(script: pathlib.Path) -> None:
 
 
 def version_of(program: str, env: Optional[Dict[str, str]] = None) -> List[str]:
-    """The lines in which a program tells its version, none if it tells none."""
+    """The lines of a program's version, none if it prints none."""
     words, env = [program, "--version"], environment_without_token(env)
     try:
         done = subprocess.run(words, stdin=subprocess.DEVNULL, capture_output=True, timeout=VERSION_SECONDS, env=env)

@@ -1,4 +1,4 @@
-"""What can be asked of a session, which stays as it is."""
+"""Queries of a session, which leave it as it is."""
 from __future__ import annotations
 
 from typing import TYPE_CHECKING, Any, List, Optional, Tuple
@@ -21,7 +21,7 @@ else:
 
 
 class Looks(Handle):
-    """The methods of a session that tell what it is."""
+    """The methods of a session that query it."""
 
     __slots__ = ()
 
@@ -132,7 +132,7 @@ class Looks(Handle):
         Parameters
         ----------
         tail : bool, optional
-            Adds the contribution of the pairs beyond the cutoff, if the density there is uniform.
+            Adds the contribution of the pairs beyond the cutoff, assuming a uniform density there.
 
         Returns
         -------

@@ -1,8 +1,8 @@
-"""Whether a command was done if its reply was lost: by the sessions before it, and what a new connection finds.
+"""Whether a command was done if its reply was lost, from the sessions before it and what a new connection finds.
 
-Commands go out in batches, each of changes and then reads, so that any two prefixes of the changes leave the sessions apart in what
-LIST, LIST of a session and MEASURE tell. So what is found says which prefix was done, and nothing is done twice. One exception is
-RESTORE, which leads to the same state if it is done once more. A read is asked once more, and tells the same.
+Commands are sent in batches, each of changes and then reads. Any two prefixes of the changes of a batch lead to different
+replies to LIST, LIST of a session or MEASURE. So these replies show which prefix was done, and nothing is done twice. One exception is
+RESTORE, which leads to the same state if it is repeated. A read is repeated, with the same reply.
 
 Nothing here reads or writes: `ljclient.retrying` does.
 """
@@ -30,8 +30,8 @@ class Found:
     """What a connection finds.
 
     rows    step or target, atoms and number of branches of each session, in order of loading
-    saved   name and step of what is saved, of the sessions where this was asked for
-    drifts  of the sessions that were measured
+    saved   name and step of each branch, for the sessions where this was asked for
+    drifts  the drift of each session that was measured
     """
 
     rows: Mapping[str, Tuple[int, int, int]]
@@ -40,20 +40,20 @@ class Found:
 
 
 class Done(NamedTuple):
-    """What was done: the replies that were lost, one to each of the first commands of a batch, and what the sessions are now."""
+    """What was done: the lost replies, one to each of the first commands of a batch, and the present sessions."""
 
     replies: List[bytes]
     sessions: Sessions
 
 
 def is_read(line: str) -> bool:
-    """Whether this is a command that reads, whether it is refused or not."""
+    """Whether this is a reading command, refused or not."""
     return line.partition(" ")[0] in READS
 
 
 def lacking(sessions: Sessions, line: str) -> Optional[str]:
-    """The command that tells what has to be known before this one is sent: MEASURE before a TUG, so that the drift is known, and LIST
-    of a session before what changes what is saved in it. None where nothing is lacking."""
+    """The command that must be sent before this one: MEASURE before TUG, so that the drift is known, and LIST of a session before
+    BRANCH, RESTORE and FORGET, so that its branches are known. None if nothing is lacking."""
     words = parsed(line)
     here = sessions.get(words.name) if words else None
     if words is None or here is None:
@@ -66,7 +66,7 @@ def lacking(sessions: Sessions, line: str) -> Optional[str]:
 
 
 def batch_of(sessions: Sessions, lines: Sequence[str]) -> int:
-    """How many of these commands may be under way together, from the first on, before which nothing is lacking."""
+    """How many of these commands may be under way together, from the first on. Nothing is lacking before the first."""
     keys: Set[Hashable] = {key_of(sessions)}
     changes = 0
     for count, line in enumerate(lines):
@@ -89,19 +89,19 @@ def batch_of(sessions: Sessions, lines: Sequence[str]) -> int:
 
 
 def _is_known_alike(sessions: Sessions, following: Sessions, line: str) -> bool:
-    """Whether as much is known of a session behind a command as before it: else the two could not be told apart by the drift."""
+    """Whether the drift of a session is known, or unknown, both before and after a command: else it cannot tell the two apart."""
     name = line.split()[1]
     both = [each[name].motion.drift is None for each in (sessions, following) if name in each]
     return len(set(both)) < 2
 
 
 def _may_follow(cases: Sequence[Sessions], line: str, keys: Set[Hashable], is_behind_read: bool) -> bool:
-    """Whether a change that leads to one of these cases may be in a batch behind others."""
+    """Whether a change that leads to one of these cases may follow other commands in a batch."""
     return not is_behind_read and parsed_verb(line) not in (*ALONE, "RESTORE") and keys.isdisjoint(map(key_of, cases))
 
 
 def key_of(sessions: Sessions) -> Hashable:
-    """What a connection would find, in so far as this is known."""
+    """What a connection would find, as far as this is known."""
     return tuple((name, each.atoms, each.count, each.motion.step, each.motion.drift, _saved_key(each)) for name, each in sessions.items())
 
 
@@ -110,9 +110,9 @@ def _saved_key(session: Expected) -> Hashable:
 
 
 def decide(sessions: Sessions, commands: Sequence[Command], found: Found) -> Done:
-    """How many commands of a batch were done, by what the sessions were before it and by what is found now.
+    """How many commands of a batch were done, from the sessions before it and what is found now.
 
-    Raises `Undecided` if neither that nor any of its changes fits.
+    Raises `Undecided` if what is found fits neither the sessions before the batch nor those after any of its changes.
     """
     cases, replies = [sessions], []
     if (told := _fit(sessions, found)) is not None:
@@ -130,7 +130,7 @@ def decide(sessions: Sessions, commands: Sequence[Command], found: Found) -> Don
 
 
 def _fit(sessions: Sessions, found: Found) -> Optional[Sessions]:
-    """These sessions with what is found beside what was known of them. None if something else is found."""
+    """These sessions, completed with what is found. None if what is found does not fit them."""
     if list(sessions) != list(found.rows):
         return None
     fits = {name: _fit_of(name, each, found) for name, each in sessions.items()}
@@ -151,7 +151,7 @@ def _fit_of(name: str, session: Expected, found: Found) -> Optional[Expected]:
 
 
 def reply_of(line: str, sessions: Sessions) -> bytes:
-    """The first line of the reply to a command that changed something, which led to these sessions."""
+    """The first line of the reply to a change that led to these sessions."""
     words = parsed(line)
     assert words is not None
     verb, name, others = words
@@ -169,7 +169,7 @@ def reply_of(line: str, sessions: Sessions) -> bytes:
 
 
 def followed(sessions: Optional[Sessions], answer: Answer) -> Optional[Sessions]:
-    """The sessions after a command that was replied to. None where the reply is not as it would be by what was known of them."""
+    """The sessions after a command and its reply. None if the reply does not fit what was known of them."""
     line, words = answer.line.decode(), answer.first.decode("ascii").split(" ")
     if is_read(line) or words[0] != "OK":
         return sessions_told(sessions, words, answer.rest) if words[0] == "OK" else sessions
@@ -189,13 +189,13 @@ def parsed_verb(line: str) -> str:
 
 
 def _waited_for(sessions: Sessions, words: Sequence[str]) -> Sessions:
-    """The sessions, where no steps are pending of the one of a reply."""
+    """The sessions, with no pending steps in the session of a reply."""
     here = sessions[words[2]]
     return {**sessions, words[2]: replace(here, is_pending=False)} if here.is_pending else sessions
 
 
 def _is_told(line: str, case: Sessions, words: Sequence[str]) -> bool:
-    """Whether the words of a reply to a command are those that this case of the sessions has."""
+    """Whether the words of a reply to a command are those expected in this case of the sessions."""
     wanted = reply_of(line, case).decode().split(" ")
     return wanted[:-1] == list(words[:-1]) if words[1] in LOADS else wanted == list(words)
 
@@ -205,7 +205,7 @@ def _with_atoms(sessions: Sessions, words: Sequence[str]) -> Sessions:
 
 
 def sessions_told(sessions: Optional[Sessions], words: Sequence[str], rest: Sequence[bytes]) -> Optional[Sessions]:
-    """The sessions, with what a reply to a reading command tells of them beside what was known."""
+    """The sessions, completed with the reply to a reading command."""
     lines = [line.decode("ascii") for line in rest]
     if words[1] == "LIST" and len(words) == 3:
         return _listed(sessions, rows_of(lines))
@@ -222,7 +222,7 @@ def sessions_told(sessions: Optional[Sessions], words: Sequence[str], rest: Sequ
 
 
 def _listed(sessions: Optional[Sessions], rows: Mapping[str, Tuple[int, int, int]]) -> Sessions:
-    """The sessions that LIST tells, with what was known of them if that fits."""
+    """The sessions in the reply to LIST, with what was known of them if that fits."""
     told = None if sessions is None else _fit(sessions, Found(rows))
     if told is not None:
         return told
@@ -230,7 +230,7 @@ def _listed(sessions: Optional[Sessions], rows: Mapping[str, Tuple[int, int, int
 
 
 def rows_of(lines: Sequence[str]) -> Dict[str, Tuple[int, int, int]]:
-    """Step, atoms and branches of each session, by the lines of LIST."""
+    """Step, number of atoms and number of branches of each session, from the lines of LIST."""
     rows = {}
     for line in lines:
         name, *numbers = fields(line, 4)
@@ -240,20 +240,21 @@ def rows_of(lines: Sequence[str]) -> Dict[str, Tuple[int, int, int]]:
 
 
 def saved_of(lines: Sequence[str]) -> List[Tuple[str, int]]:
-    """Name and step of all that is saved in a session, by the lines of LIST."""
+    """Name and step of each branch of a session, from the lines of LIST."""
     return [(name, whole_number(step)) for name, step in (fields(line, 2) for line in lines)]
 
 
 def drift_of(words: Sequence[str]) -> Vector:
-    """The drift that the words of a reply to MEASURE tell, from `OK` on."""
+    """The drift in the words of a reply to MEASURE, from `OK` on."""
     if len(words) != 10:
         raise BadReply(f"{' '.join(words)[:80]!r} is not a measurement")
     return vector([whole_number(word) for word in words[5:8]])
 
 
 def asked_of(sessions: Sessions, commands: Sequence[Command], rows: Mapping[str, Tuple[int, int, int]]) -> List[str]:
-    """What is to be asked beside LIST, for `decide`: what is saved, where it is known what that was, and the drift, where no steps are
-    pending that would be waited for, or commands of the batch wait for them. Those that do not are told apart without it."""
+    """The commands to send beside LIST, for `decide`: LIST of sessions whose branches were known, and MEASURE of sessions whose drift was
+    known. A session with pending steps is measured only if a command of the batch waits for these. Commands that do not wait are
+    distinguished without the drift."""
     words = [each for each in (parsed(line) for line, _ in commands) if each is not None]
     waiting = {each.name for each in words if each.verb in WAITING}
     names = [name for name in rows if name in sessions]
@@ -272,7 +273,7 @@ def _undecided(cases: Sequence[Sessions], lines: Sequence[str], found: Found) ->
 
 
 def _difference(name: str, cases: Sequence[Optional[Expected]], found: Found) -> str:
-    """What a session is, and what it would be. Nothing where it is as one of the commands leaves it."""
+    """What a session is, and what was expected. Empty if it is as before the commands, or as one of them leaves it."""
     if name in found.rows and any(case is not None and _fit_of(name, case, found) for case in cases):
         return ""
     if name not in found.rows and None in cases:

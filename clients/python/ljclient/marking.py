@@ -23,7 +23,7 @@ each step. The status is 0 if all is right, 1 if something is wrong or missing, 
 
 
 def mark(lesson: Lesson, path: Path, answers: Dict[str, str]) -> List[Tuple[bool, str]]:
-    """Of each step whether it is right, and what is told of it.
+    """Whether each step is right, and the report on it.
 
     Parameters
     ----------
@@ -37,7 +37,7 @@ def mark(lesson: Lesson, path: Path, answers: Dict[str, str]) -> List[Tuple[bool
     Returns
     -------
     list of (bool, str)
-        In the order of the steps. Replies of a step count behind those of the step before it alone.
+        In the order of the steps. Replies of a step count only after all those of the step before.
     """
     walk, file = Walk(lesson), RecordFile(path)
     walk.pass_over()
@@ -49,7 +49,7 @@ def mark(lesson: Lesson, path: Path, answers: Dict[str, str]) -> List[Tuple[bool
 
 
 def read_answers(path: Path) -> Dict[str, str]:
-    """The answers of a file, whose lines are the key of a step and an answer: the last one of each counts. None if there is no file."""
+    """The answers in a file. Each line has the key of a step and an answer; the last one of each counts. Empty if there is no file."""
     try:
         with open(path, encoding="utf-8") as file:
             rows = [line.split(maxsplit=1) for line in file.read(1 << 20).splitlines()]
@@ -59,7 +59,7 @@ def read_answers(path: Path) -> Dict[str, str]:
 
 
 def _marked(lesson: Lesson, walk: Walk, number: int, answers: Dict[str, str]) -> Tuple[bool, str]:
-    """Whether a step is right, and what is told of it."""
+    """Whether a step is right, and the report on it."""
     step, language = lesson.steps[number], lesson.language
     if number >= walk.at:
         missing = walk.missing if number == walk.at else step.expected
@@ -73,7 +73,7 @@ def _marked(lesson: Lesson, walk: Walk, number: int, answers: Dict[str, str]) ->
 
 
 def main(words: List[str]) -> int:
-    """Marks the record that the words of the command line say, and returns the exit status."""
+    """Marks the record of the command line, and returns the exit status."""
     usage = "python3 -m ljclient check LESSON RECORD"
     parser = argparse.ArgumentParser("ljclient check", usage, ABOUT, formatter_class=argparse.RawDescriptionHelpFormatter)
     parser.add_argument("lesson", metavar="LESSON", help="its steps, or its text in a language: two_atoms.steps, .en or .de")

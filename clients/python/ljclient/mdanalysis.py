@@ -9,7 +9,7 @@
         atoms.write("argon.gro")
         atoms.write("argon.xtc", frames="all")
 
-An import of this module without MDAnalysis is a `Missing` error.
+Importing this module without MDAnalysis raises `Missing`.
 """
 from __future__ import annotations
 
@@ -31,17 +31,17 @@ _Reader: Any = optional.mdanalysis("MDAnalysis.coordinates.base", WHY).ReaderBas
 
 
 class SessionReader(_Reader):  # type: ignore[misc]
-    """A trajectory of MDAnalysis whose frames are those of a session on its way.
+    """A trajectory of MDAnalysis with the frames of a session.
 
-    Any frame can be asked for, in any order: the session goes on or back to it, exactly. After a whole iteration it is at the first
-    frame again, bit for bit. Who makes steps of the session meanwhile has other frames.
+    Frames can be read in any order: the session goes forward or back to them, exactly. After a whole iteration it is at the first
+    frame again, bit for bit. Steps that are made elsewhere in the meantime change the frames.
 
     Parameters
     ----------
     session : Session
         A session whose scale is known.
     every : int
-        How many steps there are from one frame to the next.
+        The number of steps between frames.
     n_frames : int
         The number of frames. The first is the present one.
 
@@ -67,7 +67,7 @@ class SessionReader(_Reader):  # type: ignore[misc]
 
     @property
     def _picosecond(self) -> float:
-        """How many units of time of the session are one of the trajectory: of femtoseconds 1000."""
+        """The session's units of time per unit of the trajectory: 1000 for femtoseconds, else 1."""
         return 1.0 if self.session.scale.dt is None else PICOSECOND
 
     def _read_next_timestep(self, ts: Any = None) -> Any:
@@ -76,14 +76,14 @@ class SessionReader(_Reader):  # type: ignore[misc]
         return self._read_frame(self.ts.frame + 1)
 
     def _read_frame(self, frame: int) -> Any:
-        """Has the session be at a frame, and reads it."""
+        """Moves the session to a frame, and reads it."""
         self._go_to(frame * self.every)
         self._fill(next(self.session.frames([0])))
         self.ts.frame = frame
         return self.ts
 
     def _go_to(self, wanted: int) -> None:
-        """Goes on or back, so that so many steps from the first frame are made, in the direction of the start."""
+        """Moves the session to the step `wanted` steps after the first frame. Its direction stays."""
         back, self._made = self._made - wanted, wanted
         if back < 0:
             self.session.advance(-back)
@@ -104,7 +104,7 @@ class SessionReader(_Reader):  # type: ignore[misc]
         self.ts.frame = -1
 
     def close(self) -> None:
-        """Does nothing: the session goes on."""
+        """Does nothing: the session is kept."""
 
 
 def universe(session: Session, every: int = 1, n_frames: int = 1, symbols: Optional[Replacements] = None) -> Any:
@@ -119,11 +119,11 @@ def universe(session: Session, every: int = 1, n_frames: int = 1, symbols: Optio
     session : Session
         A session whose scale is known. The trajectory moves it forward and back.
     every : int, optional
-        How many steps there are from one frame to the next.
+        The number of steps between frames.
     n_frames : int, optional
         The number of frames. The first is the present one.
     symbols : dict, optional
-        What replaces each symbol of the session, such as `{"A": "Ar", "B": "Kr"}`.
+        The replacement of each symbol of the session, such as `{"A": "Ar", "B": "Kr"}`.
 
     Returns
     -------

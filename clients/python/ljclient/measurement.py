@@ -1,4 +1,4 @@
-"""What a measurement of a session tells, and what it means in physics."""
+"""The numbers of a measurement of a session, and the physical quantities that follow from them."""
 from __future__ import annotations
 
 from dataclasses import dataclass, field
@@ -20,7 +20,7 @@ class Measurement:
     step : int
         The step number.
     atoms : int
-        How many atoms there are.
+        The number of atoms.
     momentum : tuple of int
         Along x, y and z: the sum of the displacements of the last step, in ring units (edge / 2^32) per step.
     kinetic : int
@@ -28,7 +28,7 @@ class Measurement:
     potential : int
         The potential in units of 2^-24 epsilon.
     scale : Scale or None
-        What the whole numbers of the session mean, if the client knows it.
+        The scale of the session's whole numbers, if the client knows it.
     """
 
     step: int
@@ -104,7 +104,7 @@ class Measurement:
 
 
 def known(scale: Optional[Scale]) -> Scale:
-    """A scale that somebody has said. Raises ValueError if nobody has."""
+    """The scale, if it is known. Raises ValueError if it is not."""
     if scale is None:
         raise ValueError("the scale of the session must be known, got None; use user.session(name, edge=.., sigma=.., h=..)")
     return scale

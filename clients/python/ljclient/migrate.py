@@ -1,7 +1,7 @@
-"""Sessions that move to another program, with what is saved in them.
+"""Sessions that move to another program, with their saved states.
 
-A session has one LOAD, and what is saved in it is gone with it. So a session with saved states is loaded as the first of
-them, and made each other one by tugs: a tug moves an atom's place one step before, and REVERSE exchanges both frames.
+A session has one LOAD, and its saved states are lost with it. So a session with saved states is loaded as the first of them,
+and changed to each other one by tugs: a tug moves an atom's place one step before, and REVERSE exchanges both frames.
 """
 from __future__ import annotations
 
@@ -20,7 +20,7 @@ if TYPE_CHECKING:
 
 @dataclass(frozen=True)
 class Kept:
-    """A session with what is saved in it.
+    """A session with its saved states.
 
     now    its state
     saved  the saved states by their names, in order of saving
@@ -40,13 +40,13 @@ class Kept:
         return commands
 
     def tell(self, loader: "Loader") -> None:
-        """Has it be known that these commands were done."""
+        """Records that these commands were done."""
         known = loader._known_of(self.now.name)
         known.order = self.now.order_of(self.order)
         known.branches = {branch: state.order_of(self.order) for branch, state in self.saved.items()}
 
     def put_back(self, loader: "Loader") -> None:
-        """Has the session that was read be as it was, by tugs too. The server counts on from the last saved state."""
+        """Restores the session that was read, by tugs too. The server's step numbers continue from the last saved state."""
         for last in list(self.saved.values())[-1:]:
             loader._ask_commands(changes(last, self.now, self.order))
             known, now = loader._known_of(self.now.name), self.now
@@ -56,12 +56,12 @@ class Kept:
 
 
 def most_commands(atoms: int, branches: int) -> int:
-    """How many commands it takes at most to read a session, or to load it, with what is saved in it."""
+    """The greatest number of commands to read a session, or to load it, with its saved states."""
     return (branches + 1) * (commands_of_state(atoms) + 2)
 
 
 def kept_of(loader: "Loader", name: str) -> Kept:
-    """A session with what is saved in it. It has the last saved state then, if any, until `put_back`."""
+    """A session with its saved states. It is left in the last saved state, if any, until `put_back`."""
     now, saved = loader._state_of(name), {}
     for branch in [line.split(" ")[0] for line in loader.ask(f"LIST {name}").lines]:
         loader._restore(name, branch)
@@ -70,7 +70,7 @@ def kept_of(loader: "Loader", name: str) -> Kept:
 
 
 def program_with(restart: Callable[[], Wire], sessions: Sequence[Kept]) -> Optional[Wire]:
-    """A new program that has these sessions. None if it does not start, or does not take them."""
+    """A new program that has these sessions. None if it does not start, or does not accept them."""
     try:
         wire = restart()
     except ClientError:
@@ -84,7 +84,7 @@ def program_with(restart: Callable[[], Wire], sessions: Sequence[Kept]) -> Optio
 
 
 def changes(state: State, other: State, order: Order) -> List[Command]:
-    """The commands that make a session of one state have the frames of the other. They leave its step number as it is."""
+    """The commands that give a session of one state the frames of the other. They leave its step number as it is."""
     turn = f"REVERSE {state.name}"
     before = tugs_of(state.name, order, state.before, other.before)
     lines = [*before, turn, *tugs_of(state.name, order, state.places, other.places), turn]

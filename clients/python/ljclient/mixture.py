@@ -1,4 +1,4 @@
-"""Mixtures of two species: how two atoms interact by what they are, and the numbers that this is rounded to."""
+"""Mixtures of two species: the interaction of each pair of species, and its rounded numbers."""
 from __future__ import annotations
 
 import math
@@ -20,15 +20,15 @@ RawClass = Tuple[Number, int, int]
 class Mixture:
     """Two species of atoms, and how each pair of species interacts. `str` has a line for each class.
 
-    All atoms have one mass.
+    All atoms have the same mass.
 
     Attributes
     ----------
     species : tuple of str
         The symbols of the two species.
     classes : tuple of Scale
-        The scales of the pairs first with first, first with second, and second with second species. They have the rounded numbers:
-        `h`, `weight`, `sigma_on_ring`, and the time step `dt` that belongs to h.
+        The scales of the pairs: first with first, first with second, and second with second species. They have the rounded numbers
+        `h`, `weight` and `sigma_on_ring`, and the time step `dt` for this h.
     words : str
         The words of the command for species and classes.
     """
@@ -50,10 +50,10 @@ class Mixture:
         classes: Optional[Sequence[RawClass]] = None,
         epsilon: Optional[float] = None,
     ) -> "Mixture":
-        """The mixture of pairs of sigma and epsilon, with mass and dt; or of three classes of sigma, h and weight.
+        """The mixture from pairs of sigma and epsilon, with mass and dt; or from three classes of sigma, h and weight.
 
-        Of pairs, each h and each weight is the nearest whole number, and `mixed` is by default that of Lorentz
-        and Berthelot. Beside classes, `epsilon` (of the first one) and `mass` may be said.
+        With pairs, each h and each weight is the nearest whole number, and `mixed` follows the Lorentz-Berthelot rules by default.
+        With classes, `epsilon` (of the first class) and `mass` are optional.
         """
         symbols = checked_species(species)
         if mass is not None:
@@ -85,7 +85,7 @@ class Mixture:
 
     @property
     def epsilons(self) -> Optional[Tuple[float, ...]]:
-        """The epsilons that belong to the weights, in electronvolt; None if the epsilon of the first class is not known."""
+        """The epsilon of each class by its weight, in electronvolt; None if the epsilon of the first class is not known."""
         unit = self.scale.epsilon
         return None if unit is None else tuple(unit * each.weight / self.scale.weight for each in self.classes)
 
@@ -95,7 +95,7 @@ class Mixture:
 
 
 def checked_species(species: Sequence[str]) -> Tuple[str, str]:
-    """The symbols of two species. Raises ValueError for others, and if both are equal."""
+    """The symbols of two species. Raises ValueError for anything else, and if both are equal."""
     if isinstance(species, str) or len(species) != 2:
         raise ValueError(f"species must be two symbols, such as ('Ar', 'Kr'), got {shortened(species)}")
     first, second = species
@@ -107,7 +107,7 @@ def checked_species(species: Sequence[str]) -> Tuple[str, str]:
 
 
 def checked_pair(name: str, pair: Pair) -> Pair:
-    """Sigma and epsilon. Raises ValueError if a pair has something else."""
+    """Sigma and epsilon. Raises ValueError unless the pair has two values."""
     try:
         sigma, epsilon = pair
     except (TypeError, ValueError):
@@ -122,7 +122,7 @@ def lorentz_berthelot(first: Pair, second: Pair) -> Pair:
 
 
 def weight_of(epsilon: float, unit: float) -> int:
-    """The weight nearest to an epsilon, where that of the first class is the unit."""
+    """The weight nearest to an epsilon, where `unit` is the epsilon of the first class."""
     weight = round(min(FULL_WEIGHT * (checked_positive("epsilon", epsilon) / unit), 2.0 * MAX_WEIGHT))
     if not 1 <= weight <= MAX_WEIGHT:
         least, most = unit / FULL_WEIGHT, unit * MAX_WEIGHT / FULL_WEIGHT
@@ -131,7 +131,7 @@ def weight_of(epsilon: float, unit: float) -> int:
 
 
 def _rounded(edge: Number, species: Tuple[str, str], pairs: Sequence[Pair], mass: float, dt: float) -> List[Scale]:
-    """The scales of three classes. A number that does not fit is a ValueError which names the class."""
+    """The scales of three classes. Raises ValueError, with the name of the class, if a number does not fit."""
     scales: List[Scale] = []
     for name, (sigma, epsilon) in zip(_names(species), pairs):
         try:
@@ -154,7 +154,7 @@ def _names(species: Tuple[str, str]) -> List[str]:
 
 
 def _line(name: str, scale: Scale, epsilon: Optional[float]) -> str:
-    """What a class is rounded to."""
+    """A line with the rounded numbers of a class."""
     step = "" if scale.dt is None else f" (dt {scale.dt:.6f} fs)"
     depth = "" if epsilon is None else f" (epsilon {epsilon:.6g} eV)"
     return f"{name}: sigma {scale.sigma:g} ({scale.sigma_on_ring} ring units), h {scale.h}{step}, weight {scale.weight}{depth}"

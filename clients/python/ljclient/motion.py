@@ -1,4 +1,4 @@
-"""The motion that atoms are loaded with: velocities, rounded to whole displacements of each step."""
+"""The motion with which atoms are loaded: velocities, rounded to whole displacements per step."""
 from __future__ import annotations
 
 from dataclasses import dataclass, field
@@ -34,9 +34,9 @@ class Motion:
 
     @staticmethod
     def of(velocities: Sequence[Sequence[float]], scale: Scale, rest: str = TAKEN_AWAY) -> "Motion":
-        """The motion of these velocities, in angstrom per femtosecond. ValueError where the time step is not known.
+        """The motion for these velocities, in angstrom per femtosecond. Raises ValueError if the time step is not known.
 
-        rest  what the error says of how these atoms are loaded at rest
+        rest  the part of the error that states how to load these atoms at rest
         """
         if scale.dt is None:
             raise ValueError(f"epsilon and mass must be given for atoms with velocities, got none; use epsilon= and mass=, or {rest}")
@@ -60,7 +60,7 @@ class Motion:
 
 
 def motion_of(source: Any, body: bytes, scale: Scale) -> Optional[Motion]:
-    """The motion that a source says itself: `Atoms` of ASE with velocities, or extended XYZ text with a column of them.
+    """The motion that a source contains: `Atoms` of ASE with velocities, or extended XYZ text with a column of velocities.
 
     None for atoms at rest.
     """
@@ -74,7 +74,7 @@ def motion_of(source: Any, body: bytes, scale: Scale) -> Optional[Motion]:
 
 
 def _rounded(atom: int, parts: Sequence[float]) -> Displacement:
-    """The nearest whole displacement, where it is below half the box."""
+    """The nearest whole displacement. Raises ValueError unless it is below half the box."""
     if not all(abs(part) < HALF - 1 for part in parts):
         raise ValueError(f"the velocity of atom {atom} must be below half the box in a step; use a shorter time step")
     x, y, z = [round(part) for part in parts]

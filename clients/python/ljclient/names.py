@@ -12,7 +12,7 @@ MAX_SHOWN = 80
 
 
 def shortened(value: Any) -> str:
-    """A value as the message of an error shows it: its `repr`, cut where it is long."""
+    """A value as an error message shows it: its `repr`, cut if it is long."""
     text = repr(value)
     return text if len(text) <= MAX_SHOWN else text[: MAX_SHOWN - 2] + ".."
 
@@ -32,7 +32,7 @@ def checked_symbol(symbol: Any) -> str:
 
 
 def whole_of(number: Any, what: str) -> int:
-    """A whole number as a Python int, from one of Python or numpy. Raises TypeError, with the name `what`, if it is not one."""
+    """A whole number of Python or numpy as a Python int. Raises TypeError, which names `what`, if it is not one."""
     try:
         return operator.index(number)
     except TypeError:
@@ -40,7 +40,7 @@ def whole_of(number: Any, what: str) -> int:
 
 
 def displacement_of(displacement: Any) -> Tuple[int, int, int]:
-    """The three whole numbers of a displacement. Raises TypeError or ValueError if it has others."""
+    """The three whole numbers of a displacement. Raises TypeError or ValueError if it is not three whole numbers."""
     try:
         x, y, z = map(operator.index, displacement)
     except (TypeError, ValueError) as error:

@@ -1,7 +1,7 @@
-"""Pairs of atoms that are near each other round the box, by cells. It needs numpy.
+"""Pairs of neighbouring atoms in the periodic box, by cells. It needs numpy.
 
-The box is cut into columns along z, and each column into cells. Atoms are sorted by their cells, so those of a column that are as
-high as an atom, or nearly, follow one another in the list. An atom is compared with those of columns and heights in its reach.
+The box is cut into columns along z, and each column into cells. Atoms are sorted by cell, so the atoms of a column at about the
+same height are consecutive in the list. An atom is compared with the atoms of columns and heights in its reach.
 """
 from __future__ import annotations
 
@@ -23,11 +23,11 @@ BLOCK = 256
 
 
 class Near:
-    """Pairs of atoms that are near each other. What is told of them is picked out of more pairs when it is asked for.
+    """Pairs of neighbouring atoms. Each property selects them from more pairs when it is read.
 
     squares  their squared distances, in square ring units
 
-    Where numbers are said, second ones are places in the list of these.
+    If `numbers` is given, the second atoms are indices into it.
     """
 
     def __init__(self, first: Any, second: Any, images: Tuple[Any, ...], squares: Any, kept: Any, numbers: Any = None):
@@ -38,29 +38,29 @@ class Near:
 
     @property
     def first(self) -> Any:
-        """The numbers of their first atoms."""
+        """The numbers of the first atoms."""
         return self._all[0][self._kept]
 
     @property
     def second(self) -> Any:
-        """The numbers of their second atoms."""
+        """The numbers of the second atoms."""
         places = self._all[1][self._kept]
         return places if self._numbers is None else self._numbers[places]
 
     @property
     def images(self) -> Any:
-        """Where the second ones are, seen from the first, in ring units: an array of shape (3, pairs)."""
+        """The vectors from the first atoms to the second, in ring units: an array of shape (3, pairs)."""
         return arrays.numpy.array([image[self._kept] for image in self._all[2]])
 
 
 class Sorted(NamedTuple):
-    """Atoms in the order of their cells, each column with what is above its top and below its bottom round the box.
+    """Atoms sorted by cell. Each column also has the periodic images above its top and below its bottom.
 
-    numbers       the number of each in the list
+    numbers       the number of each atom in the list
     axes          their places along x, y and z, of 32 bits
-    cells         the cell of each, and starts where in the list each cell begins; None if there are too many
-    side, high    how many columns there are along x and along y, and how many cells in each
-    more          how many cells a column has above its top, and as many below
+    cells         the cell of each; `starts` where each cell begins in the list, None if there are too many cells
+    side, high    the number of columns along x and along y, and the number of cells in each
+    more          the number of cells above a column's top, and below its bottom
     """
 
     numbers: Any
@@ -72,12 +72,12 @@ class Sorted(NamedTuple):
     more: int
 
     def begin(self, cells: Any) -> Any:
-        """Where in the list some cells begin."""
+        """The indices in the list where some cells begin."""
         return arrays.numpy.searchsorted(self.cells, cells) if self.starts is None else self.starts[cells]
 
 
 class Pairs(NamedTuple):
-    """All pairs that are near each other: as those of `Near`, put together."""
+    """All pairs of neighbouring atoms: the parts from `Near`, concatenated."""
 
     first: Any
     second: Any
@@ -86,7 +86,7 @@ class Pairs(NamedTuple):
 
 
 def near_pairs(places: Any, square: float) -> Pairs:
-    """The pairs of atoms whose squared distance is below a square, in square ring units, each once."""
+    """The pairs of atoms whose squared distance is below `square`, in square ring units, each once."""
     found = [(each.first, each.second, each.images, each.squares) for each in near_parts(places, square)]
     none = arrays.numpy.zeros(0, dtype=arrays.numpy.intp)
     found.append((none, none, arrays.numpy.zeros((3, 0), dtype=arrays.numpy.int32), arrays.numpy.zeros(0)))
@@ -94,7 +94,7 @@ def near_pairs(places: Any, square: float) -> Pairs:
 
 
 def near_parts(places: Any, square: float) -> Iterator[Near]:
-    """The same, some at a time.
+    """The same, in parts.
 
     places  whole numbers of shape (atoms, 3), in ring units
     """
@@ -133,7 +133,7 @@ def _by_cells(axes: Tuple[Any, ...], reach: int, square: float) -> Iterator[Near
 
 
 def _sorted(axes: Tuple[Any, ...], reach: int) -> Sorted:
-    """Atoms in the order of cells of this reach."""
+    """Atoms sorted by cells for this reach."""
     numpy = arrays.numpy
     side, high = COLUMNS * RING // reach, CELLS * RING // reach
     more = math.ceil(reach * high / RING)
@@ -150,7 +150,7 @@ def _sorted(axes: Tuple[Any, ...], reach: int) -> Sorted:
 
 
 def _columns_in_reach(atoms: Sorted, reach: int) -> List[Tuple[int, int, int]]:
-    """One of each two opposite columns that are in reach of a column, and how many cells up and down they are so."""
+    """The offsets of columns in reach of a column, one of each opposite two, and the number of cells in reach up and down."""
     width, height, found = RING / atoms.side, RING / atoms.high, []
     for right, back in itertools.product(range(-COLUMNS, COLUMNS + 1), repeat=2):
         apart = math.hypot(max(abs(right) - 1, 0), max(abs(back) - 1, 0)) * width
@@ -160,7 +160,7 @@ def _columns_in_reach(atoms: Sorted, reach: int) -> List[Tuple[int, int, int]]:
 
 
 def _windows(start: Any, counts: Any) -> Iterator[Tuple[Any, Any]]:
-    """Of each atom others that follow one another in a list, so many from a place on: the number of the atom, and their places."""
+    """For each atom, `counts` consecutive entries of a list from `start` on: the number of the atom, and their indices."""
     numpy = arrays.numpy
     ends = numpy.cumsum(counts)
     bounds = numpy.searchsorted(ends, numpy.arange(MOST_PAIRS, ends[-1], MOST_PAIRS)).tolist()
@@ -172,7 +172,7 @@ def _windows(start: Any, counts: Any) -> Iterator[Tuple[Any, Any]]:
 
 
 def _images(axes: Tuple[Any, ...], first: Any, others: Tuple[Any, ...], second: Any) -> Tuple[Any, ...]:
-    """Of pairs the coordinates of the second ones seen from the first, the nearer way round the box: differences of 32 bits."""
+    """The vectors from first to second atoms of pairs, by the shorter way around the box, as differences of 32 bits."""
     return tuple((theirs[second] - ours[first]).view(arrays.numpy.int32) for ours, theirs in zip(axes, others))
 
 

@@ -1,4 +1,4 @@
-"""The one command that loads atoms into a new session: as they were said, in motion, and in the order of space."""
+"""The one command that loads atoms into a new session: as they were passed, or in motion, or in the order of space."""
 from __future__ import annotations
 
 from dataclasses import dataclass, replace
@@ -15,13 +15,13 @@ from .xyz import Frames
 
 @dataclass(frozen=True)
 class NewSession:
-    """What loads a session of any name.
+    """The command that loads a session, for any name.
 
     verb, words  the command, and its words between the name and the mode
-    frames       the mode and the atoms as they were said
-    edge         the edge of the box in 10^-9 of the file's unit, where `state` is there
-    state        what atoms that move, or that are sorted, are at step 0, in the user's order. None for others, and for those that
-                 the server does not take: it says what is wrong with them
+    frames       the mode and the atoms as they were passed
+    edge         the edge of the box in 10^-9 of the file's unit, if there is a `state`
+    state        the state at step 0, in the user's order, of atoms that move or are sorted. None for other atoms, and for atoms that
+                 the server refuses: its refusal states the fault
     """
 
     verb: str
@@ -51,12 +51,12 @@ class NewSession:
 
     @property
     def is_on_ring(self) -> bool:
-        """Whether the server has them in the box that shows each ring unit. In another one a place has no coordinate of its own
-        where the box is small."""
+        """Whether the server has the atoms in the box that shows each ring unit. In any other small box, not every place has a
+        coordinate of its own."""
         return self.state is not None and (self.state.is_sorted or self.edge < RING)
 
     def command(self, name: str) -> Command:
-        """The command that loads it under a name, and its body."""
+        """The command that loads the session under a name, and its body."""
         mode, body = self.frames
         if self.state is not None:
             if self.is_on_ring:
@@ -73,5 +73,5 @@ class NewSession:
 
 
 def _is_on_ring(scale: Scale) -> bool:
-    """Whether the server takes the edge and the sigma of a scale, so far as both together say it."""
+    """Whether the server accepts the edge and the sigma of a scale, as far as their ratio decides it."""
     return MIN_SIGMA <= scale.sigma_on_ring and 5 * scale.sigma_on_ring < RING

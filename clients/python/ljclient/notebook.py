@@ -67,14 +67,14 @@ def show(session: "Session", steps: int = 10) -> "Panel":
 
 
 class Panel:
-    """What `show` gives. Its buttons do what its methods do, so a cell may call these too.
+    """The panel that `show` returns. Its buttons do the same as its methods, so a cell may call these too.
 
     session  the session
-    steps    by how many steps a button goes on or back
+    steps    the number of steps for each press of a button
     widget   the widget of ipywidgets
 
-    A button waits while a cell uses the session's user, and a cell while a button does. What goes wrong is told in the panel's last
-    line, and raised where a cell has called. `session.advance(1000, progress=panel)` draws the session on its way.
+    A button waits while a cell uses the session's user, and a cell while a button does. Errors of buttons appear in the panel's
+    last line. Calls in a cell raise them. `session.advance(1000, progress=panel)` draws the session meanwhile.
     """
 
     def __init__(self, session: "Session", steps: int = 10):
@@ -98,7 +98,7 @@ class Panel:
         return f"Panel({self.session!r})"
 
     def __call__(self, done: int, total: int) -> None:
-        """Draws the session while steps are made, five times a second at most, and at their end: for `progress=panel`."""
+        """Draws the session at most five times a second while steps are made, and at the end, for `progress=panel`."""
         if done >= total or time.monotonic() - self._drawn_at >= DRAWN_EACH:
             self.draw()
 
@@ -107,7 +107,7 @@ class Panel:
 
     @property
     def steps(self) -> int:
-        """By how many steps a button goes on or back."""
+        """The number of steps for each press of a button."""
         return int(self._steps.value)
 
     @steps.setter
@@ -116,11 +116,11 @@ class Panel:
 
     @property
     def is_playing(self) -> bool:
-        """Whether the session goes on by itself, until `pause`."""
+        """Whether the session advances by itself, until `pause`."""
         return self._thread is not None and self._thread.is_alive()
 
     def forward(self) -> int:
-        """Goes on by `steps`, and returns the step number."""
+        """Advances by `steps`, and returns the step number."""
         step = self.session.advance(self.steps)
         self.draw()
         return step
@@ -137,7 +137,7 @@ class Panel:
         return step
 
     def play(self) -> None:
-        """Has the session go on by itself, by `steps` after each picture, in a thread, until `pause`."""
+        """Advances the session by itself in a thread, by `steps` after each picture, until `pause`."""
         if not self.is_playing:
             self._stop.clear()
             self._play_button.description = "Pause"
@@ -145,14 +145,14 @@ class Panel:
             self._thread.start()
 
     def pause(self) -> None:
-        """Ends `play`, and returns when the session stands."""
+        """Ends `play`, and returns when the session has stopped."""
         self._stop.set()
         if self._thread is not None and self._thread is not threading.current_thread():
             self._thread.join()
         self._play_button.description = "Play"
 
     def draw(self) -> None:
-        """Shows the session as it is now, also where a cell has changed it."""
+        """Shows the session as it is now, even if a cell has changed it."""
         with self.session.user.lock:
             measured, positions = self.session.measure(), arrays.listed(self.session.positions())
         self._picture.value = picture(positions, self._symbols, self.session.edge, self.session.scale.sigma)
@@ -166,7 +166,7 @@ class Panel:
         return button
 
     def _press(self, press: Callable[[], Any]) -> bool:
-        """Does what a button is for. Returns whether it went well: an error is told in the panel."""
+        """Runs the action of a button. Returns whether it succeeded. An error is shown in the panel."""
         try:
             press()
         except (ClientError, ValueError) as error:
@@ -193,7 +193,7 @@ def _checked_steps(steps: int) -> int:
 
 
 def told(name: str, measured: Measurement) -> str:
-    """A line of HTML with the numbers of a session: energies of an atom in epsilon, the kinetic one of half a step ago."""
+    """A line of HTML with the numbers of a session: energies per atom in epsilon, the kinetic energy half a step ago."""
     each = 1 / measured.atoms
     unit = "epsilon / k" if known(measured.scale).epsilon is None else "K"
     energies = f"kinetic {measured.kinetic_energy * each:.4f}, potential {measured.potential_energy * each:.4f}"
@@ -204,7 +204,7 @@ def told(name: str, measured: Measurement) -> str:
 
 
 def picture(positions: Sequence[Sequence[float]], symbols: Sequence[str], edge: float, sigma: float) -> str:
-    """The atoms as SVG, seen along z: circles of a diameter of sigma, those in front drawn last and darker."""
+    """The atoms as SVG, seen along z: circles with diameter sigma. Those in front are drawn last and darker."""
     scale = PIXELS / edge
     kinds = {symbol: COLOURS[number % len(COLOURS)] for number, symbol in enumerate(dict.fromkeys(symbols))}
     rows: List[Tuple[float, str]] = []

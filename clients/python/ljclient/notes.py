@@ -1,6 +1,6 @@
-"""What an ensemble notes of a job, in a file of JSON: it is read as it was noted, and reading it runs nothing.
+"""The notes of an ensemble on a job, in a JSON file: they are read back as they were written, and reading runs no code.
 
-Numbers, strings, lists and the like stand as they are. What JSON has no word for is an object with one name, which says its kind:
+Numbers, strings, lists and the like are kept as they are. A value that JSON lacks is an object with one name, which says its kind:
 `{"tuple": [0, 589]}`, `{"array": ["<f8", [2, 3], [..]]}`.
 """
 from __future__ import annotations
@@ -25,7 +25,7 @@ KINDS = "None, numbers, strings, and lists, tuples, dicts and numpy arrays of th
 
 
 class Noted(NamedTuple):
-    """How many steps a job has made, how many sessions it has, whose files lie beside, and what was noted."""
+    """The steps that a job has made, the number of its sessions, whose files are beside this one, and its notes."""
 
     done: int
     sessions: int
@@ -33,13 +33,13 @@ class Noted(NamedTuple):
 
 
 def text_of(noted: Noted) -> bytes:
-    """The bytes of a file. Raises TypeError for a note of a kind that no file has."""
+    """The bytes of a file. Raises TypeError for a note of a kind that is not supported."""
     head = {HEAD: VERSION, "done": noted.done, "sessions": noted.sessions}
     return json.dumps({**head, "notes": [to_json(note) for note in noted.notes]}, allow_nan=False).encode() + b"\n"
 
 
 def read(data: bytes) -> Noted:
-    """What a file has. Raises ValueError if it is not as it was written."""
+    """The content of a file. Raises ValueError if it is malformed."""
     try:
         told = json.loads(data)
         done, sessions, notes = (told[name] for name in ("done", "sessions", "notes"))
@@ -52,7 +52,7 @@ def read(data: bytes) -> Noted:
 
 
 def to_json(thing: Any) -> Any:
-    """A thing in the words of JSON. Raises TypeError for a kind that has none."""
+    """A value in JSON form. Raises TypeError for a kind that is not supported."""
     if thing is None or type(thing) in (bool, int, str) or (type(thing) is float and math.isfinite(thing)):
         return thing
     if type(thing) is list:
@@ -71,7 +71,7 @@ def to_json(thing: Any) -> Any:
 
 
 def of_json(value: Any) -> Any:
-    """The thing that these words of JSON are. Raises ValueError, KeyError or TypeError for other values."""
+    """The value of this JSON form. Raises ValueError, KeyError or TypeError for other values."""
     if isinstance(value, list):
         return [of_json(part) for part in value]
     if not isinstance(value, dict):
@@ -81,7 +81,7 @@ def of_json(value: Any) -> Any:
 
 
 def _of_numpy(kind: Any, shape: Any, values: Any) -> Any:
-    """An array of numpy of this kind and shape."""
+    """A numpy array of this kind and shape."""
     if arrays.numpy is None:
         raise Missing(
             "cannot read these notes: they have arrays, and numpy is not installed; use `pip install numpy`, or Debian's python3-numpy"

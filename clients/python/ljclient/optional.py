@@ -33,5 +33,5 @@ def pyplot(why: str) -> Any:
 
 
 def needed_numpy(what: str) -> Any:
-    """numpy, which this needs, such as "an echo"."""
+    """numpy, which `what` needs, such as "an echo"."""
     return arrays.numpy or needed("numpy", f"{what} needs", "numpy", "python3-numpy")

@@ -1,7 +1,7 @@
-"""The user's numbers of atoms and steps beside those of the server, and atoms in the order of space.
+"""How the user's numbers of atoms and steps relate to the server's numbers, and atoms in spatial order.
 
-A step looks at blocks of 64 atoms, and leaves out pairs of blocks that lie out of reach of each other. So atoms that are
-near each other in space are to be near each other in number too. Their order changes nothing in their motion.
+A step works on blocks of 64 atoms, and skips pairs of blocks that are out of reach of each other. So atoms that are
+near each other in space should have numbers near each other too. The order does not affect the motion.
 """
 from __future__ import annotations
 
@@ -21,11 +21,11 @@ Thing = TypeVar("Thing")
 
 @dataclass(frozen=True)
 class Doubt:
-    """The order that a session may have in place of another one, since a connection was lost while its atoms were sorted again.
+    """Another order that a session may have, since a connection was lost while its atoms were sorted again.
 
     numbers       the server's number of each of the user's atoms in that order
     number        a number of the server
-    place, other  the place of the atom of this number, and of that which has it in the other order
+    place, other  the place of the atom with this number in the order before, and in that order
     """
 
     numbers: Tuple[int, ...]
@@ -71,7 +71,7 @@ class Order:
 
     @staticmethod
     def of(order: "Order | Sequence[int] | None") -> "Order":
-        """An order as it may be said: itself, or the server's number of each atom alone."""
+        """The `Order` of an argument: an order itself, or only the server's number of each atom."""
         return order if isinstance(order, Order) else Order(None if order is None else tuple(order))
 
     def number_of(self, atom: int) -> int:
@@ -90,18 +90,18 @@ class Order:
         return atom if self.numbers is None or atom >= len(self.numbers) else self.numbers[atom]
 
     def _for_user(self, things: Any) -> Any:
-        """What the server tells of each atom, in the user's order: an array of an array, else a list."""
+        """The server's values of each atom, in the user's order: an array if they are an array, else a list."""
         if self.numbers is None:
             return things
         numbers = self._of_as_many(things)
         return things[self._indices] if hasattr(things, "tolist") else [things[number] for number in numbers]
 
     def _columns_for_user(self, columns: Any) -> Any:
-        """The same of an array whose columns are of one atom each."""
+        """The same for an array with one column per atom."""
         return columns if self.numbers is None else columns.take(self._indices, axis=1)
 
     def _for_server(self, things: Sequence[Thing]) -> Sequence[Thing]:
-        """What the user tells of each atom, in the server's order."""
+        """The user's values of each atom, in the server's order."""
         if self.numbers is None:
             return things
         placed = dict(zip(self._of_as_many(things), things))
@@ -124,7 +124,7 @@ class Order:
 
     @functools.cached_property
     def _indices(self) -> Any:
-        """The numbers as an array, made once: it takes longer than to put many arrays in order by it."""
+        """The numbers as an array, made once, since this takes longer than sorting many arrays by it."""
         return arrays.numpy.array(self.numbers)
 
     def _of_as_many(self, things: Sequence[Any]) -> Tuple[int, ...]:
@@ -139,17 +139,17 @@ class Order:
 
 
 def is_in_space(order: Optional[str]) -> bool:
-    """Whether atoms are to be kept in the order of space, as `order=` says."""
+    """Whether atoms are to be kept in spatial order, by the argument `order=`."""
     if order not in (None, IN_SPACE):
         raise ValueError(f"order must be 'space', or None for the order of the file, got {shortened(order)}")
     return order is not None
 
 
 def by_halves(places: Sequence[Tuple[float, float, float]]) -> Tuple[int, ...]:
-    """The numbers that put atoms into the order of space: the new number of each.
+    """The numbers that put atoms into spatial order: the new number of each.
 
-    They are split at the middle atom along x, y and z in turn, down to blocks. So a block is never spread out where the
-    atoms are dense, and each half but the last has whole blocks.
+    The atoms are split at the middle atom along x, y and z in turn, down to blocks. So a block is compact where the
+    atoms are dense, and each half except the last has whole blocks.
     """
     columns = list(zip(*places))
     parts, axis = [list(range(len(places)))], 0
@@ -163,10 +163,10 @@ def by_halves(places: Sequence[Tuple[float, float, float]]) -> Tuple[int, ...]:
 
 
 def sorted_anew(places: Sequence[Place], symbols: Sequence[str], order: Order) -> Tuple[int, ...]:
-    """The numbers that put atoms which the server has in an order into that of space, by halves: the new number of each.
+    """The numbers that change the server's order of atoms to spatial order, by halves: the new number of each.
 
-    The server's numbers keep their symbols, so that atoms of each symbol change places with each other alone. Who stays in its
-    block keeps its number.
+    The server's numbers keep their symbols, so atoms exchange numbers only with atoms of the same symbol. An atom that stays in
+    its block keeps its number.
     """
     numbers = list(range(len(places)) if order.numbers is None else order.numbers)
     columns, count = list(zip(*places)), -(-len(places) // BLOCK)
@@ -184,7 +184,7 @@ def sorted_anew(places: Sequence[Place], symbols: Sequence[str], order: Order) -
 
 
 def _renumber(numbers: List[int], free: Set[int], atoms: Sequence[int]) -> None:
-    """Gives the numbers of a block that are free to as many atoms. Who has one of them keeps it."""
+    """Gives the free numbers of a block to as many atoms. An atom that has one of them keeps it."""
     coming = [atom for atom in atoms if numbers[atom] not in free]
     left = free.difference(numbers[atom] for atom in atoms)
     for atom, number in zip(coming, sorted(left)):
@@ -192,7 +192,7 @@ def _renumber(numbers: List[int], free: Set[int], atoms: Sequence[int]) -> None:
 
 
 def _in_blocks(atoms: List[int], columns: Sequence[Sequence[int]], room: Sequence[int]) -> List[List[int]]:
-    """Which of some atoms come into each block, where each has room for so many of them: they are split along x, y and z in turn."""
+    """The atoms of each block, by the number that each block has room for. The atoms are split along x, y and z in turn."""
     parts, axis = [(room, atoms)], 0
     while any(len(blocks) > 1 for blocks, _ in parts):
         parts = [half for blocks, part in parts for half in _split(blocks, part, columns[axis])]
@@ -201,7 +201,7 @@ def _in_blocks(atoms: List[int], columns: Sequence[Sequence[int]], room: Sequenc
 
 
 def _split(blocks: Sequence[int], part: List[int], column: Sequence[int]) -> List[Tuple[Sequence[int], List[int]]]:
-    """Two halves of some blocks, the first with the atoms of the smaller coordinates; or the same, if it is one block."""
+    """Two halves of some blocks, the first with the atoms of smaller coordinates; or the blocks unchanged, if there is one."""
     if len(blocks) == 1:
         return [(blocks, part)]
     part.sort(key=column.__getitem__)
@@ -211,7 +211,7 @@ def _split(blocks: Sequence[int], part: List[int], column: Sequence[int]) -> Lis
 
 
 def _halves(part: List[int], column: Sequence[float]) -> List[List[int]]:
-    """Two halves of whole blocks, the first of the atoms with the smaller coordinates; or the part, if it is a block."""
+    """Two halves of whole blocks, the first with the atoms of smaller coordinates; or the part itself, if it is one block."""
     if len(part) <= BLOCK:
         return [part]
     part.sort(key=column.__getitem__)

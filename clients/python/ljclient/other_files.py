@@ -1,4 +1,4 @@
-"""Files of other programs, which are not XYZ text: the error names what reads them."""
+"""Files of other programs, which are not XYZ text: the error names their reader."""
 from __future__ import annotations
 
 import os
@@ -22,7 +22,7 @@ OF_MDANALYSIS = (".dcd", ".xtc", ".trr", ".nc")
 
 
 def check_text(path: Path, text: bytes) -> None:
-    """Raises ValueError, which says what reads it, if the file of a path is of another program, by its ending and its first line.
+    """Raises ValueError, which names a reader, if a file is from another program by its ending and its first line.
 
     XYZ text begins with a number of atoms, whatever the ending is.
     """

@@ -1,4 +1,4 @@
-"""Warns if atoms that are loaded are too close to each other, since they would fly apart."""
+"""Warns if loaded atoms are too close to each other, since they would fly apart."""
 from __future__ import annotations
 
 import itertools
@@ -32,9 +32,9 @@ def warn_of_close_atoms(frames: Frames, scale: Scale, mixture: Optional[Mixture]
 
 
 def closest(atoms: Sequence[Row], edge: float, sigmas: Sequence[float], second: Optional[str] = None) -> Optional[Pair]:
-    """The pair that is closest, in sigma, in a periodic box, if it is closer than 0.8; else None.
+    """The closest pair in a periodic box, by distance in sigma, if it is closer than 0.8; else None.
 
-    sigmas  of two atoms that are not of the second species, of one of each, of two of the second
+    sigmas  for two atoms not of the second species, for one of each, and for two of the second
     """
     if not (min(sigmas) > 0 and edge >= max(sigmas)):
         return None
@@ -51,7 +51,7 @@ def closest(atoms: Sequence[Row], edge: float, sigmas: Sequence[float], second: 
 
 
 def _near(atoms: Sequence[Row], edge: float, count: int, second: Optional[str]) -> Iterator[Tuple[List[Site], List[Site]]]:
-    """The atoms of each cell, of so many along each axis, and those of each cell that touches it, itself included."""
+    """The atoms of both cells of each touching pair, a cell with itself included. Each axis has `count` cells."""
     cells: Dict[Tuple[int, int, int], List[Site]] = {}
     for number, (symbol, *position) in enumerate(atoms):
         x, y, z = (part / edge % 1 for part in position)

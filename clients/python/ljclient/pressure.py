@@ -1,6 +1,6 @@
-"""The pressure of a session, by the velocities and the virial of its pairs. It needs numpy.
+"""The pressure of a session, from velocities and the virial of pairs. It needs numpy.
 
-The forces between two atoms are those of the program's table: 800 bins of the squared distance, 128 for each sigma^2.
+The forces between two atoms are those of the program's table: 800 bins of the squared distance, 128 per sigma^2.
 """
 from __future__ import annotations
 
@@ -23,8 +23,8 @@ BINS_TO_SQUARE, BINS, MIN_BIN = 128, 800, 64
 
 
 class Composition(NamedTuple):
-    """How atoms interact: the scales of two atoms of the first species, of one of each and of two of the second; and of each
-    atom whether it is of the second. Of one species there is one scale, and no second. Then the symbols of both species."""
+    """How atoms interact: the scales of pairs first with first, first with second and second with second species; whether each
+    atom is of the second species; and both symbols. With one species there is one scale, and the other two are empty."""
 
     classes: Tuple[Scale, ...]
     seconds: Sequence[bool] = ()
@@ -48,7 +48,7 @@ def pressure(session: "Looks", user: "User", tail: bool = False) -> float:
 
 
 def lacking_energy(session: "Looks", user: "User") -> float:
-    """What the energy of a session lacks by the cutoff, in epsilon of the first class."""
+    """The tail correction of a session's energy, in epsilon of the first class."""
     return energy_tail(composition_of(session, user), session.n_atoms)
 
 
@@ -75,7 +75,7 @@ def tensor_of_frames(three: ThreeFrames, atoms: Composition) -> Any:
 
 
 def _moved(three: ThreeFrames) -> Any:
-    """How far each atom moves in a step, by the step before and the step after."""
+    """The mean displacement of each atom in the step before and the step after."""
     return arrays.added(arrays.least_images(three.now, three.before), arrays.least_images(three.after, three.now)) / 2
 
 
@@ -85,12 +85,12 @@ def _volume(scale: Scale) -> float:
 
 
 def virial(places: Any, atoms: Composition) -> float:
-    """The sum of force times distance over all pairs of atoms, in epsilon of the first class. Repulsion counts above 0."""
+    """The sum of force times distance over all pairs of atoms, in epsilon of the first class. Repulsion is positive."""
     return sum(float((each.entries * each.squares).sum()) * each.unit for each in _interacting(places, atoms))
 
 
 def virial_tensor(places: Any, atoms: Composition) -> Any:
-    """The sums over all pairs of a component of the force times one of the distance: an array of shape (3, 3), whose trace is the
+    """The sums over all pairs of a force component times a distance component: an array of shape (3, 3) whose trace is the
     virial."""
     total = arrays.numpy.zeros((3, 3))
     for each in _interacting(places, atoms):
@@ -102,12 +102,12 @@ def virial_tensor(places: Any, atoms: Composition) -> Any:
 class Interacting(NamedTuple):
     """Pairs of one class that are nearer to each other than the cutoff.
 
-    near     the pairs, with others
-    which    which of them these are
-    sigma    that of the class, in ring units
-    squares  the squared distances, in squares of sigma
-    entries  the force of each divided by the distance, in epsilon / sigma^2 of the class
-    unit     an epsilon of the class in those of the first class
+    near     these pairs and others
+    which    their indices in `near`
+    sigma    sigma of the class, in ring units
+    squares  the squared distances, in sigma^2
+    entries  the force of each pair divided by its distance, in epsilon / sigma^2 of the class
+    unit     epsilon of the class, in epsilon of the first class
     """
 
     near: Near
@@ -119,7 +119,7 @@ class Interacting(NamedTuple):
 
 
 def _interacting(places: Any, atoms: Composition) -> Iterator[Interacting]:
-    """The pairs of atoms within the cutoff, some of one class at a time."""
+    """The pairs of atoms within the cutoff, in parts of one class each."""
     classes = atoms.classes
     seconds = arrays.numpy.array(atoms.seconds, dtype=arrays.numpy.intp)
     for near in near_parts(places, max(each.sigma_on_ring for each in classes) ** 2 * (BINS / BINS_TO_SQUARE)):
@@ -133,7 +133,7 @@ def _interacting(places: Any, atoms: Composition) -> Iterator[Interacting]:
 
 
 def _of_class(near: Near, which: Any, scale: Scale, first: Scale) -> Interacting:
-    """Those of pairs, all of one class and within its cutoff."""
+    """Pairs that are all of one class and within its cutoff."""
     sigma = float(scale.sigma_on_ring)
     squares = near.squares[which] / sigma**2
     entries = _table()[(squares * BINS_TO_SQUARE).astype(arrays.numpy.intp)]
@@ -144,9 +144,9 @@ def _of_class(near: Near, which: Any, scale: Scale, first: Scale) -> Interacting
 
 @functools.lru_cache(maxsize=1)
 def _table() -> Any:
-    """The force at each bin's centre, divided by the distance there, in epsilon / sigma^2, with a bin more for what is rounded to
-    the cutoff: `24 (2 u^7 - u^4)`, where u is the square of sigma over the distance, 2^8 / n with n = 2 k + 1. The entries are
-    whole numbers of 2^-24, rounded toward zero."""
+    """The force divided by the distance at each bin's centre, in epsilon / sigma^2: `24 (2 u^7 - u^4)`, where u is the square of
+    sigma over the distance, 2^8 / n with n = 2 k + 1. The entries are multiples of 2^-24, rounded toward zero. One more bin is
+    for distances that are rounded to the cutoff."""
     odd = [2 * max(k, MIN_BIN) + 1 for k in range(BINS)]
     entries = [_toward_zero(24 * 2**56 * (2**25 - n**3), n**7) for n in odd]
     return arrays.numpy.array([*entries, 0]) / POTENTIAL_UNIT

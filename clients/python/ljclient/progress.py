@@ -1,4 +1,4 @@
-"""How far a run has come: bars of tqdm at a terminal or in a notebook, and nothing elsewhere."""
+"""The progress of a run: tqdm bars at a terminal or in a notebook, and nothing elsewhere."""
 from __future__ import annotations
 
 import contextlib
@@ -16,9 +16,9 @@ NamedReport = Callable[[str, int, int], None]
 
 @contextlib.contextmanager
 def reporter(wanted: Union[bool, Report], name: str, delay: float = 0.0, unit: str = "step") -> Iterator[Optional[Report]]:
-    """What is told how many steps of a session, or things of another unit, are done, and of how many. None where nobody looks.
+    """A function to call with the number of steps, or other units, that are done, and their total. None if nobody sees it.
 
-    A bar is drawn if the run takes longer than the delay, in seconds. It stays as it is at the end of the block.
+    A bar is drawn if the run takes longer than `delay` seconds. It stays as it is at the end of the block.
     """
     if callable(wanted):
         yield wanted
@@ -31,7 +31,7 @@ def reporter(wanted: Union[bool, Report], name: str, delay: float = 0.0, unit: s
 def reporters(
     wanted: Union[bool, NamedReport], names: Sequence[str], delay: float = 0.0, unit: str = "step"
 ) -> Iterator[List[Optional[Report]]]:
-    """The same for each of several sessions. A function is told the name of the session first."""
+    """The same for each of several sessions. A function of the caller gets the name of the session first."""
     if callable(wanted):
         yield [functools.partial(wanted, name) for name in names]
         return
@@ -44,14 +44,14 @@ def reporters(
 
 
 def _is_seen() -> bool:
-    """Whether somebody sees what is written to standard error as it comes."""
+    """Whether somebody sees standard error as it is written."""
     shell = getattr(sys.modules.get("IPython"), "get_ipython", lambda: None)()
     in_notebook = type(shell).__name__ == "ZMQInteractiveShell"
     return sys.stderr is not None and (in_notebook or sys.stderr.isatty())
 
 
 def _can_be_drawn(tells: bool) -> bool:
-    """Whether tqdm is installed. That it is not is told once."""
+    """Whether tqdm is installed. If not, a message says so once."""
     if _tqdm() is None and tells:
         _tell(MISSING)
     return _tqdm() is not None
@@ -65,7 +65,7 @@ def _tell(text: str) -> None:
 
 @functools.lru_cache(maxsize=None)
 def _tqdm() -> Any:
-    """The bars of tqdm that suit a terminal or a notebook. None if it is not installed."""
+    """The tqdm bars that suit a terminal or a notebook. None if it is not installed."""
     try:
         return importlib.import_module("tqdm.auto").tqdm
     except ImportError:
@@ -73,7 +73,7 @@ def _tqdm() -> Any:
 
 
 class Bars:
-    """A bar for each of some sessions, one below the other. They are closed together: one that ends first stays in its line."""
+    """A bar for each of some sessions, one below the other. They are closed together: a bar that ends first keeps its line."""
 
     def __init__(self, names: Sequence[str], delay: float, unit: str):
         self._names = [name.ljust(max(map(len, names))) for name in names]
@@ -82,7 +82,7 @@ class Bars:
         self._bars: Dict[int, Any] = {}
 
     def show(self, place: int, done: int, total: int) -> None:
-        """Draws how far the session of this place is."""
+        """Draws the progress of the session with this index."""
         with held():
             if place not in self._bars:
                 self._bars[place] = self._begun(self._names[place], total)
@@ -96,7 +96,7 @@ class Bars:
         return _tqdm()(desc=name, total=total, **words)
 
     def close(self) -> None:
-        """Ends all bars, each with the time that it was drawn last."""
+        """Closes all bars, each with its elapsed time when it was last drawn."""
         with held():
             for bar in self._bars.values():
                 bar.unpause()

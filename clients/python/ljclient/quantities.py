@@ -1,4 +1,4 @@
-"""Numbers of frames and of runs, by which `reversal` looks for the direction of time. They need numpy."""
+"""Quantities of frames and runs, by which `reversal` looks for the direction of time. They need numpy."""
 from __future__ import annotations
 
 import math
@@ -11,7 +11,7 @@ SPEED_BIN, SPEED_BINS = 0.25, 16
 
 
 def mixing_entropy(places: Any, kinds: Any, cells: int) -> float:
-    """The entropy of mixing of a frame, in k_B for each atom, by the kind of each atom as a number."""
+    """The entropy of mixing of a frame, in k_B per atom, from the kind of each atom as a number."""
     numpy = arrays.numpy
     parts = (numpy.asarray(places) * cells) >> 32
     cell_of = (parts[:, 0] * cells + parts[:, 1]) * cells + parts[:, 2]
@@ -22,8 +22,8 @@ def mixing_entropy(places: Any, kinds: Any, cells: int) -> float:
 
 
 def above_maxwell(velocities: Any) -> float:
-    """Boltzmann's H of the velocity components, above that of Maxwell's distribution of the same temperature: `sum p ln(p / q)` over
-    bins of their amounts, which reversal does not change. 0 if all atoms are at rest."""
+    """Boltzmann's H of the velocity components minus its value for Maxwell's distribution of equal temperature: `sum p ln(p / q)` over
+    bins of their absolute values, which reversal does not change. 0 if all atoms are at rest."""
     numpy = arrays.numpy
     parts = abs(numpy.asarray(velocities).ravel())
     root = math.sqrt((parts**2).mean())
@@ -38,14 +38,14 @@ def above_maxwell(velocities: Any) -> float:
 
 
 def rank_correlation(values: Any) -> float:
-    """Kendall's rank correlation with the time: pairs of frames that rise, without those that fall, as a part of all pairs."""
+    """Kendall's rank correlation with the time: rising minus falling pairs of frames, as a fraction of all pairs."""
     numpy, count = arrays.numpy, len(values)
     rises = numpy.sign(numpy.subtract.outer(values, values))
     return float(numpy.tril(rises).sum()) / (count * (count - 1) / 2)
 
 
 def departure(values: Any) -> float:
-    """How far the first value is from the mean of the second half, in its standard deviations."""
+    """The first value minus the mean of the second half, in standard deviations of this half."""
     later = values[len(values) // 2 :]
     apart, deviation = float(values[0] - later.mean()), float(later.std())
     return apart / deviation if deviation else math.copysign(math.inf, apart) if apart else 0.0

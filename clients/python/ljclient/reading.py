@@ -1,6 +1,6 @@
-"""Places and frames out of replies: the lines of all atoms are read at once.
+"""Places and frames from replies: the lines of all atoms are read at once.
 
-What reads them by numpy is imported where numpy is needed, since that takes as long as all else of this package.
+The readers that use numpy are imported when needed, since importing numpy takes as long as the rest of this package.
 """
 from __future__ import annotations
 
@@ -45,7 +45,7 @@ class Frame(NamedTuple):
         return self.lines.split("\n")[:-1]
 
     def for_user(self, order: Order) -> "Frame":
-        """The frame with the numbers of atoms and steps that the user has."""
+        """The frame with the user's numbers of atoms and steps."""
         step = order.step_of(self.step)
         return Frame(step, self.lines) if order.numbers is None else Frame.of(step, order._for_user(self.rows))
 
@@ -59,19 +59,19 @@ class Frame(NamedTuple):
         return [row.split(" ")[0] for row in self.rows]
 
     def positions(self) -> Any:
-        """The position of each atom, with the six decimals that the server tells: an array, or a list of tuples."""
+        """The position of each atom, with the six decimals that the server sends: an array, or a list of tuples."""
         head = "positions\n"
         return _positions_in((head + self.lines).encode(), len(head), self.lines.count("\n"))
 
 
 @functools.lru_cache(maxsize=8)
 def shows(name: str, count: int) -> Tuple[str, ...]:
-    """The commands that show the atoms of a session, which are so many."""
+    """The commands that show the `count` atoms of a session."""
     return tuple(f"SHOW {name} {atom}" for atom in range(count))
 
 
 def places_of(name: str, count: int, text: bytes) -> Places:
-    """What the replies to `shows` tell: the lines are read together, since that takes a tenth of the time."""
+    """The places in the replies to `shows`: the lines are read together, which takes a tenth of the time."""
     told = re.match(rf"OK SHOW {re.escape(name)} ({STEP}) ".encode(), text)
     if told:
         read = _listed_places if arrays.numpy is None else _arrayed_places
@@ -84,15 +84,15 @@ def places_of(name: str, count: int, text: bytes) -> Places:
 
 
 def both_of(name: str, count: int, text: bytes) -> Tuple[Places, Places]:
-    """What the replies to `shows` tell, and after a REVERSE those to `shows` again, before what undoes it."""
+    """The places now and one step before, from the replies to `shows`, REVERSE, `shows`, and what undoes it."""
     rows = text.split(b"\n")
     now, before = rows[:count], rows[count + 1 : 2 * count + 1]
     return places_of(name, count, b"\n".join([*now, b""])), places_of(name, count, b"\n".join([*before, b""]))
 
 
 def three_of(name: str, count: int, back: int, text: bytes) -> Tuple[Places, Places, Places]:
-    """The places before, now and after: what the replies to `shows` tell now, after REVERSE, and after so many commands that undo
-    it and a step."""
+    """The places before, now and after: from the replies to `shows` now, after REVERSE, and after `back` commands that undo it
+    and a step."""
     rows = text.split(b"\n")
     parts = (b"\n".join([*rows[at : at + count], b""]) for at in (0, count + 1, 2 * count + 2 + back))
     now, before, after = (places_of(name, count, part) for part in parts)
@@ -100,7 +100,7 @@ def three_of(name: str, count: int, back: int, text: bytes) -> Tuple[Places, Pla
 
 
 def place_of(name: str, atom: int, row: bytes) -> Tuple[int, int, int]:
-    """The place that the reply to one SHOW tells."""
+    """The place in the reply to one SHOW."""
     told = re.fullmatch(rf"OK SHOW {re.escape(name)} {STEP} {atom} {PLACE}\n?", row.decode("latin-1"))
     x, y, z = map(int, told.groups()) if told else (RING, RING, RING)
     if max(x, y, z) >= RING:
@@ -109,7 +109,7 @@ def place_of(name: str, atom: int, row: bytes) -> Tuple[int, int, int]:
 
 
 def frame_of(name: str, reply: Reply) -> Frame:
-    """The frame that the reply to `DUMP` tells."""
+    """The frame in the reply to `DUMP`."""
     step, head = _head_of(name, reply.words, len(reply.lines))
     if "\n".join([*reply.lines[:2], ""]) != head:
         raise BadReply(f"{' '.join(reply.words)[:80]!r} is followed by {reply.lines[:2]!r}")
@@ -117,13 +117,13 @@ def frame_of(name: str, reply: Reply) -> Frame:
 
 
 def positions_of(name: str, words: List[str], text: bytes) -> Tuple[int, Any]:
-    """The step and the positions that the reply to `DUMP` tells, by its words and the text of its lines."""
+    """The step and the positions in the reply to `DUMP`, from its words and the text of its lines."""
     step, start, count = _begin_of(name, words, text)
     return step, _positions_in(text, start, count)
 
 
 def millionths_of(name: str, words: List[str], text: bytes) -> Tuple[int, Any]:
-    """As `positions_of`, how many millionths each position is."""
+    """As `positions_of`, with the positions in millionths."""
     step, start, count = _begin_of(name, words, text)
     rows = _rows_of(text, start, count)
     if rows is None:
@@ -132,7 +132,7 @@ def millionths_of(name: str, words: List[str], text: bytes) -> Tuple[int, Any]:
 
 
 def frame_with(name: str, words: List[str], text: bytes, converted: Callable[[Any], Any], order: Order) -> Frame:
-    """The frame that the reply to `DUMP` tells, with its millionths converted, and with the numbers of the user."""
+    """The frame in the reply to `DUMP`, with its millionths converted, and with the user's numbers."""
     if not text.isascii():
         raise BadReply(f"{' '.join(words)[:80]!r} is followed by other bytes than text of the protocol")
     step, start, count = _begin_of(name, words, text)
@@ -151,7 +151,7 @@ def frame_with(name: str, words: List[str], text: bytes, converted: Callable[[An
 
 
 def _begin_of(name: str, words: List[str], text: bytes) -> Tuple[int, int, int]:
-    """The step that the reply to `DUMP` tells, where in its text the lines of atoms begin, and how many they are."""
+    """The step in the reply to `DUMP`, where the lines of atoms begin in its text, and the number of these lines."""
     count = whole_number(words[-1])
     step, head = _head_of(name, words, count)
     if not text.startswith(head.encode()):
@@ -160,14 +160,14 @@ def _begin_of(name: str, words: List[str], text: bytes) -> Tuple[int, int, int]:
 
 
 def _head_of(name: str, words: List[str], count: int) -> Tuple[int, str]:
-    """The step that the words of a reply to `DUMP` tell, and the two lines that a frame of so many lines begins with."""
+    """The step in the words of a reply to `DUMP`, and the first two lines of a frame with `count` lines."""
     if len(of_session(f"DUMP {name}", words)) != 4 or words[3] != str(count):
         raise BadReply(f"{' '.join(words)[:80]!r} is followed by {count} lines")
     return whole_number(words[2]), f"{count - 2}\nstep {words[2]}\n"
 
 
 def _rows_of(text: bytes, start: int, count: int) -> Any:
-    """The columns of so many lines of atoms, which stand in a text from here on. None without numpy, and if it cannot read them."""
+    """The columns of `count` lines of atoms in a text, from `start` on. None without numpy, or if it cannot read them."""
     if arrays.numpy is None:
         return None
     from . import digits
@@ -176,7 +176,7 @@ def _rows_of(text: bytes, start: int, count: int) -> Any:
 
 
 def _positions_in(text: bytes, start: int, count: int) -> Any:
-    """The positions of so many atoms, whose lines stand in a text from here on, by numpy if that can read them all at once."""
+    """The positions of `count` atoms with lines in a text from `start` on, by numpy if it can read them all at once."""
     positions = None
     if arrays.numpy is not None:
         from . import digits
@@ -193,7 +193,7 @@ def _positions_in(text: bytes, start: int, count: int) -> Any:
 
 
 def _arrayed_places(text: bytes, head: bytes, count: int) -> Any:
-    """The places of the first atoms as an array, of lines with this head. None if any line is something else."""
+    """The places of the first `count` atoms as an array, from lines with this head. None if any line has another form."""
     from . import digits
 
     numbers = digits.places(text, head)

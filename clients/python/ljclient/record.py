@@ -1,7 +1,7 @@
-"""The text of a record: the commands of one session as they were sent, and what each was replied.
+"""The text of a record: the commands of one session as they were sent, and the reply to each.
 
 Each line below the head begins with a check: the first digits of the SHA-256 of all text from the head to the end of this
-line, without the checks. So the first line that was changed is known, and the last SHA-256 is that of the whole.
+line, without the checks. So the first changed line is known, and the last SHA-256 covers the whole record.
 """
 from __future__ import annotations
 
@@ -42,7 +42,7 @@ COUNT = re.compile(rb"[0-9]{1,7}\Z")
 
 
 class Mark(enum.Enum):
-    """The first word of a line, which says what the line is."""
+    """The first word of a line, which gives its kind."""
 
     CLIENT = b"client"
     PROGRAM = b"program"
@@ -69,7 +69,7 @@ class Answer(NamedTuple):
 
     @property
     def refusal(self) -> Optional[int]:
-        """The number of the refusal that the reply is, if it is one."""
+        """The refusal number of the reply; None if it is no refusal."""
         return refusal_of(self.first)
 
     @property
@@ -82,13 +82,13 @@ class Answer(NamedTuple):
 class Entry:
     """A command of a record, or a note between commands.
 
-    mark        REPLY, OUTSIDE or UNANSWERED of a command; CONNECTION or MOVED of a note
+    mark        REPLY, OUTSIDE or UNANSWERED for a command; CONNECTION or MOVED for a note
     number      the number of its first line in the file, counted from 1
     line, body  the command as it was sent
     first       the first line of its reply
     more        the SHA-256 of the lines after that, if there are any
     sum         the SHA-256 of the record up to here
-    reply       the number of the line of its reply
+    reply       the line number of its reply
     """
 
     mark: Mark
@@ -102,7 +102,7 @@ class Entry:
 
     @property
     def refusal(self) -> Optional[int]:
-        """The number of the refusal that the reply is, if it is one."""
+        """The refusal number of the reply; None if it is no refusal."""
         return refusal_of(self.first)
 
     @property
@@ -110,30 +110,30 @@ class Entry:
         return self.first.startswith(b"OK ")
 
     def is_granted_of(self, *verbs: bytes) -> bool:
-        """Whether it is one of these commands, which was granted."""
+        """Whether it is one of these commands and was granted."""
         return self.mark is Mark.REPLY and self.is_granted and words_of(self.line)[0] in verbs
 
     @property
     def atoms(self) -> int:
-        """How many atoms a load has, by its reply; 0 of another command."""
+        """The number of atoms of a granted load, from its reply; else 0."""
         last = self.first.split(b" ")[-1]
         return int(last) if self.is_granted_of(*LOADS) and COUNT.match(last) else 0
 
 
 @dataclass(frozen=True)
 class Quota:
-    """What a user must be allowed to have for the session."""
+    """The quota that a user needs for the session."""
 
     sessions: int = 1
     atoms: int = 0
     branches: int = 0
 
     def with_these(self, atoms: int, branches: int) -> "Quota":
-        """The quota that has room for so many too."""
+        """This quota with room for these numbers."""
         return Quota(self.sessions, max(self.atoms, atoms), max(self.branches, branches))
 
     def is_above(self, other: "Quota") -> bool:
-        """Whether it is larger than another one, and smaller in nothing."""
+        """Whether it is larger than the other, and smaller in no number."""
         return self != other and all(mine >= its for mine, its in zip(self.numbers, other.numbers))
 
     @property
@@ -145,7 +145,7 @@ class Quota:
 
 
 class Chain:
-    """The SHA-256 of the text so far, which goes on line by line below the head."""
+    """The SHA-256 of the text so far, updated line by line below the head."""
 
     def __init__(self, head: bytes = HEAD) -> None:
         self._sum = hashlib.sha256(head + b"\n")
@@ -156,7 +156,7 @@ class Chain:
         return self._sum.hexdigest()[:CHECK_DIGITS].encode()
 
     def line_of(self, text: bytes) -> bytes:
-        """The next line as it stands in the file."""
+        """The next line as the file has it."""
         return b"%b %b\n" % (self.check_of(text), text)
 
     @property
@@ -166,29 +166,29 @@ class Chain:
 
 
 def words_of(line: bytes) -> List[bytes]:
-    """The words of a command line, as the protocol has them."""
+    """The words of a command line, split as in the protocol."""
     words = (line[:-1] if line.endswith(b"\r") else line).replace(b"\t", b" ").split(b" ")
     return [word for word in words if word] if b"" in words else words
 
 
 def refusal_of(first: bytes) -> Optional[int]:
-    """The number of the refusal that the first line of a reply is, if it is one."""
+    """The refusal number in the first line of a reply; None if it is no refusal."""
     words = first.split(b" ")
     return int(words[1]) if words[0] == b"ERR" and words[1:2] and NUMBER.match(words[1]) else None
 
 
 def tells_that_it_is_gone(words: Sequence[bytes], refusal: Optional[int]) -> bool:
-    """Whether a refusal of this command tells that the session is not there: a load is refused for its name first."""
+    """Whether a refusal of this command shows that the session does not exist: a load is refused for its name first."""
     return refusal == NO_SESSION or (words[0] in LOADS and refusal is not None and refusal not in OF_ANY_LOAD)
 
 
 def session_of(words: Sequence[bytes]) -> str:
-    """The session that the words of a command line name, or none if they are no command that names one."""
+    """The session that the words of a command line name; empty if they name none."""
     return words[1].decode("latin-1") if len(words) > 1 and words[0] in OF_A_SESSION else ""
 
 
 def count_of(line: bytes) -> Optional[int]:
-    """How many bytes of a body a line announces. None if it is a load and says no count."""
+    """The number of body bytes that a line announces. None for a load without a valid count."""
     words = words_of(line)
     if words[0] not in LOADS or len(line) > MAX_COMMAND:
         return 0
@@ -201,7 +201,7 @@ def sum_of(lines: Sequence[bytes]) -> bytes:
 
 
 def sent_lines(line: bytes, body: bytes) -> List[bytes]:
-    """The lines that tell a command and its body."""
+    """The record's lines for a command and its body."""
     if not body:
         return [b"> " + line]
     rows = body.split(b"\n")
@@ -209,7 +209,7 @@ def sent_lines(line: bytes, body: bytes) -> List[bytes]:
 
 
 def reply_lines(answer: Answer) -> List[bytes]:
-    """The lines that tell the reply to a command, of a session that was there by its own commands."""
+    """The record's lines for the reply to a command, of a session that exists according to its own commands."""
     if answer.first.startswith(b"OK ") and not answer.rest:
         return [b"< " + answer.first]
     mark = Mark.OUTSIDE if answer.is_from_outside or answer.refusal == NO_SESSION else Mark.REPLY
@@ -218,10 +218,10 @@ def reply_lines(answer: Answer) -> List[bytes]:
 
 
 def shown(text: bytes) -> str:
-    """A text as messages show it: bytes that are no printing characters of ASCII are escaped."""
+    """A text as messages show it: bytes other than printable ASCII are escaped."""
     return "".join(chr(byte) if 32 <= byte < 127 else f"\\x{byte:02x}" for byte in text)
 
 
 def quota_line(quota: Quota) -> bytes:
-    """The line that tells a quota."""
+    """The record's line for a quota."""
     return f"quota {quota}".encode()

@@ -1,4 +1,4 @@
-"""`python3 -m ljclient diff A B` shows where two records part: at which command, at which step, and with which atom."""
+"""`python3 -m ljclient diff A B` shows where two records first differ: the command, the step and the atom."""
 from __future__ import annotations
 
 import argparse
@@ -36,7 +36,7 @@ damaged, or could not be played.
 
 
 class Sides:
-    """Both records, and programs that play them side by side once this is needed."""
+    """Both records, and programs that play them side by side when needed."""
 
     def __init__(self, plans: Tuple[Plan, Plan], program: Optional[str], stack: contextlib.ExitStack):
         self.names = [os.fspath(plan.file.path) for plan in plans]
@@ -47,25 +47,25 @@ class Sides:
 
     @property
     def is_playing(self) -> bool:
-        """Whether both are played, since a command of one was not that of the other."""
+        """Whether both are played, since their commands have differed."""
         return bool(self._replays)
 
     def replays(self) -> List[Replay]:
-        """Both records as they are played, which begins now if it has not."""
+        """The replays of both records, which the first call starts."""
         if not self._replays:
             self._program = self._program or find_program()
             self._replays = [Replay(plan.file.path, self._stack.enter_context(self._begun(plan))) for plan in self._plans]
         return self._replays
 
     def presents(self, moments: Tuple[Moment, Moment]) -> List[Optional[Present]]:
-        """Both sessions behind the changes of a moment."""
+        """Both sessions after the changes of a moment."""
         replays = self.replays()
         for replay, moment in zip(replays, moments):
             replay.go(moment.made, len(moment.changes))
         return [replay.present() for replay in replays]
 
     def where(self, *entries: Entry) -> str:
-        """The lines of a command in both."""
+        """The line of a command in each record."""
         return " and ".join(f"{name}, line {entry.number}" for name, entry in zip(self.names, entries))
 
     def _begun(self, plan: Plan) -> User:
@@ -74,8 +74,8 @@ class Sides:
 
 
 def pairs_of(sides: Sides) -> Iterator[Tuple[Moment, Moment]]:
-    """The moments of both records that have the same number of steps made, up to the end of one of them. Where only one does
-    something, the other one has a moment in which it does nothing."""
+    """The moments of both records with the same number of steps made, up to the end of one record. Where only one record has a
+    moment, the other gets an empty one."""
     both = [moments_of(name) for name in sides.names]
     first, second = (next(each) for each in both)
     while True:
@@ -88,7 +88,7 @@ def pairs_of(sides: Sides) -> Iterator[Tuple[Moment, Moment]]:
 
 
 def difference(sides: Sides) -> Tuple[int, List[str]]:
-    """The exit status, and what is told of both records."""
+    """The exit status, and the report on both records."""
     told: List[str] = []
     for pair in pairs_of(sides):
         one, other = pair
@@ -109,13 +109,13 @@ def difference(sides: Sides) -> Tuple[int, List[str]]:
 
 
 def _is_prefix(one: Moment, other: Moment) -> bool:
-    """Whether a record ends here with the first of the changes of the other one."""
+    """Whether one record ends here, with the first changes of the other."""
     count = len(one.changes)
     return one.is_end and count < len(other.changes) and [*map(command_of, one.changes)] == [*map(command_of, other.changes[:count])]
 
 
 def _unlike(one: Moment, other: Moment) -> Optional[int]:
-    """The number of the first change that is not that of the other record; None if all are."""
+    """The index of the first change that differs between the records; None if none does."""
     mine, its = ([*map(command_of, moment.changes)] for moment in (one, other))
     if mine == its:
         return None
@@ -127,7 +127,7 @@ def _restores(pair: Tuple[Moment, Moment]) -> bool:
 
 
 def _told_commands(sides: Sides, pair: Tuple[Moment, Moment], number: int) -> List[str]:
-    """What is told of the first command of a moment that is not that of the other record."""
+    """The report on the first command of a moment that differs between the records."""
     parts = []
     for name, moment in zip(sides.names, pair):
         if number < len(moment.changes):
@@ -143,7 +143,7 @@ def _steps(made: int) -> str:
 
 
 def _replies_apart(sides: Sides, pair: Tuple[Moment, Moment], unlike: Optional[int]) -> List[str]:
-    """What is told of a command of both that was replied to otherwise, before the first change that is not that of the other one."""
+    """The report on the first common command with different replies, before the first change that differs."""
     one, other = pair
     before = list(zip(one.changes, other.changes))[:unlike]
     told = ((key, entry) for key, entry in one.told.items() if unlike is None or key[0] <= unlike)
@@ -162,7 +162,7 @@ def _replies_apart(sides: Sides, pair: Tuple[Moment, Moment], unlike: Optional[i
 
 
 def _parted(sides: Sides, pair: Tuple[Moment, Moment]) -> List[str]:
-    """What is told of both sessions, which are played up to here, if they are not the same."""
+    """The report on both sessions, played up to here, if they differ."""
     presents = sides.presents(pair)
     replays = sides.replays()
     if None in presents:
@@ -186,7 +186,7 @@ def _interactions(replay: Replay) -> str:
 
 
 def _apart(sides: Sides, presents: List[Optional[Present]]) -> str:
-    """What is told of the first atom that is elsewhere, or came from elsewhere. Nothing if all are alike, in whatever order."""
+    """The report on the first atom that differs in its place, now or one step before. Empty if all agree, in any order."""
     one, other = (present for present in presents if present is not None)
     if sorted(one.atoms) == sorted(other.atoms) and (one.step, one.direction) == (other.step, other.direction):
         return ""
@@ -203,7 +203,7 @@ def _told_atom(symbol: str, place: Tuple[int, ...], before: Tuple[int, ...]) -> 
 
 
 def _ended(sides: Sides, pair: Tuple[Moment, Moment], told: List[str]) -> Tuple[int, List[str]]:
-    """What is told where a record ends, or both."""
+    """The exit status and report where a record ends, or both."""
     one, other = pair
     if one.is_end and other.is_end and len(one.changes) == len(other.changes):
         return SAME, [*told, f"both have the same trajectory: {_steps(one.made)}"]
@@ -213,7 +213,7 @@ def _ended(sides: Sides, pair: Tuple[Moment, Moment], told: List[str]) -> Tuple[
 
 
 def first_unlike(first: Path, second: Path) -> str:
-    """What is told of the first lines of two records that are not the same command or reply. Nothing if there are none."""
+    """The report on the first lines of two records with different commands or replies. Empty if there are none."""
     both = ((entry for entry in RecordFile(path).entries() if entry.mark is Mark.REPLY) for path in (first, second))
     for one, other in zip(*both):
         if (command_of(one), reply_of(one)) != (command_of(other), reply_of(other)):
@@ -222,7 +222,7 @@ def first_unlike(first: Path, second: Path) -> str:
 
 
 def options_of_diff(words: List[str]) -> argparse.Namespace:
-    """The options that the command line says."""
+    """The options of the command line."""
     usage = "python3 -m ljclient diff A B [--program PROGRAM]"
     parser = Parser("ljclient", usage, ABOUT, formatter_class=argparse.RawDescriptionHelpFormatter, allow_abbrev=False)
     parser.add_argument("first", metavar="A", help="a record")
@@ -236,7 +236,7 @@ def options_of_diff(words: List[str]) -> argparse.Namespace:
 
 
 def compare(options: argparse.Namespace) -> int:
-    """Compares two records, and tells what came of it."""
+    """Compares two records, and prints the result."""
     first, second = plan_of(options.first), plan_of(options.second)
     for plan in (first, second):
         if not any(plan.played):
@@ -251,7 +251,7 @@ def compare(options: argparse.Namespace) -> int:
 
 
 def main(words: List[str]) -> int:
-    """Compares the records that the words of the command line say, and returns the exit status."""
+    """Compares the records of the command line, and returns the exit status."""
     options = options_of_diff(words)
     try:
         return compare(options)

@@ -1,4 +1,4 @@
-"""Records as they are read: line by line, so that the first line that is damaged is known."""
+"""Reads records line by line, so that the first damaged line is known."""
 from __future__ import annotations
 
 import os
@@ -29,17 +29,17 @@ SUM = re.compile(rb"[0-9a-f]{64}\Z")
 
 @dataclass
 class RecordFile:
-    """A record. What it is like is known when its entries have been read.
+    """A record. Its attributes are complete once its entries have been read.
 
-    format     1, or 2 as they are written
+    format     1 or 2; new records have 2
     session    the name of its session
-    client     who wrote it, as the file says
-    programs   the lines in which the program told its version, as the file says
+    client     its client, as the file says
+    programs   the version lines of the program, as the file says
     continues  the SHA-256 of the record that it continues, as the file says
-    quota      what a user must be allowed to have for it
-    is_ended   whether its last line is there
-    cut        the number of the line where the file is cut short, if it is: the process that wrote it was killed
-    sum        the SHA-256 of all whole lines, without their checks
+    quota      the quota that a user needs for it
+    is_ended   whether it has its last line, `end`
+    cut        the number of the line where the file is cut short, if its writer was killed
+    sum        the SHA-256 of all complete lines, without their checks
     """
 
     path: Path
@@ -61,7 +61,7 @@ class RecordFile:
         return self._chain.sum
 
     def entries(self) -> Iterator[Entry]:
-        """The entries in order, once. Raises `Damaged`, with the line, where one cannot stand as it was written."""
+        """The entries in order, to be read once. Raises `Damaged`, with the line, at the first fault."""
         rules = Rules()
         check_regular(self.path)
         with open(self.path, "rb") as file:
@@ -75,7 +75,7 @@ class RecordFile:
                     raise self._damaged("`moved` must be followed by a LOAD or LOADMIX that was granted")
 
     def _rows(self, file: BinaryIO) -> Iterator[Tuple[Mark, bytes]]:
-        """What each line says below the head, up to one that is cut short."""
+        """The mark and text of each line below the head, up to one that is cut short."""
         self._read_head(file.readline(MAX_ROW))
         for self._at, row in enumerate(iter(lambda: file.readline(MAX_ROW), b""), 2):
             if self.is_ended:
@@ -108,7 +108,7 @@ class RecordFile:
         raise self._damaged(f"a record must begin with `{record.HEAD.decode()}`")
 
     def _entry(self, mark: Mark, rest: bytes, rows: Iterator[Tuple[Mark, bytes]]) -> Optional[Entry]:
-        """The entry that begins with this line, if one does, and is there whole."""
+        """The entry that begins with this line; None if there is none or it is cut short."""
         if mark in ABOVE:
             self._take_above(mark, rest)
             return None
@@ -134,7 +134,7 @@ class RecordFile:
             return None
 
     def _take_above(self, mark: Mark, rest: bytes) -> None:
-        """Takes in a line that stands above all others, and tells where the record comes from."""
+        """Stores a line above all others, which gives the origin of the record."""
         if mark not in self._may_stand:
             raise self._damaged("a line of this kind must stand above all others, once and in its order, if the format has it")
         if mark is Mark.CONTINUES and not SUM.match(rest):
@@ -149,7 +149,7 @@ class RecordFile:
             self.continues = told
 
     def _take_in(self, mark: Mark, rest: bytes) -> None:
-        """Takes in a line that is of the whole record."""
+        """Stores a line for the whole record."""
         if mark is Mark.END:
             self.is_ended = True
             return
@@ -167,14 +167,14 @@ class RecordFile:
         return Quota(*numbers)
 
     def _check_command(self, line: bytes) -> None:
-        """Raises `Damaged` unless this is a command of the session, as all others are."""
+        """Raises `Damaged` unless this is a command of the same session as all others."""
         name = record.session_of(record.words_of(line)) if line.decode(errors="ignore").encode() == line else ""
         if not NAME.match(name) or (self.session and self.session != name) or len(line) > MAX_LINE:
             raise self._damaged("the line must be a command of " + (f"session {self.session}" if self.session else "a session"))
         self.session = name
 
     def _command(self, number: int, line: bytes, rows: Iterator[Tuple[Mark, bytes]]) -> Entry:
-        """The command of this line with its reply. StopIteration if the file ends before."""
+        """The command of this line with its reply. Raises StopIteration if the file ends first."""
         body = self._body(record.count_of(line) or 0, rows)
         mark, first = next(rows)
         if mark not in (Mark.REPLY, Mark.OUTSIDE):
@@ -189,7 +189,7 @@ class RecordFile:
         return Entry(mark, number, line, body, first, more, self.sum, reply)
 
     def _body(self, count: int, rows: Iterator[Tuple[Mark, bytes]]) -> bytes:
-        """A body of so many bytes."""
+        """A body of `count` bytes."""
         parts, size = [], 0
         while size < count:
             mark, row = next(rows)
@@ -202,7 +202,7 @@ class RecordFile:
         return b"".join(parts)[:count]
 
     def _follow(self, rules: Rules, entry: Entry) -> None:
-        """Raises `Damaged` if an entry cannot stand behind those above it."""
+        """Raises `Damaged` if an entry cannot follow the entries above it."""
         try:
             rules.follow(entry, self.quota)
         except Misplaced as fault:
@@ -213,7 +213,7 @@ class RecordFile:
 
 
 def check_regular(path: Path) -> None:
-    """Raises ValueError unless this is a regular file, which can be read twice, or none that can be opened."""
+    """Raises ValueError unless this is a regular file, which can be read twice, or a folder, which `open` refuses."""
     kind = stat.S_IFMT(os.stat(path).st_mode)
     if kind not in (stat.S_IFREG, stat.S_IFDIR):
         what = KINDS.get(kind, "no regular file")
@@ -221,9 +221,9 @@ def check_regular(path: Path) -> None:
 
 
 def sum_of_continued(path: Optional[Path], following: Optional[Path]) -> str:
-    """The SHA-256 of a record that another file continues, of its whole lines if it is cut short. Nothing without a path.
+    """The SHA-256 of a record that another file continues; of its complete lines if it is cut short. Empty without a path.
 
-    Raises `Damaged` if it is not a record, and ValueError if there is no other file, or it is the same, which would be replaced.
+    Raises `Damaged` if it is not a record, and ValueError if there is no other file, or it is the same file, which would be replaced.
     """
     if path is None:
         return ""

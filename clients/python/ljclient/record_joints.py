@@ -1,7 +1,7 @@
-"""Where a session of a record is loaded again: whether it goes on as it was, or another trajectory begins.
+"""Checks whether a session that a record loads again is unchanged, or another trajectory begins.
 
-A session that moves to a new program, or whose atoms are sorted again, is loaded again from both of its frames. What the program
-has just before and just after is compared in ring units, in whatever order its atoms are.
+A session that moves to a new program, or whose atoms are sorted again, is loaded again from both of its frames. The states just
+before and just after are compared in ring units, in any order of the atoms.
 """
 from __future__ import annotations
 
@@ -39,8 +39,8 @@ class Loaded:
 
     species  the two symbols of a mixture
     classes  sigma in ring units, h and weight of each class of pairs
-    atoms    how many atoms there are
-    on_ring  whether DUMP tells each ring unit
+    atoms    the number of atoms
+    on_ring  whether DUMP resolves each ring unit
     """
 
     species: Tuple[bytes, ...]
@@ -50,27 +50,27 @@ class Loaded:
 
     @property
     def cost(self) -> int:
-        """How many commands it takes to read both frames."""
+        """The number of commands that read both frames."""
         return 4 if self.on_ring else 2 * self.atoms + 3
 
 
 @dataclass(frozen=True)
 class Side:
-    """A session on one side of a joint: how its atoms interact, and of each its symbol and its places now and one step before."""
+    """A session on one side of a joint: how its atoms interact, and each atom's symbol and places, now and one step before."""
 
     loaded: Loaded
     atoms: Sequence[Tuple[str, Place, Place]]
 
 
 def whole_of(word: bytes) -> int:
-    """A whole number of the protocol. ValueError for other words."""
+    """A whole number of the protocol. Raises ValueError for other words."""
     if not WHOLE.match(word):
         raise ValueError("this is no whole number of the protocol")
     return int(word)
 
 
 def loaded_by(entry: Entry) -> Loaded:
-    """What a LOAD or LOADMIX has loaded that was granted. ValueError if the protocol grants no such load."""
+    """What a granted LOAD or LOADMIX has loaded. Raises ValueError if the protocol grants no such load."""
     verb, _, edge_word, *words = all_words = record.words_of(entry.line)
     if len(all_words) != WORDS[verb] or not 1 <= entry.atoms <= MOST_ATOMS:
         raise ValueError("a load of the protocol has other words")
@@ -85,13 +85,13 @@ def loaded_by(entry: Entry) -> Loaded:
 
 
 def side_of(user: "User", name: str, loaded: Loaded) -> Side:
-    """A session as the program has it. It is then as it was."""
+    """A session as the program has it. Reading leaves it unchanged."""
     return Side(loaded, sorted(present_of(user, name, loaded).atoms))
 
 
 @dataclass(frozen=True)
 class Present:
-    """A session as a program has it: its step, by how much the next one changes that, and its atoms in order."""
+    """A session as a program has it: its step, the change of that number by the next step, and its atoms in order."""
 
     step: int
     direction: int
@@ -99,7 +99,7 @@ class Present:
 
 
 def present_of(user: "User", name: str, loaded: Loaded) -> Present:
-    """A session as the program has it, with its step and its order of atoms. It is then as it was."""
+    """A session as the program has it, with its step and its order of atoms. Reading leaves it unchanged."""
     turn = f"REVERSE {name}"
     if loaded.on_ring:
         dumped, turned, past, _ = user.ask_all([f"DUMP {name}", turn, f"DUMP {name}", turn])
@@ -115,12 +115,12 @@ def present_of(user: "User", name: str, loaded: Loaded) -> Present:
 
 
 def _shown_places(replies: Sequence[Reply]) -> List[Place]:
-    """The places that replies to SHOW tell."""
+    """The places in replies to SHOW."""
     return [(int(x), int(y), int(z)) for x, y, z in (reply.words[-3:] for reply in replies)]
 
 
 def _dumped_places(reply: Reply) -> List[Place]:
-    """The places that DUMP tells where a millionth is a ring unit."""
+    """The places in a reply to DUMP where a millionth is a ring unit."""
     words = (line.replace(".", "").split(" ") for line in reply.lines[2:])
     return [(int(x), int(y), int(z)) for _, x, y, z in words]
 
@@ -128,9 +128,9 @@ def _dumped_places(reply: Reply) -> List[Place]:
 class Joints:
     """Counts the trajectories of a record.
 
-    room          how many commands may still be asked to read frames
-    trajectories  how many there are, each load among them that was not compared
-    uncompared    how many loads were not compared with what was before
+    room          the number of commands that may still be sent to read frames
+    trajectories  the number of trajectories; a load that was not compared counts as a new one
+    uncompared    the number of loads that were not compared with the session before
     """
 
     def __init__(self, name: str, room: int):
@@ -143,14 +143,14 @@ class Joints:
         self._found: List[Optional[bool]] = []
 
     def look(self, user: "User", loaded: Optional[Loaded]) -> None:
-        """Reads the session as it is, before what is saved in it is restored and read, and it moves."""
+        """Reads the session, before its saved states are restored and read for a move."""
         self._now = {}
         with contextlib.suppress(Refused):
             if loaded is not None:
                 self._now = self._sides(user, loaded)
 
     def leave(self, user: "User", loaded: Optional[Loaded], has_moved: bool) -> None:
-        """Reads the session before it is gone, and what is saved in it if that is to be in a new program too."""
+        """Reads the session before it is gone, and its saved states too if it moves to a new program."""
         now, self._now = self._now, None
         self._before, self._found = {}, []
         with contextlib.suppress(Refused):
@@ -160,16 +160,16 @@ class Joints:
             self._before = {**self._before, **now}
 
     def compare(self, user: "User", loaded: Optional[Loaded], saved: bytes) -> None:
-        """Compares the session with what was saved under a name, or with itself before if there is none."""
+        """Compares the session with the state saved under a name or, if the name is empty, with itself before."""
         after = self._sides(user, loaded) if self._before and loaded is not None else {}
         self._found.append(after[NOW] == self._before.get(saved) if after else None)
 
     def differ(self) -> None:
-        """Takes in that the commands behind a load change it."""
+        """Notes that the commands after a load change the session."""
         self._found.append(False)
 
     def arrive(self) -> str:
-        """Counts the trajectories, and returns what is told of the session that was loaded again."""
+        """Counts the trajectories, and returns the report on the session that was loaded again."""
         if self._found and all(self._found):
             return "the session goes on as it was"
         self.trajectories += 1
@@ -183,7 +183,7 @@ class Joints:
         return {NOW: side_of(user, self._name, loaded)} if self._takes(loaded.cost) else {}
 
     def _all_sides(self, user: "User", loaded: Loaded) -> Dict[bytes, Side]:
-        """The session as it is, and as it was saved under each name. The session has what was saved last then."""
+        """The session as it is, and as it was saved under each name. It is left in the last saved state."""
         saved = [line.split(" ")[0] for line in user.ask(f"LIST {self._name}").lines] if self._takes(1) else []
         if not self._takes((loaded.cost + 1) * (len(saved) + 1)):
             return {}
@@ -194,7 +194,7 @@ class Joints:
         return sides
 
     def _takes(self, cost: int) -> bool:
-        """Takes so many commands of the room, if it has them."""
+        """Takes `cost` commands from `room`, if it has them."""
         if cost > self.room:
             return False
         self.room -= cost

@@ -1,5 +1,5 @@
-"""What a record does to its session, beside how many steps it has made: two records of one trajectory have the same, whatever the
-pieces are in which they go on, and whatever they read on the way."""
+"""The changes that a record makes to its session, by the number of steps made. Two records of one trajectory have the same changes,
+however their steps are divided, and whatever they read in between."""
 from __future__ import annotations
 
 from dataclasses import dataclass, field
@@ -21,11 +21,11 @@ Words = Tuple[bytes, ...]
 
 @dataclass
 class Moment:
-    """What a record does between two steps.
+    """The commands of a record between two steps.
 
-    made     how many steps were made before
+    made     the number of steps made before
     changes  the commands that change the session, in order
-    told     what else was replied, by how many changes stand before and the words of the command
+    told     the other replies, by the number of changes before them and the words of the command
     is_end   whether the record ends here
     """
 
@@ -55,7 +55,7 @@ def moments_of(path: Path) -> Iterator[Moment]:
 
 
 def command_of(entry: Entry) -> Words:
-    """The words of a command without the session that it names, and its body."""
+    """The words of a command without the session name. The body of a load replaces its count."""
     verb, _, *words = record.words_of(entry.line)
     if verb in record.LOADS:
         words[-1] = entry.body
@@ -63,7 +63,7 @@ def command_of(entry: Entry) -> Words:
 
 
 def reply_of(entry: Entry) -> Words:
-    """The words of a reply without the session that it names, and the SHA-256 of its further lines. Of steps it is the step number."""
+    """The words of a reply without the session name, and the SHA-256 of its further lines. For steps, only the step number."""
     words = entry.first.split(b" ")
     if entry.is_granted_of(*STEPS):
         return (words[STEP_AT[words[1]]],)
@@ -71,10 +71,10 @@ def reply_of(entry: Entry) -> Words:
 
 
 class Replay:
-    """A record that is played from its beginning up to where it is asked for, without what it reads.
+    """Plays a record from its start up to a requested moment, without the commands that only read.
 
-    made     how many steps it has made
-    changes  how many changes since then
+    made     the number of steps made
+    changes  the number of changes since then
     loaded   how its atoms interact
     """
 
@@ -91,7 +91,7 @@ class Replay:
         )
 
     def go(self, made: int, changes: int) -> None:
-        """Goes on up to so many steps, and from there by so many changes."""
+        """Plays up to `made` steps, and from there up to `changes` changes."""
         while self.made < made:
             if not self._left:
                 self._play(self._take())
@@ -102,7 +102,7 @@ class Replay:
             self._play(self._take())
 
     def step(self, steps: int) -> None:
-        """Makes so many steps."""
+        """Makes `steps` steps."""
         self._user.ask(f"ADVANCE {self._name} {steps}")
         self._left, self.made, self.changes = self._left - steps, self.made + steps, 0
 

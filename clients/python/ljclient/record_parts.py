@@ -1,8 +1,8 @@
-"""Records that are played in parts, several at the same time: each but the first begins at a checkpoint beside the record.
+"""Plays records in parts, several at the same time: each part except the first begins at a checkpoint beside the record.
 
-A checkpoint has the two frames of a session, which are all that it is, in ring units. Each part plays the commands up to the next
-checkpoints, and the session has to be there what they say. So the first part, which begins with the load of the record, proves the
-checkpoint at which the second one begins, and so on: all together prove the whole.
+A checkpoint has the two frames of a session in ring units, which are its whole state. Each part plays the commands up to the next
+checkpoints, which the session must equal there. So the first part, which begins with the load of the record, proves the
+checkpoint at which the second part begins, and so on. All parts together prove the whole record.
 """
 from __future__ import annotations
 
@@ -31,11 +31,11 @@ STEP_COMMENT = b"step "
 
 @dataclass(frozen=True)
 class Checkpoint:
-    """A checkpoint of a record, by the server's numbers.
+    """A checkpoint of a record, with the server's numbers.
 
     path   its file
-    after  the SHA-256 of the record up to the command behind which it stands
-    state  what the session is there
+    after  the SHA-256 of the record up to the command before it
+    state  the state of the session there
     """
 
     path: str
@@ -45,14 +45,14 @@ class Checkpoint:
 
 @dataclass(frozen=True)
 class Stop:
-    """Where checkpoints stand in a record.
+    """A position in a record that has checkpoints.
 
-    checkpoints  those that stand there
-    number       the line of the command behind which they stand
+    checkpoints  the checkpoints there
+    number       the line of the command before them
     load         the load of the session
     may_begin    whether a part may begin there
-    steps        how many steps were asked for up to there
-    played       how many commands are played up to there, in each program
+    steps        the number of steps requested up to there
+    played       the number of commands played up to there, in each program
     """
 
     checkpoints: Sequence[Checkpoint]
@@ -64,7 +64,7 @@ class Stop:
 
     @property
     def cost(self) -> int:
-        """How many commands it takes to read the session there."""
+        """The number of commands that read the session there."""
         return (2 * self.load.atoms + 4) * len(self.checkpoints)
 
 
@@ -72,10 +72,10 @@ class Stop:
 class Part:
     """A part of a record.
 
-    begin   where it begins, but the first, which begins with the record
-    stops   where checkpoints stand in it; the last is where it ends, but that of the last part
+    begin   where it begins; None for the first, which begins with the record
+    stops   its positions with checkpoints; it ends at the last one, unless it is the last part
     is_end  whether the record ends with it
-    played  how many commands are played, in each program
+    played  the number of commands played, in each program
     """
 
     begin: Optional[Stop]
@@ -89,7 +89,7 @@ class Part:
 
     @property
     def items(self) -> int:
-        """How many commands a program takes at most for it."""
+        """The most commands that a program takes for it."""
         return max(self.played) + sum(stop.cost for stop in self.stops) + SPARE_ITEMS
 
 
@@ -97,9 +97,9 @@ class Part:
 class Division:
     """How a record is played in parts.
 
-    plan    what it has
+    plan    the contents of the record
     parts   its parts, in order
-    strays  the checkpoints that stand nowhere in it
+    strays  the checkpoints that have no position in it
     """
 
     plan: Plan
@@ -108,7 +108,7 @@ class Division:
 
 
 def divided(path: Path, checkpoints: Sequence[Checkpoint], most: int) -> Division:
-    """A record in so many parts at most, of about as many steps each. Raises `Damaged` if it is not as it was written."""
+    """A record in at most `most` parts, with about equal numbers of steps. Raises `Damaged` if it is not as it was written."""
     waiting: Dict[str, List[Checkpoint]] = {}
     for each in checkpoints:
         waiting.setdefault(each.after, []).append(each)
@@ -125,14 +125,14 @@ def divided(path: Path, checkpoints: Sequence[Checkpoint], most: int) -> Divisio
 
 
 def steps_of(entry: Entry) -> int:
-    """How many steps a command makes or begins."""
+    """The number of steps that a command makes or begins."""
     words = record.words_of(entry.line)
     return int(words[2]) if entry.is_granted_of(b"ADVANCE", b"START") and words[2].isdigit() else 0
 
 
 def can_begin(load: Entry, state: State) -> bool:
-    """Whether a session of this load can be loaded as a checkpoint says it in the same box, so that it is shown as there. In a box of
-    an edge below 4.294967296 some places have no coordinate of their own."""
+    """Whether a session of this load can be loaded from a checkpoint in the same box, so that it is shown as in the record. In a box
+    with an edge below 4.294967296 some places have no coordinate of their own."""
     try:
         is_wide = nano_of(record.words_of(load.line)[2]) >= RING
         return is_wide and is_alike(state, loaded_by(load)) and len(load.line) + len(b"1048576") <= record.MAX_COMMAND
@@ -141,7 +141,7 @@ def can_begin(load: Entry, state: State) -> bool:
 
 
 def _parts(plan: Plan, stops: Sequence[Stop], steps: int, most: int) -> List[Part]:
-    """The parts, each of as many steps as go into one of so many; and of fewer commands than half of what a program takes."""
+    """The parts, each up to the first possible stop with 1/`most` of all steps, or half of the commands that a program takes."""
     parts, part, since = [], Part(None), 0
     for stop in stops:
         part.stops.append(stop)
@@ -155,7 +155,7 @@ def _parts(plan: Plan, stops: Sequence[Stop], steps: int, most: int) -> List[Par
 
 
 def _between(begin: Optional[Stop], played: Sequence[int]) -> List[int]:
-    """How many commands each program plays from a stop on."""
+    """The number of commands that each program plays after a stop."""
     if begin is None:
         return list(played)
     programs = len(begin.played)
@@ -163,9 +163,9 @@ def _between(begin: Optional[Stop], played: Sequence[int]) -> List[int]:
 
 
 class PartPlayer(Player):
-    """Compares replies with those of a record, whose step numbers are others: those of the record are told.
+    """Compares replies with a record that has other step numbers. Those of the replies are converted first.
 
-    origin  the state with which the session was loaded as step 0, until it is loaded by the record
+    origin  the state that was loaded as step 0; None once the record loads the session
     """
 
     origin: Optional[State] = None
@@ -179,7 +179,7 @@ class PartPlayer(Player):
         super().answered(words, answer)
 
     def step_of(self, step: int) -> int:
-        """The record's number of a step here."""
+        """The record's number for a step here."""
         return step if self.origin is None else self.origin.step + self.origin.direction * step
 
     @property
@@ -188,7 +188,7 @@ class PartPlayer(Player):
 
 
 def shifted(answer: Answer, verb: bytes, origin: State) -> Answer:
-    """A reply with the step numbers of a session of which step 0 is that of this state."""
+    """A reply with step numbers converted: 0 becomes the step of this state."""
 
     def told(word: bytes) -> bytes:
         return b"%d" % (origin.step + origin.direction * int(word))
@@ -204,8 +204,8 @@ def shifted(answer: Answer, verb: bytes, origin: State) -> Answer:
 
 
 def play_part(plan: Plan, part: Part, opener: Opener, is_server: bool, player: PartPlayer) -> Tuple[Joints, List[str]]:
-    """Plays a part of a record. Returns how many trajectories it has, and what is told of checkpoints that are not what the session
-    is there. Raises Trouble if it cannot be played."""
+    """Plays a part of a record. Returns the count of its trajectories, and the report on checkpoints that differ from the session
+    there. Raises Trouble if it cannot be played."""
     if part.items > MAX_ITEMS and not is_server:
         raise Trouble(f"cannot play {player.path}: it has {part.items} commands between two checkpoints, and a program takes {MAX_ITEMS}")
     costs = sum(stop.cost for stop in part.stops)
@@ -227,7 +227,7 @@ def play_part(plan: Plan, part: Part, opener: Opener, is_server: bool, player: P
 
 
 def _entries(plan: Plan, part: Part) -> Iterator[Entry]:
-    """The commands of a part, once more from the file. Raises Trouble if that is another one by now."""
+    """The commands of a part, read from the file again. Raises Trouble if the file has changed."""
     again = RecordFile(plan.file.path)
     for entry in again.entries():
         if part.has(entry.number):
@@ -239,7 +239,7 @@ def _entries(plan: Plan, part: Part) -> Iterator[Entry]:
 
 
 def _begin(stop: Stop, user: User, name: str, player: PartPlayer) -> None:
-    """Loads the session as a checkpoint says it, in the words of the load of the record."""
+    """Loads the session from a checkpoint, with the words of the record's load."""
     state, words = stop.checkpoints[0].state, record.words_of(stop.load.line)
     edge = nano_of(words[2])
     body = b"".join(text_in_box("checkpoint", state.symbols, places, edge) for places in (state.before, state.places))
@@ -249,7 +249,7 @@ def _begin(stop: Stop, user: User, name: str, player: PartPlayer) -> None:
 
 
 def _compare(stop: Stop, user: User, plan: Plan, player: PartPlayer) -> Iterator[str]:
-    """What is told of each checkpoint that is not what the session is."""
+    """The report on each checkpoint that differs from the session."""
     loaded = loaded_by(stop.load)
     present = present_of(user, plan.file.session, loaded)
     step, direction = player.step_of(present.step), player.direction * present.direction
@@ -265,7 +265,7 @@ def _compare(stop: Stop, user: User, plan: Plan, player: PartPlayer) -> Iterator
 
 
 def _first_apart(checkpoint: Checkpoint, atoms: Sequence[Tuple[str, Tuple[int, ...], Tuple[int, ...]]], path: str) -> Iterator[str]:
-    """What is told of the first atom that is elsewhere, if one is."""
+    """The report on the first atom that differs, if any."""
     state = checkpoint.state
     for number, (said, found) in enumerate(zip(zip(state.symbols, state.places, state.before), atoms)):
         if said != found:
@@ -278,7 +278,7 @@ def _told(symbol: str, place: Tuple[int, ...], before: Tuple[int, ...]) -> str:
 
 
 def is_alike(state: State, loaded: Loaded) -> bool:
-    """Whether a checkpoint has as many atoms as were loaded, which interact as these do."""
+    """Whether a checkpoint has the same number of atoms as the load, with the same interactions."""
     mixture = state.mixture
     classes = tuple((each.sigma_on_ring, each.h, each.weight) for each in (mixture.classes if mixture else (state.scale,)))
     species = tuple(map(str.encode, mixture.species)) if mixture else ()

@@ -18,11 +18,11 @@ READS = (b"SHOW", b"DUMP", b"LIST", b"REVERSE")
 
 @dataclass(frozen=True)
 class Arrival:
-    """What a session has to be like behind a command, so that it goes on as it was.
+    """The state that a session must have after a command, to be unchanged.
 
-    load     the line of the load that has loaded it again
-    saved    the name under which it was saved like this; empty if it is to be as it was just before
-    is_last  whether nothing more is compared of this load
+    load     the line of the load that loaded it again
+    saved    the name under which this state was saved; empty for the state before it was gone
+    is_last  whether it is the last one to compare for this load
     """
 
     load: int
@@ -32,11 +32,11 @@ class Arrival:
 
 @dataclass
 class Return:
-    """What follows the load in a new program: what was saved is saved again in its order, with tugs from each to the next.
+    """What follows the load in a new program: saved states are saved again in their order, with tugs from each to the next.
 
     load   the line of the load
-    saved  the names that are not saved again yet
-    turns  how many REVERSEs are left up to the next BRANCH, or up to the end
+    saved  the names that are not yet saved again
+    turns  the number of REVERSEs left before the next BRANCH or the end
     """
 
     load: int
@@ -45,7 +45,7 @@ class Return:
     arrivals: Dict[int, Arrival] = field(default_factory=dict)
 
     def takes(self, entry: Entry) -> bool:
-        """Whether the next command is one of these, which is then taken in."""
+        """Whether the next command is one of these. If so, it is processed."""
         words = record.words_of(entry.line)
         if self.turns and entry.is_granted_of(b"TUG", b"REVERSE"):
             self.turns -= words[0] == b"REVERSE"
@@ -64,7 +64,7 @@ class Return:
 
 
 class Leaving(enum.Enum):
-    """How a session is gone that is loaded again."""
+    """Why a session is gone before it is loaded again."""
 
     DROPPED = "by its own DROP"
     LOST = "a new connection has found that the server has it no longer"
@@ -73,17 +73,17 @@ class Leaving(enum.Enum):
 
 @dataclass
 class Plan:
-    """What a record has.
+    """The contents of a record.
 
     file         the record, as it was read
-    played       how many commands are played, in each program
-    left_out     how many commands are not played
-    connections  how many new connections were begun
-    looks        the lines before which a session is read, since what is saved in it is read then, before it moves
-    leaves       the lines before which a session is read that is loaded again, and how it is gone
-    arrives      the lines behind which a session that was loaded again is compared, and with what
-    unlike       the lines of loads in a new program that are followed by something else than what was saved
-    unended      the lines of loads in a new program with which the record ends before all is there that was saved
+    played       the number of commands played, in each program
+    left_out     the number of commands not played
+    connections  the number of new connections
+    looks        the lines before which a session is read, since its saved states are then restored and read for a move
+    leaves       the lines before which a session that is loaded again is read, and why it is gone
+    arrives      the lines after which a session that was loaded again is compared, and with what
+    unlike       the lines of loads in a new program that are followed by something other than the saved states
+    unended      the lines of loads in a new program after which the record ends before all states are saved again
     """
 
     file: RecordFile
@@ -104,16 +104,16 @@ class Plan:
 
     @property
     def commands(self) -> str:
-        """The SHA-256 of the commands that are played, and of their bodies: of what stands behind `>` and `:`, each with LF."""
+        """The SHA-256 of the played commands and their bodies: the text after `>` and `:`, each line with LF."""
         return self._commands.hexdigest()
 
     @property
     def is_settled(self) -> bool:
-        """Whether the session is there with nothing saved in it, so that its two frames are all that it is."""
+        """Whether the session exists and has no saved states, so that its two frames are its whole state."""
         return self._gone is None and self._return is None and not self._saved
 
     def take(self, entry: Entry) -> None:
-        """Takes the next entry in."""
+        """Processes the next entry."""
         if self._return is not None:
             self._go_on(self._return, entry)
         if entry.mark is not Mark.MOVED:
@@ -144,14 +144,14 @@ class Plan:
             self._commands.update(row[2:] + b"\n")
 
     def _find_gone(self, entry: Entry) -> None:
-        """Takes in that a command may find the session gone, as a new connection does by a load alone."""
+        """Notes if a command shows that the session is gone. A load shows this only over a new connection."""
         is_known = self._is_renewed or entry.refusal == record.NO_SESSION
         is_gone = entry.is_granted_of(*record.LOADS) or record.tells_that_it_is_gone(record.words_of(entry.line), entry.refusal)
         if self._gone is None and is_known and is_gone:
             self._gone = entry.number, Leaving.LOST
 
     def _load(self, entry: Entry) -> None:
-        """Takes in that the session is loaded again, or would be but for a refusal, for which it has to be gone too."""
+        """Notes that the session is loaded again. For a refused load it must be gone too."""
         self._find_gone(entry)
         if self._gone is None:
             return
@@ -166,7 +166,7 @@ class Plan:
                 self.unended = {number}
 
     def _go_on(self, following: Return, entry: Entry) -> None:
-        """Takes in what follows the load in a new program, which is compared once all is there that was saved."""
+        """Processes what follows the load in a new program. It is compared once all states are saved again."""
         is_taken = following.takes(entry)
         if is_taken and not following.is_done:
             return
@@ -178,7 +178,7 @@ class Plan:
         self._return, self.unended = None, set()
 
     def _restore(self, entry: Entry) -> None:
-        """Follows what is restored and read only, one after the other in order of saving, as a client does that moves a session."""
+        """Tracks states that are restored and only read, in order of saving, as by a client that moves a session."""
         words = record.words_of(entry.line)
         if entry.is_granted_of(b"RESTORE"):
             if words[2:] != self._next_restored:
@@ -190,11 +190,11 @@ class Plan:
 
     @property
     def _next_restored(self) -> List[bytes]:
-        """The name that is restored next, if there is one; a list that no words are if all were restored."""
+        """The name to restore next. If all were restored, a list that no words of a command equal."""
         return self._saved[len(self._restored) : len(self._restored) + 1] or [b"", b""]
 
     def _save(self, entry: Entry) -> None:
-        """Follows what is saved, in order of saving."""
+        """Tracks the saved states, in order of saving."""
         name = record.words_of(entry.line)[2:3]
         if entry.is_granted_of(*record.LOADS):
             self._saved = []
@@ -205,7 +205,7 @@ class Plan:
 
 
 def plan_of(path: Path) -> Plan:
-    """What a record has. Raises `Damaged`, with the line, if it is not as it was written."""
+    """The contents of a record. Raises `Damaged`, with the line, if it is not as it was written."""
     plan = Plan(RecordFile(path))
     for entry in plan.file.entries():
         plan.take(entry)

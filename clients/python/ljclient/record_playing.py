@@ -1,4 +1,4 @@
-"""Records that are played again: each command, and its reply beside that of the record."""
+"""Plays records again: sends each command, and compares its reply with the record."""
 from __future__ import annotations
 
 import contextlib
@@ -24,17 +24,17 @@ Tell = Callable[[str], None]
 
 
 class Trouble(Exception):
-    """Why a record cannot be played."""
+    """Raised if a record cannot be played."""
 
 
 class Player(Listener):
-    """Compares the replies to commands with those of a record, and tells of each.
+    """Compares the replies to commands with a record, and reports on each.
 
-    note       tells a line that is of no reply
-    count      how many replies were compared
+    note       reports a line that is not about a reply
+    count      the number of replies compared
     differing  the lines of the commands whose replies differ
-    trouble    why the record cannot be played on
-    loaded     what the last load has loaded, here as there
+    trouble    why playing cannot continue; empty if it can
+    loaded     what the last load has loaded, here and in the record
     """
 
     def __init__(self, path: str, tell: Tell, note: Tell, complain: Tell):
@@ -78,7 +78,7 @@ class Player(Listener):
         self.trouble = self.trouble or f"`{shown(line)}` was not answered here"
 
     def _load(self, entry: Entry) -> None:
-        """Takes in what was loaded, and tells of it."""
+        """Stores what was loaded, and reports it."""
         try:
             self.loaded = loaded_by(entry)
         except ValueError:
@@ -112,11 +112,11 @@ class Stage:
         self.user = self._opened()
 
     def look(self) -> None:
-        """Reads the session, as it is to be when it has moved."""
+        """Reads the session as it must be after a move."""
         self.joints.look(self.user, self._player.loaded)
 
     def leave(self, leaving: Leaving) -> None:
-        """Has the session be gone as it is said, if it is not by a command of the record. Before that it is read."""
+        """Reads the session, and then removes it, unless a command of the record does that."""
         self.joints.leave(self.user, self._player.loaded, leaving is Leaving.MOVED)
         self._player.loaded = None
         if leaving is Leaving.DROPPED:
@@ -140,7 +140,7 @@ class Stage:
             raise Trouble(f"{self._player.path}, {why}; the file says that it needs a quota of {self._file.quota}")
 
     def arrive(self, arrival: Arrival) -> None:
-        """Compares the session that was loaded again with what was read of it, and tells of it behind the last of its commands."""
+        """Compares the session that was loaded again with its state before, and reports on it after the last comparison."""
         if arrival.load in self._plan.unlike:
             self.joints.differ()
         elif arrival.load not in self._plan.unended:
@@ -149,7 +149,7 @@ class Stage:
             self._player.note(f"again - line {arrival.load}: {self.joints.arrive()}")
 
     def close(self) -> None:
-        """Leaves a server as it was."""
+        """Drops the session from a server, and closes the user."""
         if self._is_server and not self.user.closed:
             with contextlib.suppress(ClientError):
                 self._drop()
@@ -168,7 +168,7 @@ class Stage:
 
 
 def parts_of(entries: Iterable[Entry], alone: Collection[int]) -> Iterator[List[Entry]]:
-    """The commands to play, in pieces, and alone what is not played and the commands of these lines."""
+    """The entries in pieces. An entry that is not played, or is at one of these lines, is alone."""
     piece: List[Entry] = []
     for entry in entries:
         is_alone = entry.mark is not Mark.REPLY or entry.number in alone
@@ -184,13 +184,13 @@ def parts_of(entries: Iterable[Entry], alone: Collection[int]) -> Iterator[List[
 
 
 def told_of(entry: Entry) -> str:
-    """A command, with the SHA-256 of its body, which may be that of a file."""
+    """A command, with the SHA-256 of its body, which may be a whole file."""
     body = f", with a body of SHA-256 {hashlib.sha256(entry.body).hexdigest()}" if entry.body else ""
     return f"{shown(entry.line)}{body}"
 
 
 def left_out(entry: Entry) -> str:
-    """What is told of an entry that is not played."""
+    """The report on an entry that is not played."""
     where = f"skipped - line {entry.number}:"
     if entry.mark is Mark.OUTSIDE:
         return f"{where} {told_of(entry)} (it was answered {shown(entry.first)}, and nothing was changed)"
@@ -200,7 +200,7 @@ def left_out(entry: Entry) -> str:
 
 
 def play(plan: Plan, stage: Stage, player: Player) -> None:
-    """Plays a whole record, as it was planned. Raises Trouble if that cannot be, or if the file is another one by now."""
+    """Plays a whole record, as planned. Raises Trouble if that is not possible, or if the file has changed."""
     again = RecordFile(plan.file.path)
     for piece in parts_of(again.entries(), {*plan.arrives, *plan.leaves, *plan.looks}):
         play_piece(piece, plan, stage, player)
@@ -209,7 +209,7 @@ def play(plan: Plan, stage: Stage, player: Player) -> None:
 
 
 def play_piece(piece: List[Entry], plan: Plan, stage: Stage, player: Player) -> None:
-    """Plays one of the pieces of a record (`parts_of`), with what is planned before and behind it."""
+    """Plays one of the pieces of a record (`parts_of`), and does what is planned before and after it."""
     first = piece[0]
     if first.number in plan.looks:
         stage.look()

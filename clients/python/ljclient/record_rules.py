@@ -1,7 +1,7 @@
-"""The rules of what may stand where in a record, so that what is not played need not be believed.
+"""The rules for what may appear where in a record, so that entries that are not played need not be trusted.
 
-A reply is played and compared, or it is one that others than the session bring about, where that can be. The protocol has the
-refusals of each command in its table of commands.
+A reply is either played and compared, or has a cause outside the session, where that is possible. The table of commands in the
+protocol has the refusals of each command.
 """
 from __future__ import annotations
 
@@ -27,7 +27,7 @@ BODY, ENOUGH = refusals.Body.number, refusals.Enough.number
 
 
 class Misplaced(Exception):
-    """Why an entry cannot stand where it does. `is_reply` is whether its reply is wrong."""
+    """Raised if an entry is not allowed where it is. `is_reply`: whether its reply is wrong."""
 
     def __init__(self, why: str, is_reply: bool = False):
         super().__init__(why)
@@ -40,7 +40,7 @@ def text_of(number: int) -> bytes:
 
 
 def outside_of(verb: bytes) -> FrozenSet[int]:
-    """The refusals that may stand behind `!` of this command, wherever they may."""
+    """All refusals of this command that may follow `!` in a record."""
     of_loads = {BODY} if verb in record.LOADS else set()
     of_sessions = {record.NO_SESSION} if verb in OF_A_LOADED_SESSION else set()
     return OF_QUOTA_AND_MEMORY.get(verb, frozenset()) | of_loads | of_sessions | {ENOUGH}
@@ -48,15 +48,15 @@ def outside_of(verb: bytes) -> FrozenSet[int]:
 
 @dataclass
 class Rules:
-    """Follows a record entry by entry, and raises `Misplaced` where one cannot stand.
+    """Follows a record entry by entry, and raises `Misplaced` where one is not allowed.
 
     is_begun    whether a session was loaded
-    is_loaded   whether the session is there, by the record
+    is_loaded   whether the session exists according to the record
     is_lost     whether a new connection has found that it is gone
-    is_renewed  whether a connection was begun, and nothing since tells that the session is there
-    is_moving   whether the session is to be loaded in a new program
+    is_renewed  whether a connection was begun, and no reply since shows that the session exists
+    is_moving   whether the session must be loaded in a new program
     is_stopped  whether the connection has ended, and no new one was begun
-    saved       what is saved in the session
+    saved       the names of the saved states
     """
 
     is_begun: bool = False
@@ -68,7 +68,7 @@ class Rules:
     saved: Set[bytes] = field(default_factory=set)
 
     def follow(self, entry: Entry, quota: Quota) -> None:
-        """Takes the next entry in, over which this quota stands."""
+        """Processes the next entry, which has this quota above it."""
         words = record.words_of(entry.line)
         is_load = entry.is_granted_of(*record.LOADS)
         if not is_load and not self.is_begun:
@@ -94,7 +94,7 @@ class Rules:
         self.is_moving = True
 
     def _refused(self, entry: Entry, words: List[bytes]) -> None:
-        """Takes in a refusal that is not played."""
+        """Processes a refusal that is not played."""
         is_gone = record.tells_that_it_is_gone(words, entry.refusal)
         number = next((each for each in outside_of(words[0]) if entry.first == text_of(each)), 0)
         if number == ENOUGH or (number == BODY and record.count_of(entry.line) is None):
@@ -107,18 +107,18 @@ class Rules:
             self._lose()
 
     def _lose(self) -> None:
-        """Takes in that a new connection has found the session gone."""
+        """Notes that a new connection has found the session gone."""
         self.is_loaded, self.is_lost, self.is_renewed = False, True, False
 
     def _gets_as_far(self, line: bytes, words: List[bytes]) -> bool:
-        """Whether a command may be refused for a quota or for memory, and not before that for something else."""
+        """Whether a command may be refused for a quota or for memory, without an earlier refusal."""
         is_whole = len(words) == WORDS[words[0]] and len(line) <= record.MAX_COMMAND and record.count_of(line) is not None
         if words[0] in record.LOADS:
             return is_whole and (self.is_renewed or not self.is_loaded)
         return is_whole and self.is_loaded and words[2] not in self.saved and bool(NAME.match(words[2].decode("latin-1")))
 
     def _replied(self, entry: Entry, words: List[bytes], quota: Quota) -> None:
-        """Takes in a reply that is played."""
+        """Processes a reply that is played."""
         if entry.refusal in (*record.FROM_OUTSIDE, record.NO_SESSION):
             raise Misplaced("this refusal must stand behind `!`", True)
         if self.is_begun and not self.is_loaded and words[0] not in record.LOADS:
@@ -133,7 +133,7 @@ class Rules:
                 raise Misplaced("the quota above must have room for this")
 
     def _granted(self, words: List[bytes]) -> None:
-        """Takes in what a command has changed."""
+        """Notes what a command has changed."""
         if words[0] in record.LOADS:
             self.is_begun = self.is_loaded = True
             self.is_lost = self.is_moving = False

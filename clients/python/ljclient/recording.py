@@ -21,29 +21,29 @@ Versions = Callable[[], List[str]]
 
 
 class Listener:
-    """What hears of the commands of one session, each when it is replied to."""
+    """Receives the commands of one session, each with its reply."""
 
     is_begun = False
     is_over = False
 
     def answered(self, words: Sequence[bytes], answer: Answer) -> None:
-        """Hears of a command, in words, and its reply."""
+        """Receives the words of a command, and its reply."""
 
     def unanswered(self, line: bytes) -> None:
-        """Hears of a command whose reply will not come."""
+        """Receives a command whose reply will not come."""
 
     def told(self, mark: Mark) -> None:
-        """Hears that a new connection was begun, or that the session is loaded once more in a new program."""
+        """Notes that a new connection was begun, or that the session is loaded again in a new program."""
 
     def flush(self) -> None:
-        """What was heard is to be kept now, before the caller is told. Raises `NotRecorded` if it cannot be."""
+        """Stores what was received, before the caller gets the reply. Raises `NotRecorded` if that fails."""
 
     def close(self) -> None:
-        """Hears that nothing more comes."""
+        """Notes that nothing more comes."""
 
 
 class Record(Listener):
-    """The record of a session, as it is written. It begins with a LOAD that was granted, and ends when the session does."""
+    """The record of a session while it is written. It begins with a granted LOAD, and ends when the session does."""
 
     def __init__(self, path: Path, versions: Sequence[str], continues: str = ""):
         self.path = os.fspath(path)
@@ -64,7 +64,7 @@ class Record(Listener):
         return self._chain.sum
 
     def is_of(self, path: Path) -> bool:
-        """Whether this is the file that is written."""
+        """Whether the record is written to this file."""
         return self._file.target == os.path.realpath(path)
 
     def answered(self, words: Sequence[bytes], answer: Answer) -> None:
@@ -119,7 +119,7 @@ class Record(Listener):
         self._file.give_up()
 
     def _begin(self) -> None:
-        """Writes what stands above the first command."""
+        """Writes the lines above the first command."""
         from . import __version__
 
         self.is_begun = True
@@ -129,7 +129,7 @@ class Record(Listener):
             self._tell(f"{Mark.CONTINUES.value.decode()} {self._continues}".encode())
 
     def _follow(self, words: Sequence[bytes], answer: Answer, is_granted: bool) -> None:
-        """Follows what the session has, and tells a larger quota before the command that needs it."""
+        """Tracks what the session has, and writes a larger quota before the command that needs it."""
         if is_granted and words[0] in record.LOADS:
             self.is_loaded, self._atoms, self._saved = True, int(answer.first.split(b" ")[-1]), set()
         elif is_granted and words[0] == b"BRANCH":
@@ -148,9 +148,9 @@ class Record(Listener):
 
 
 class Pause(Listener):
-    """Keeps what is heard of a session from who hears of it, until it is known whether it may be left out.
+    """Holds back a session's commands from its listener, until it is known whether they may be left out.
 
-    may_be_left_out  whether only commands of this connection were heard, which were replied to, and none that loads or drops
+    may_be_left_out  whether all commands were answered over this connection, and none was a load or DROP
     """
 
     def __init__(self, listener: Listener):
@@ -178,7 +178,7 @@ class Pause(Listener):
         self.listener.close()
 
     def tell(self) -> None:
-        """Has the other hear of all after all, in order."""
+        """Passes all commands to the listener, in order."""
         while self._heard:
             self._heard.popleft()()
 
@@ -188,7 +188,7 @@ class Pause(Listener):
 
 
 class Notes:
-    """What the commands of a wire are replied, whatever their session."""
+    """Collects the replies to all commands of a wire, of any session."""
 
     def __init__(self) -> None:
         self.answers: List[Answer] = []
@@ -209,13 +209,13 @@ class Notes:
 
 
 class Listeners:
-    """Those who hear of a user's sessions, each of one, by its name."""
+    """The listeners of a user's sessions, one for each name."""
 
     def __init__(self) -> None:
         self.by_name: Dict[str, Listener] = {}
 
     def attach(self, wire: Dialogue) -> None:
-        """Has them hear of what a wire is replied, if there are any."""
+        """Makes a wire report to these listeners, if there are any."""
         wire.listener = self if self.by_name else None
 
     def answered(self, answer: Answer) -> None:
@@ -235,7 +235,7 @@ class Listeners:
             listener.told(mark)
 
     def put(self, name: str, listener: Optional[Listener]) -> None:
-        """Has this one, or nobody, hear of a session."""
+        """Sets the listener of a session; None for none."""
         self.by_name.pop(name, None)
         if listener is not None:
             self.by_name[name] = listener
@@ -252,9 +252,9 @@ class Listeners:
 
     @contextlib.contextmanager
     def paused(self, name: str) -> Iterator[None]:
-        """Leaves out what is heard of a session within, if it ends well. Else all of it is told, in order.
+        """Withholds a session's commands in this block from its listener. If it fails, all are passed on, in order.
 
-        All is told too if a new connection or program was begun within. Within another pause the outer one decides.
+        All are passed on too if a new connection or program was begun within it. In nested blocks the outer block decides.
         """
         listener = self.by_name.get(name)
         if listener is None or isinstance(listener, Pause):
@@ -275,13 +275,13 @@ class Listeners:
                 self.flush()
 
     def moved(self, answers: Sequence[Answer]) -> None:
-        """Hears that the sessions are in a new program, by these commands."""
+        """Notes that these commands loaded the sessions in a new program."""
         self.told(Mark.MOVED)
         for answer in answers:
             self.answered(answer)
 
     def flush(self) -> None:
-        """Has all keep what they heard. Who has heard the last is let go. The first `NotRecorded` is raised at the end."""
+        """Flushes all listeners, and removes those that are over. The first `NotRecorded` is raised at the end."""
         faults: List[NotRecorded] = []
         for name, listener in list(self.by_name.items()):
             try:
@@ -294,7 +294,7 @@ class Listeners:
             raise faults[0]
 
     def close(self) -> None:
-        """Tells all that nothing more comes."""
+        """Closes all listeners, and flushes them."""
         for listener in self.by_name.values():
             listener.close()
         self.flush()

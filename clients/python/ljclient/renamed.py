@@ -1,4 +1,4 @@
-"""Names that version 1.1.0 had, and that are no public ones now: they do the same, and a `DeprecationWarning` says what to write."""
+"""Names that were public in version 1.1.0 and are not now: they still work, and a `DeprecationWarning` says what to use instead."""
 from __future__ import annotations
 
 import warnings
@@ -8,15 +8,15 @@ Value = TypeVar("Value")
 
 
 def warn(old: str, use: str = "", level: int = 3) -> None:
-    """Warns at the line that is so many calls above this one."""
+    """Warns that a name is deprecated, at the line of this stack level."""
     warnings.warn(f"{old} is deprecated" + (f": use {use}" if use else ""), DeprecationWarning, stacklevel=level)
 
 
 class Renamed(Generic[Value]):
     """A member of a class under its old name.
 
-    now  the member that does the same. With `()` behind it the old name was a property, and the member is called
-    use  what the warning says to write, if there is something
+    now  the member that does the same. With a trailing `()` the old name was a property, and the member is called
+    use  what the warning says to use instead, if there is a replacement
     """
 
     def __init__(self, now: str, use: str = ""):

@@ -1,8 +1,8 @@
-"""Replaces a session by another one of the same name: the older one stays until the server has accepted the new one.
+"""Replaces a session by another one of the same name: the old session stays until the server has accepted the new one.
 
-The new one is loaded under a reserved name first. So what is wrong with it is told while the older one is still there, and what
-is lost of a connection on the way is found by the next one (`leftovers`). Where the quota has no place for both, the older one is
-saved to a file meanwhile.
+The new session is first loaded under a reserved name. So its faults are reported while the old session is still there, and if
+the connection is lost, the next connection finds what is left (`leftovers`). If the quota has no room for both, the old session
+is saved to a file meanwhile.
 """
 from __future__ import annotations
 
@@ -34,10 +34,10 @@ CommandOf = Callable[[str], Command]
 
 @contextlib.contextmanager
 def replacing(user: "Loader", name: str, command_of: CommandOf, is_wanted: bool) -> Iterator[List[Command]]:
-    """Within, a session of this name may be loaded by its command, after the commands that are given: where it is wanted that an
-    older one is replaced, they drop that. An interrupt waits until then.
+    """Lets the block load a session of this name by its command, after the yielded commands. If `is_wanted`, these drop an old
+    session of that name. An interrupt waits until the end of the block.
 
-    Raises the refusal, and nothing is changed, if the server does not take the new one.
+    Raises the refusal, and changes nothing, if the server refuses the new session.
     """
     if not is_wanted and REPLACING not in user.session_names:
         yield []
@@ -60,14 +60,14 @@ def replacing(user: "Loader", name: str, command_of: CommandOf, is_wanted: bool)
 
 
 def gone_of(user: "Loader", rows: Sequence[str]) -> Optional[str]:
-    """The session that is gone, and that an earlier connection has left to be replaced, if there is one."""
+    """The session that is gone because an earlier connection was lost while it was replaced, if there is one."""
     names = branches_of(user, REPLACING) if REPLACING in rows else []
     return next((name for name in names if name not in (*RESERVED, *rows)), None)
 
 
 @contextlib.contextmanager
 def _replaced(user: "Loader", name: str, command_of: CommandOf) -> Iterator[None]:
-    """Within, a session is dropped and loaded again: the new one is there under the reserved name, or the older one in a file."""
+    """Keeps the new session under the reserved name, or the old one in a file, while the block drops the old and loads the new one."""
     if _is_taken(user, name, command_of):
         with _told(name, f"what was to replace it is there as {REPLACING}"):
             yield
@@ -80,7 +80,7 @@ def _replaced(user: "Loader", name: str, command_of: CommandOf) -> Iterator[None
 
 
 def _saved(user: "Loader", name: str) -> pathlib.Path:
-    """The file that a session is saved to. Raises ValueError or ClientError, and nothing is changed, if it cannot be."""
+    """Saves a session to a file, and returns its path. Raises ValueError or ClientError, and changes nothing, if that fails."""
     state = user._state_of(name)
     if state.mixture is None and len(set(state.symbols)) > 1:
         raise ValueError(
@@ -97,8 +97,8 @@ def _saved(user: "Loader", name: str) -> pathlib.Path:
 
 
 def _is_taken(user: "Loader", name: str, command_of: CommandOf) -> bool:
-    """Has the new session be there under the reserved name, and in it the name of the older one. Returns whether there is a place
-    for it."""
+    """Loads the new session under the reserved name, with a branch that has the name of the old one. Returns whether there is
+    room for both."""
     try:
         user._ask_commands([command_of(REPLACING)])
     except NO_PLACE:
@@ -115,7 +115,7 @@ def _is_taken(user: "Loader", name: str, command_of: CommandOf) -> bool:
 
 @contextlib.contextmanager
 def _told(name: str, where: str) -> Iterator[None]:
-    """Has an error that comes within say where the session is."""
+    """Adds to an error of the block where the session is."""
     try:
         yield
     except ClientError as error:

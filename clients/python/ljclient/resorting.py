@@ -1,4 +1,4 @@
-"""Atoms that are kept in the order of space while their session goes on."""
+"""Atoms that are kept in spatial order while their session advances."""
 from __future__ import annotations
 
 import contextlib
@@ -17,11 +17,10 @@ RESORTED_EACH = 250
 
 
 def resort(loader: "Loader", name: str) -> None:
-    """Sorts the atoms of a session in space at the server. Each number there is given the places of another atom, by tugs, between
-    which the motion is turned back. The session is there all the time, and `known` has its order. What is read for it is no part of
-    a record.
+    """Sorts the atoms of a session in space at the server. Each number there gets the places of another atom by tugs, and the
+    motion is reversed between them. The session exists all the time, and `known` has its order. The reads for it are not recorded.
 
-    Raises a refusal of `guards.NO_PLACE`, and nothing is changed, if there is no place for what the session was before.
+    Raises a refusal of `guards.NO_PLACE`, and changes nothing, if there is no room to save the session first.
     """
     with loader.unrecorded(name):
         state = loader._state_of(name)
@@ -40,8 +39,8 @@ def resort(loader: "Loader", name: str) -> None:
 
 
 def _doubt(places: Sequence[Place], old: Order, new: Order) -> Optional[Doubt]:
-    """What tells the new order from the old one: a number of the server whose atoms have other places in both. None if there is
-    none, since no atom comes elsewhere."""
+    """What distinguishes the new order from the old one: a number of the server whose atoms have different places. None if no
+    atom changes its number."""
     for number, (here, other) in enumerate(zip(old._for_server(places), new._for_server(places))):
         if here != other and new.numbers is not None:
             return Doubt(new.numbers, number, _place(here), _place(other))
@@ -54,16 +53,16 @@ def _place(parts: Sequence[int]) -> Place:
 
 
 class Resorting:
-    """Sorts the atoms of a session again every 250 steps, if they are kept in the order of space, and counts its steps."""
+    """Sorts the atoms of a session again every 250 steps, if they are kept in spatial order, and counts its steps."""
 
     def __init__(self, loader: "Loader", name: str):
         self._loader = loader
         self._name = name
 
     def ready(self) -> int:
-        """Makes the session ready to go on, and returns by how many steps it may until this is asked again.
+        """Prepares the session to advance, and returns the number of steps that it may make until the next call.
 
-        While something is saved by `branch`, or where the quota has no place for a branch, the atoms are left as they are.
+        While something is saved by `branch`, or if the quota has no room for a branch, the atoms are left as they are.
         """
         known = self._loader._known_of(self._name)
         if not known.is_sorted:
@@ -76,7 +75,7 @@ class Resorting:
         return RESORTED_EACH - self._loader._known_of(self._name).gone
 
     def made(self, steps: int, step: int) -> int:
-        """Counts steps that were made or begun, and returns the user's number of the server's step."""
+        """Counts steps that were made or started, and returns the user's number of the server's step."""
         known = self._loader._known_of(self._name)
         known.gone += steps
         known.is_started = False

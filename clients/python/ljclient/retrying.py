@@ -1,6 +1,6 @@
-"""A connection that is made again if it is lost, and goes on from there.
+"""A connection that is made again if it is lost, and continues from there.
 
-It has the calls of a `wire.Wire`. What was under way is sent again or not, by what `lost_replies` finds.
+It has the methods of a `wire.Wire`. `lost_replies` finds out which of the commands under way must be sent again.
 """
 from __future__ import annotations
 
@@ -33,9 +33,10 @@ Open = Callable[[float], Wire]
 
 
 def tried_within(make: Callable[[float], Made], seconds: float, tell: Callable[[float], None] = lambda waited: None) -> Made:
-    """What is made over a connection, tried again with growing waits until so many seconds are over. Then the last error is raised.
+    """The result of `make`, which is called again if the connection is lost, with growing waits, until `seconds` are over. Then the
+    last error is raised.
 
-    Each try may take a third of what is left, or five seconds: one that nobody answers does not take all.
+    Each try may take a third of the time left, or five seconds if that is more, so a try without an answer does not use all of it.
     """
     start, wait = time.monotonic(), FIRST_WAIT
     end = start + seconds
@@ -51,7 +52,7 @@ def tried_within(make: Callable[[float], Made], seconds: float, tell: Callable[[
 
 
 def _pause(until: float, start: float, tell: Callable[[float], None]) -> None:
-    """Waits, and tells each quarter of a second for how long already."""
+    """Waits, and calls `tell` every quarter of a second with the seconds since `start`."""
     while (rest := until - time.monotonic()) > 0:
         tell(time.monotonic() - start)
         time.sleep(min(rest, TICK_SECONDS))
@@ -61,8 +62,8 @@ class RetryingWire:
     """A dialogue that outlasts its connections.
 
     wire       the first connection
-    open_wire  makes the next ones
-    seconds    how long it is tried
+    open_wire  opens the next ones
+    seconds    how long it tries to reconnect
     timeout    how long each reply may take
     """
 
@@ -84,7 +85,7 @@ class RetryingWire:
 
     @property
     def timeout(self) -> float:
-        """As that of a wire."""
+        """As `Wire.timeout`."""
         return self._timeout
 
     @timeout.setter
@@ -93,7 +94,7 @@ class RetryingWire:
 
     @property
     def on_wait(self) -> Optional[Callable[[str, float], None]]:
-        """As that of a wire. It is called too while there is no connection."""
+        """As `Wire.on_wait`. It is called while there is no connection, too."""
         return self._wire.on_wait
 
     @on_wait.setter
@@ -102,32 +103,32 @@ class RetryingWire:
 
     @property
     def asked(self) -> int:
-        """How many commands this connection has used up, with those that are kept for its own."""
+        """The number of commands that this connection has used up, with the reserve for its own commands."""
         return self._wire.asked + OWN_COMMANDS
 
     @property
     def closed(self) -> bool:
-        """Whether nothing can be asked any more."""
+        """Whether no more commands can be sent."""
         return self._wire.closed and self._lost is None
 
     @property
     def is_idle(self) -> bool:
-        """Whether each command that was asked has been answered."""
+        """Whether all commands have been answered."""
         return not self._batch and self._lost is None and self._wire.is_idle
 
     @property
     def unanswered(self) -> List[str]:
-        """The command lines that were asked, and are not answered yet."""
+        """The command lines that are not answered yet."""
         return [line for line, _ in self._batch]
 
     def catch_up(self) -> None:
-        """Waits until each command that was asked is answered."""
+        """Waits until all commands are answered."""
         self.pass_over()
         if self._wire.closed:
             self._wire.catch_up()
 
     def pass_over(self) -> None:
-        """Waits for the replies that nobody came for, since an interrupt was quicker."""
+        """Waits for the replies that were not read because of an interrupt."""
         self._finish()
         self._answers.clear()
 
@@ -136,7 +137,7 @@ class RetryingWire:
         return self.ask_all([(line, body)])[0]
 
     def ask_all(self, commands: Iterable[Command]) -> List[Reply]:
-        """The replies to many commands. Where some are refused, the first refusal is raised when all are answered."""
+        """The replies to many commands. If some are refused, the first refusal is raised when all are answered."""
         granted: List[Reply] = []
         refused: List[Refused] = []
         for answer in self._answers_to(list(commands)):
@@ -150,21 +151,21 @@ class RetryingWire:
         return granted
 
     def ask_text(self, line: str) -> Tuple[List[str], bytes]:
-        """The words of the reply to a command after `OK`, and the lines after them as they came. A refusal is raised."""
+        """The words after `OK` in the reply to a command, and the bytes of the lines below them. A refusal is raised."""
         if self.listener is None and is_read(line):
             return self._read([line], lambda: self._wire.ask_text(line))
         words, lines = self.ask(line)
         return words, "\n".join([*lines, ""]).encode()
 
     def ask_rows(self, lines: Sequence[str]) -> bytes:
-        """The reply lines to many commands that are answered by one line each, for who reads them all at once."""
+        """The bytes of the replies to many commands with one reply line each."""
         if self.listener is None and all(map(is_read, lines)):
             return self._read(lines, lambda: self._wire.ask_rows(lines))
         replies = self.ask_all([(line, b"") for line in lines])
         return "".join(" ".join(["OK", *reply.words]) + "\n" for reply in replies).encode()
 
     def close(self, why: str = "the connection was closed") -> None:
-        """Gives up the stream. Nothing is asked and nothing is awaited."""
+        """Closes the stream. Nothing is sent and nothing is awaited."""
         if self._wire.closed and self._lost is None:
             return
         self._lost, lines = None, self.unanswered
@@ -175,7 +176,7 @@ class RetryingWire:
             self.listener.unanswered(lines)
 
     def answered(self, answer: Answer) -> None:
-        """Hears of a command of the batch and its reply."""
+        """Receives a command of the batch and its reply."""
         self._batch.popleft()
         self._answers.append(answer)
         self._sessions = followed(self._sessions, answer)
@@ -184,7 +185,7 @@ class RetryingWire:
             self.listener.answered(answer)
 
     def unanswered_of_wire(self, lines: Sequence[str]) -> None:
-        """Hears what was sent when a connection ended."""
+        """Receives the command lines that were sent, but not answered, when a connection ended."""
         self._sent = list(lines)
 
     def _answers_to(self, commands: Sequence[Command]) -> Iterator[Answer]:
@@ -205,7 +206,7 @@ class RetryingWire:
                 return
 
     def _learn(self, line: str) -> None:
-        """Learns what has to be known before a command is sent."""
+        """Asks for what must be known before a command is sent."""
         if is_read(line) or self._is_over:
             return
         while (own := "LIST" if self._sessions is None else lacking(self._sessions, line)) is not None:
@@ -219,7 +220,7 @@ class RetryingWire:
                 return
 
     def _read(self, lines: Sequence[str], ask: Callable[[], Told]) -> Told:
-        """What reading commands tell, which nobody else hears of. They are asked again if the connection is lost."""
+        """The result of reading commands without a listener. They are sent again if the connection is lost."""
         self.pass_over()
         while True:
             self._batch = deque((line, b"") for line in lines)
@@ -239,7 +240,7 @@ class RetryingWire:
                 raise
 
     def _finish(self) -> None:
-        """Has all commands of the batch be answered, over one connection or more."""
+        """Sends the batch until all of its commands are answered, over one connection or more."""
         if self._lost is not None:
             self._again(self._lost)
         while self._batch:
@@ -256,7 +257,7 @@ class RetryingWire:
                 raise
 
     def _ask_batch(self) -> None:
-        """Sends the commands of the batch, or waits for the replies that an interrupt has left."""
+        """Sends the commands of the batch, or waits for the replies that were not read because of an interrupt."""
         with contextlib.suppress(Refused):
             if self._wire.unanswered:
                 self._wire.catch_up()
@@ -266,12 +267,12 @@ class RetryingWire:
             self._batch.clear()
 
     def _leave_unsent(self, sent: int) -> None:
-        """Leaves out of the batch what an interrupt was quicker than."""
+        """Removes the commands from the batch that were not sent because of an interrupt."""
         while len(self._batch) > sent:
             self._batch.pop()
 
     def _again(self, lost: ClientError) -> None:
-        """Makes another connection, and has the batch be what is still to be sent."""
+        """Makes another connection, and leaves in the batch only what is still to be sent."""
         if self._lost is None:
             self._losses += 1
         if self._is_over or self._losses > MOST_LOSSES:
@@ -293,7 +294,7 @@ class RetryingWire:
             self.listener.told(Mark.CONNECTION)
 
     def _settle(self, found: Found, lost: ClientError) -> None:
-        """Takes the commands out of the batch that were done, and tells who hears of them."""
+        """Removes the commands from the batch that were done, and passes them to the listener."""
         if self._sessions is None:
             if not all(is_read(line) for line, _ in self._batch):
                 self._give_up(Undecided(self._batch[0][0], ["what the sessions were before it is not known"]), lost)
@@ -318,7 +319,7 @@ class RetryingWire:
             raise
 
     def _look(self, wire: Wire) -> Found:
-        """What is at the server."""
+        """What a connection finds at the server."""
         rows = rows_of(wire.ask("LIST").lines)
         if self._sessions is None:
             return Found(rows)
@@ -333,7 +334,7 @@ class RetryingWire:
             self.on_wait(self._batch[0][0], waited)
 
     def _give_up(self, error: ClientError, cause: Optional[ClientError] = None) -> NoReturn:
-        """Raises the error, after which nothing more is asked."""
+        """Closes the connection and raises the error."""
         if error.unanswered is None and self._batch:
             error.unanswered = self._batch[0][0]
         self._lost, lines = None, self.unanswered
@@ -347,14 +348,14 @@ class RetryingWire:
 
 
 class _BatchListener:
-    """What hears of the commands of a batch."""
+    """The listener for the commands of a batch."""
 
     def __init__(self, wire: RetryingWire):
         self.answered = wire.answered
         self.unanswered = wire.unanswered_of_wire
 
     def told(self, mark: Mark) -> None:
-        """Nobody tells it."""
+        """Is never called."""
 
 
 def _reply_of(answer: Answer) -> Union[Reply, Refused]:

@@ -59,9 +59,9 @@ class Echo:
     Attributes
     ----------
     steps : numpy.ndarray of int, shape (n_frames,)
-        How many steps were made since the turn.
+        The number of steps since the reversal.
     times : numpy.ndarray, shape (n_frames,)
-        Their time, in `sigma sqrt(m / epsilon)`.
+        The time of these steps, in `sigma sqrt(m / epsilon)`.
     distances : numpy.ndarray, shape (n_frames,)
         The root mean square distance of the atoms from where they were at the same step on the way there, in sigma.
     kick : Kick or None
@@ -75,21 +75,21 @@ class Echo:
 
     @property
     def returned(self) -> float:
-        """The distance of the atoms from the start at the end, in sigma. It is 0.0 if each atom is exactly at its place."""
+        """The final distance of the atoms from the start, in sigma. It is 0.0 if each atom is exactly back at its place."""
         return float(self.distances[-1])
 
     def plot(self, axes: Any = None) -> Any:
-        """Draws the distance over the time since the turn.
+        """Draws the distance against the time since the reversal.
 
         Parameters
         ----------
         axes : matplotlib.axes.Axes, optional
-            What is drawn into; else a new figure.
+            The axes to draw into. The default is a new figure.
 
         Returns
         -------
         matplotlib.axes.Axes
-            What was drawn into.
+            The axes.
         """
         axes = _axes(axes)
         label, apart = "no kick", self.distances > 0
@@ -115,16 +115,16 @@ class Divergence:
     Attributes
     ----------
     steps : numpy.ndarray of int, shape (n_frames,)
-        How many steps were made since the kick.
+        The number of steps since the kick.
     times : numpy.ndarray, shape (n_frames,)
-        Their time, in `sigma sqrt(m / epsilon)`.
+        The time of these steps, in `sigma sqrt(m / epsilon)`.
     distances : numpy.ndarray, shape (n_kicks, n_frames)
         The root mean square distance of the atoms of each run from those of the run without a kick, in sigma.
     kicks : tuple of Kick
         The kick of each run.
     exponents : numpy.ndarray, shape (n_fitted,)
-        The slope of the logarithm of each run's distance over the time, from 1/256 to 1/10 sigma, for the runs with three frames
-        or more in this range. Below 1/256 sigma, the width of a bin, runs separate two to three times as fast as the liquid's
+        The slope of the logarithm of each distance against time, fitted from 1/256 to 1/10 sigma, for runs with at least three
+        frames in this range. Below 1/256 sigma, the width of a bin, runs separate two to three times as fast as the liquid's
         Lyapunov exponent predicts.
     """
 
@@ -146,17 +146,17 @@ class Divergence:
         return float(self.exponents.std(ddof=1)) / math.sqrt(fitted) if fitted > 1 else math.nan
 
     def plot(self, axes: Any = None) -> Any:
-        """Draws the distances over the time, their geometric mean and the exponential that was fitted.
+        """Draws the distances against time, with their geometric mean and the fitted exponential.
 
         Parameters
         ----------
         axes : matplotlib.axes.Axes, optional
-            What is drawn into; else a new figure.
+            The axes to draw into. The default is a new figure.
 
         Returns
         -------
         matplotlib.axes.Axes
-            What was drawn into.
+            The axes.
         """
         axes, numpy = _axes(axes), needed_numpy("a plot")
         means = numpy.exp(numpy.log(self.distances[:, 1:]).mean(axis=0))
@@ -186,18 +186,18 @@ class Mixing:
     Attributes
     ----------
     steps : numpy.ndarray of int, shape (n_frames,)
-        How many steps from the start each frame is.
+        The number of steps from the start to each frame.
     there : numpy.ndarray, shape (n_frames,)
-        The entropy of mixing at these steps on the way there, in k_B for each atom.
+        The entropy of mixing at these steps on the way there, in k_B per atom.
     back : numpy.ndarray, shape (n_frames,)
         The entropy of mixing on the way back, at the same steps.
     ideal : float
-        The value if each cell has the composition of the whole box: ln 2 for two kinds with equally many atoms.
+        The value if each cell has the composition of the whole box: ln 2 for two kinds in equal numbers.
     random : float
         The mean value of a random mixture, computed from the frame at the reversal with shuffled kinds. It is smaller than `ideal`,
         since a cell has few atoms.
     cells : int
-        How many cells there are along each axis.
+        The number of cells along each axis.
     """
 
     steps: arrays.IntArray
@@ -213,17 +213,17 @@ class Mixing:
         return bool((self.there == self.back).all())
 
     def plot(self, axes: Any = None) -> Any:
-        """Draws the entropy over the steps made, there and back.
+        """Draws the entropy against the steps made, there and back.
 
         Parameters
         ----------
         axes : matplotlib.axes.Axes, optional
-            What is drawn into; else a new figure.
+            The axes to draw into. The default is a new figure.
 
         Returns
         -------
         matplotlib.axes.Axes
-            What was drawn into.
+            The axes.
         """
         axes = _both_ways(_axes(axes), self.steps, self.there, self.back)
         axes.axhline(self.random, color="gray", linestyle="--", linewidth=1, label="a random mixture")
@@ -244,13 +244,13 @@ class Arrow:
     Attributes
     ----------
     steps : numpy.ndarray of int, shape (n_frames,)
-        How many steps from the start each frame is.
+        The number of steps from the start to each frame.
     there : dict of str to numpy.ndarray, shape (n_frames,)
-        Quantities at these steps on the way there. `kinetic`, `potential` and `total` are energies in epsilon for each atom;
-        `distance` is the root mean square distance from the start in sigma; `maxwell` is how far the velocities are from those of
-        Maxwell and Boltzmann, Boltzmann's H above its least value, for each component.
+        Quantities at these steps on the way there. `kinetic`, `potential` and `total` are energies in epsilon per atom;
+        `distance` is the root mean square distance from the start in sigma; `maxwell` is how far the velocities are from the
+        Maxwell-Boltzmann distribution: Boltzmann's H above its minimum, per velocity component.
     back : dict of str to numpy.ndarray, shape (n_frames,)
-        Those on the way back, at the same steps.
+        The quantities on the way back, at the same steps.
     """
 
     steps: arrays.IntArray
@@ -280,22 +280,22 @@ class Arrow:
 
     @property
     def telling(self) -> List[str]:
-        """The quantities that show the direction, with a trend of 0.5 or a departure of 5 or more, sorted by size."""
+        """The quantities that show the direction: the absolute trend is 0.5 or more, or the absolute departure 5 or more."""
         trends, departures = self.trends, self.departures
         return [name for name in trends if abs(trends[name]) >= TELLING_TREND or abs(departures[name]) >= TELLING_DEPARTURE]
 
     def plot(self, axes: Any = None) -> Any:
-        """Draws each quantity, from its least to its greatest value, over the steps made.
+        """Draws each quantity, scaled to its own range, against the steps made.
 
         Parameters
         ----------
         axes : matplotlib.axes.Axes, optional
-            What is drawn into; else a new figure.
+            The axes to draw into. The default is a new figure.
 
         Returns
         -------
         matplotlib.axes.Axes
-            What was drawn into.
+            The axes.
         """
         axes, trends, departures = _axes(axes), self.trends, self.departures
         for name, values in self.there.items():
@@ -322,24 +322,24 @@ def echo(session: "Session", steps: int, kick: Optional[Kick] = Kick(), every: O
     Parameters
     ----------
     session : Session
-        A session whose scale is known. At the end it is as it was.
+        A session whose scale is known. Its state is restored at the end.
     steps : int
-        How many steps are made there, and back.
+        The number of steps in each direction.
     kick : Kick, optional
         The kick at the reversal. By default atom 0 is kicked by one ring unit along x. With None, each atom returns exactly to its
         place.
     every : int, optional
-        How many steps there are from frame to frame; a hundredth of the steps by default.
+        The number of steps between frames. The default is a hundredth of `steps`.
 
     Returns
     -------
     Echo
-        The distance of the way back from the way there.
+        The distances between the way back and the way there.
 
     Raises
     ------
     ValueError
-        If `steps` or `every` is below 1, or there is no such atom.
+        If `steps` or `every` is below 1, or the kicked atom does not exist.
     Refused
         If the quota has no place for a branch.
 
@@ -373,14 +373,14 @@ def divergence(session: "Session", steps: int, kicks: Union[int, Sequence[Kick]]
     Parameters
     ----------
     session : Session
-        A session whose scale is known. At the end it is as it was.
+        A session whose scale is known. Its state is restored at the end.
     steps : int
-        How many steps each run makes. A kick of one ring unit in a liquid takes a time of about 3, in `sigma sqrt(m / epsilon)`, to
-        grow to 1/10 sigma.
+        The number of steps of each run. In a liquid, a kick of one ring unit grows to 1/10 sigma in a time of about 3, in
+        `sigma sqrt(m / epsilon)`.
     kicks : int or sequence of Kick, optional
-        The kick of each run, or the number of runs. With a number, another atom is kicked by one ring unit along x in each run.
+        The kick of each run, or the number of runs. With a number, each run kicks a different atom by one ring unit along x.
     every : int, optional
-        How many steps there are from frame to frame; a hundredth of the steps by default.
+        The number of steps between frames. The default is a hundredth of `steps`.
 
     Returns
     -------
@@ -390,7 +390,7 @@ def divergence(session: "Session", steps: int, kicks: Union[int, Sequence[Kick]]
     Raises
     ------
     ValueError
-        If `steps` or `every` is below 1, or there is no such atom, or no kick.
+        If `steps` or `every` is below 1, a kicked atom does not exist, or there is no kick.
     Refused
         If the quota has no place for a branch.
     """
@@ -411,21 +411,21 @@ def entropy_of_mixing(
 ) -> Mixing:
     """Makes steps there and back, and measures the entropy of mixing on both ways.
 
-    The box is divided into cells. The entropy is `- sum n ln(n / m)` over all kinds and cells, for each atom and in k_B, where a cell
-    has n atoms of a kind, of m.
+    The box is divided into cells. The entropy is `- sum n ln(n / m)` over all kinds and cells, in k_B and per atom, where n of the m
+    atoms in a cell are of one kind.
 
     Parameters
     ----------
     session : Session
-        A session whose scale is known. At the end it is as it was.
+        A session whose scale is known. Its state is restored at the end.
     steps : int
-        How many steps are made there, and back.
+        The number of steps in each direction.
     every : int, optional
-        How many steps there are from frame to frame; a hundredth of the steps by default.
+        The number of steps between frames. The default is a hundredth of `steps`.
     cells : int, optional
-        How many cells there are along each axis. With 10 atoms in a cell a random mixture has 0.05 less than an ideal one.
+        The number of cells along each axis. With 10 atoms per cell, a random mixture is 0.05 below an ideal one.
     labels : sequence, optional
-        The kind of each atom, such as where it was at the start. The default is its symbol.
+        The kind of each atom, for example its region at the start. The default is its symbol.
 
     Returns
     -------
@@ -435,7 +435,7 @@ def entropy_of_mixing(
     Raises
     ------
     ValueError
-        If `steps`, `every` or `cells` is below 1, or the atoms are all of one kind.
+        If `steps`, `every` or `cells` is below 1, `labels` has another length, or the atoms are all of one kind.
     Refused
         If the quota has no place for a branch.
     """
@@ -463,11 +463,11 @@ def arrow(session: "Session", steps: int, every: Optional[int] = None) -> Arrow:
     Parameters
     ----------
     session : Session
-        A session whose scale is known. At the end it is as it was.
+        A session whose scale is known. Its state is restored at the end.
     steps : int
-        How many steps are made there, and back.
+        The number of steps in each direction.
     every : int, optional
-        How many steps there are from frame to frame; a hundredth of the steps by default.
+        The number of steps between frames. The default is a hundredth of `steps`.
 
     Returns
     -------
@@ -489,7 +489,7 @@ def arrow(session: "Session", steps: int, every: Optional[int] = None) -> Arrow:
 
 
 def _distances_of(session: "Session", kick: Kick, stops: Sequence[int], alone: Sequence[Any]) -> List[float]:
-    """How far a run with a kick from the start is from the run without it at each stop, in sigma."""
+    """The distance at each stop between a run kicked at the start and the run without a kick, in sigma."""
     session.restore(START)
     session.tug(*kick)
     frames = on_the_way(session, stops, session.places)
@@ -497,7 +497,7 @@ def _distances_of(session: "Session", kick: Kick, stops: Sequence[int], alone: S
 
 
 def _inside(distances: Sequence[float]) -> List[int]:
-    """Which frames of a run are in the range of the fit: from the first at NEAR to the last before one is above FAR."""
+    """The numbers of the frames to fit: from the first that reaches NEAR to the last before one reaches FAR."""
     first, after = (next((number for number, far in enumerate(distances) if far >= limit), len(distances)) for limit in (NEAR, FAR))
     return list(range(first, after))
 
@@ -515,7 +515,7 @@ def _quantities_of(frame: "Snapshot", start: Any) -> Dict[str, float]:
 
 
 def _checked_kicks(session: "Session", kicks: Union[int, Sequence[Kick]]) -> Tuple[Kick, ...]:
-    """Kicks as they were said, or so many of which each has another atom."""
+    """The given kicks, or a number of default kicks, each of a different atom."""
     atoms = session.n_atoms
     if not isinstance(kicks, Sequence):
         count = at_least_1(kicks, "kicks")
@@ -529,7 +529,7 @@ def _checked_kicks(session: "Session", kicks: Union[int, Sequence[Kick]]) -> Tup
 
 
 def _checked_kick(session: "Session", kick: Kick) -> Kick:
-    """A kick of an atom that there is."""
+    """The kick. Raises ValueError if its atom does not exist."""
     atom, displacement = kick
     if (number := count_of(atom, "the number of an atom")) >= session.n_atoms:
         raise ValueError(f"the atom of a kick must be below {session.n_atoms}, the number of atoms, got {number}")
@@ -542,7 +542,7 @@ def _axes(axes: Any) -> Any:
 
 
 def _both_ways(axes: Any, steps: Any, there: Any, back: Any) -> Any:
-    """Draws a quantity over the steps made on both ways."""
+    """Draws a quantity against the steps made, for both ways."""
     turn = steps[-1]
     axes.plot(steps, there, color="tab:red", label="there")
     axes.plot(2 * turn - steps, back, color="tab:blue", label="back: after reverse")

@@ -14,12 +14,12 @@ Progress = Union[bool, bars.Report]
 
 
 class Samples(NamedTuple):
-    """Frames of a session on its way.
+    """Frames of a session, with their step numbers.
 
     Attributes
     ----------
     steps : list of int
-        The step number of each.
+        The step number of each frame.
     frames : numpy.ndarray, shape (frames, atoms, 3)
         Positions in the unit of the file, or places in ring units. A list of lists of tuples if numpy is not installed.
     """
@@ -36,9 +36,9 @@ def checked_stops(every: Any, count: Any, what: str) -> None:
 
 
 def stops(session: "Session", every: int, count: int, progress: Progress, ahead: int = 0) -> Iterator[int]:
-    """The numbers of so many stops, of which the first is where the session stands; between two it goes on by `every` steps.
+    """The numbers of `count` stops, the first at the present step; the session advances by `every` steps between two.
 
-    At each stop but the last, who uses this may have gone ahead by some steps already.
+    At each stop except the last, the caller itself makes the first `ahead` of these steps.
     """
     with bars.reporter(progress, session.name) as report:
         for number in range(count - 1):
@@ -49,14 +49,14 @@ def stops(session: "Session", every: int, count: int, progress: Progress, ahead:
 
 
 def onward(report: bars.Report, made: int, total: int) -> bars.Report:
-    """A report of what is done after so many steps, of a total."""
+    """A report that adds `made` earlier steps to those done, of a total."""
     return lambda done, _: report(made + done, total)
 
 
 def sample(
     session: "Session", take: Callable[[], Tuple[int, Any]], every: int, frames: int, progress: Progress, period: Any = None
 ) -> Samples:
-    """The frames of a session on its way, each as it is taken: with its step. If this is broken off, the session has them.
+    """Frames of a session with their steps, as `take` returns them. If this is interrupted, `session.sampled` has those so far.
 
     With a period, the edge of the box, atoms are followed from frame to frame.
     """
@@ -73,6 +73,6 @@ def sample(
 
 
 def _samples_of(name: str, taken: List[Tuple[int, Any]], period: Any) -> Samples:
-    """Frames with their steps, put together."""
+    """Frames and their steps as `Samples`."""
     frames = arrays.stacked([frame for _, frame in taken])
     return Samples([step for step, _ in taken], frames if period is None else unwrapped(name, frames, period))

@@ -1,4 +1,4 @@
-"""Sessions that are saved to a file during a run, so that a lost run costs only the steps since then."""
+"""Saves a session to a file during a run, so that a lost run costs only the steps since the last save."""
 from __future__ import annotations
 
 import contextlib
@@ -16,10 +16,10 @@ if TYPE_CHECKING:
 
 @contextlib.contextmanager
 def saver(session: "Session", path: Optional[Path], seconds: float, report: Optional[Report]) -> Iterator[Optional[Report]]:
-    """What is told how far a session is, so that it is saved each so many seconds, and whoever else looks is told too.
+    """A progress function that calls `report`, and saves the session when so many seconds have passed since the last save.
 
-    It is saved at the start, so that what is wrong with the path is told before a step is made, and at the end, also at that by
-    an interrupt from the keyboard: then the step that was come to is saved, and the interrupt goes on. An error saves nothing.
+    The session is saved at the start, so that a wrong path is reported before a step is made, and at the end. After an
+    interrupt from the keyboard, the step that was reached is saved, and the interrupt is raised again. An error saves nothing.
     """
     if path is None:
         yield report
@@ -36,7 +36,7 @@ def saver(session: "Session", path: Optional[Path], seconds: float, report: Opti
 
 
 def _reporter(session: "Session", path: Path, seconds: float, report: Optional[Report]) -> Report:
-    """A report that saves the session if it was saved so many seconds ago, and tells another report."""
+    """A progress function that calls `report`, and saves the session if the last save was so many seconds ago."""
     last = time.monotonic()
 
     def tell(done: int, total: int) -> None:

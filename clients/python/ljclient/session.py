@@ -60,7 +60,7 @@ class Session(Changes):
         sessions at the same time.
 
         The energy is measured at the start of a run of more than 500 steps, then after 1,000, 2,000, 4,000, .. steps, and after every
-        20,000 steps. `tug`, `heat` and `restore` change the energy, so they begin a new start.
+        20,000 steps. `tug`, `heat` and `restore` change the energy, so the start is measured again after them.
 
         Parameters
         ----------
@@ -85,8 +85,8 @@ class Session(Changes):
         Warns
         -----
         EnergyWarning
-            Once, if the energy has risen by more than 5 % of the kinetic energy, and per atom by more than `0.4 / sqrt(atoms)` epsilon;
-            in the first 1,000 steps by 0.1 epsilon per atom more than that. Also if it has fallen by 0.5 epsilon per atom.
+            Once, if the energy has risen by more than 5 % of the kinetic energy, and per atom by more than `0.4 / sqrt(atoms)` epsilon.
+            In the first 1,000 steps both limits are 0.1 epsilon per atom higher. Also if it has fallen by 0.5 epsilon per atom.
             `load(.., watch=False)` turns the warning off.
         """
         total = count_of(n, "the number of steps")
@@ -102,8 +102,8 @@ class Session(Changes):
         session after these steps (`get_step`, `place`, `measure`, `branch`, ..) waits for them. It waits for one reply, at most for the
         time limit of the connection, so use `advance` for longer runs.
 
-        The energy is measured as by `advance`, by the first call that waits, which warns if the energy has risen. If the energy of the
-        start is not known yet, and n is above 500, one step is made immediately.
+        The first call that waits measures the energy, as `advance` does, and warns if it has risen. If the energy of the start is not
+        known yet, and the steps since the last change are above 500 with these, one step is made immediately.
 
         Parameters
         ----------
@@ -140,9 +140,9 @@ class Session(Changes):
     ) -> float:
         """Advances in stretches, and rescales the velocities until the mean temperature is the wanted one.
 
-        After each stretch except the last, the velocities are rescaled by the factor with which the mean temperature of the stretch would
-        have been the wanted one. The mean is taken over ten values of `measure`, one after each tenth of the stretch. Longer stretches
-        give more precise means: take 10,000 steps of 2 fs or more for argon.
+        After each stretch except the last, the velocities are rescaled by the factor that would have given the stretch the wanted mean
+        temperature. The mean is taken over ten values of `measure`, one after each tenth of the stretch. Longer stretches give more
+        precise means: take 10,000 steps of 2 fs or more for argon.
 
         Only tugs and steps are used, so branches stay. After `restore` the same call leads to the same places again.
 
@@ -176,10 +176,10 @@ class Session(Changes):
         every : int
             The number of steps from one frame to the next.
         frames : int
-            The number of frames. The first is the present one, so the session goes on by `every * (frames - 1)` steps.
+            The number of frames. The first is the present one, so the session advances by `every * (frames - 1)` steps.
         exact : bool, optional
-            True: frames are places in ring units, read by one command for each atom. False: frames are positions in the unit of the
-            file, rounded down to six decimals, read by one command.
+            True: frames are places in ring units, read by one command for each atom unless positions show them exactly. False: frames
+            are positions in the unit of the file, rounded down to six decimals, read by one command.
         progress : bool or callable, optional
             As in `advance`.
         unwrap : bool, optional
@@ -298,8 +298,8 @@ class Session(Changes):
         progress : bool or callable, optional
             As in `advance`.
         symbols : dict, optional
-            What is written instead of each symbol of the session, such as `{"A": "Ar", "B": "Kr"}`. ASE reads only names of elements,
-            and B as boron.
+            The replacement of each symbol of the session, such as `{"A": "Ar", "B": "Kr"}`. ASE reads only names of elements, and B as
+            boron.
         append : bool, optional
             Appends to the file instead of replacing it, for example after another call. The first frame is again the present one.
         unwrap : bool, optional
@@ -344,7 +344,7 @@ class Session(Changes):
         Parameters
         ----------
         name : str
-            The name of the new one.
+            The name of the copy.
         replace : bool, optional
             Whether it replaces a session of that name.
 

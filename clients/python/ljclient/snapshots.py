@@ -37,17 +37,17 @@ class Snapshot:
     energies : Thermo
         The row of `Session.thermo` of this step: temperature, kinetic, potential and total energy.
     scale : Scale
-        What the whole numbers of the session mean.
+        The scale of the session's whole numbers.
     moved : numpy.ndarray of int, shape (atoms, 3)
-        The displacement of each atom from the first frame, in ring units, followed round the box.
+        The unwrapped displacement of each atom from the first frame, in ring units.
     three : ThreeFrames
-        The places now and a step before and after, in ring units.
+        The places at this step, one step before and one step after, in ring units.
     atoms : Composition
         How the atoms interact.
     name : str
         The name of the session.
     far : float
-        The farthest that an atom has gone since a frame before, as a part of the edge.
+        The largest move of an atom from one frame to the next so far, as a fraction of the edge.
     """
 
     step: int
@@ -77,24 +77,24 @@ class Snapshot:
 
     @functools.cached_property
     def velocities(self) -> arrays.FloatArray:
-        """The velocities, as those of `Session.velocities`."""
+        """The velocities, as in `Session.velocities`."""
         return self.three.velocities(self.scale)
 
     @functools.cached_property
     def forces(self) -> arrays.FloatArray:
-        """The forces, as those of `Session.forces`."""
+        """The forces, as in `Session.forces`."""
         return self.three.forces(self.scale)
 
     @functools.cached_property
     def pressure(self) -> float:
-        """The pressure in epsilon / sigma^3, as `Session.pressure`. It needs numpy."""
+        """The pressure in epsilon / sigma^3, as in `Session.pressure`. It needs numpy."""
         return of_frames(self.three, self.atoms)
 
     @property
     def displacements(self) -> arrays.FloatArray:
-        """The displacements from the first frame in the unit of the file, also of atoms that have left the box meanwhile.
+        """The displacements from the first frame in the unit of the file, also across the borders of the periodic box.
 
-        There is a warning if an atom may have gone round the box the other way between two frames.
+        A warning is given if an atom may have moved around the box the other way between two frames.
         """
         warn_of_far(self.name, self.far)
         return self._displacements
@@ -105,9 +105,9 @@ class Snapshot:
 
 
 def stops_of(every: Every, count: Optional[int]) -> List[int]:
-    """After how many steps from here the frames are: each so many, or as a list says.
+    """The number of steps from here to each frame: multiples of `every`, or the numbers in a list.
 
-    Raises TypeError or ValueError for what is neither.
+    Raises TypeError or ValueError for other values.
     """
     if hasattr(every, "__len__"):
         if count is not None:
@@ -120,7 +120,7 @@ def stops_of(every: Every, count: Optional[int]) -> List[int]:
 
 
 def checked_stops_of(steps: Sequence[int]) -> List[int]:
-    """The steps of a list. Raises TypeError or ValueError unless they are whole numbers that rise."""
+    """The steps of a list. Raises TypeError or ValueError unless they are strictly increasing whole numbers."""
     stops = [count_of(step, "the number of steps") for step in steps]
     if not stops or any(later <= stop for stop, later in zip(stops, stops[1:])):
         raise ValueError(f"a list of steps must have at least one, each greater than the one before, got {shortened(stops)}")
@@ -128,7 +128,7 @@ def checked_stops_of(steps: Sequence[int]) -> List[int]:
 
 
 def snapshots(session: "Session", user: "User", stops: Sequence[int], progress: Progress) -> Iterator[Snapshot]:
-    """The snapshots of a session after so many steps from here each. When one is given, the session stands at its step."""
+    """The snapshots of a session after these numbers of steps from here. When one is yielded, the session is at its step."""
     path, made, far = Path(session.name), 0, 0.0
     with bars.reporter(progress, session.name) as report:
         for stop in stops:
@@ -141,7 +141,7 @@ def snapshots(session: "Session", user: "User", stops: Sequence[int], progress: 
 
 
 def _taken(session: "Session", user: "User", path: Path, far: float) -> Snapshot:
-    """The snapshot of a session as it is, in which an atom has gone so far already between two frames."""
+    """The snapshot of a session as it is. `far` is the largest move of an atom between earlier frames."""
     with session._lock:
         here, three, atoms = session.measure(), three_frames(user, session.name), composition_of(session, user)
     after = dataclasses.replace(here, kinetic=three.kinetic_after())

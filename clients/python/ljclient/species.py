@@ -1,4 +1,4 @@
-"""Symbols of atoms that are loaded: `symbols=` in place of those of a text, and the check that one species has one symbol."""
+"""Symbols of loaded atoms: `symbols=` in place of those in a text, and the check that one species has one symbol."""
 from __future__ import annotations
 
 import re
@@ -14,7 +14,7 @@ FIRST_WORD = re.compile(rb"\S+")
 
 
 def names_of(symbols: Any, count: int) -> List[str]:
-    """The symbol of each of so many atoms. Raises TypeError or ValueError for anything else."""
+    """The symbol of each of `count` atoms. Raises TypeError or ValueError for anything else."""
     if isinstance(symbols, str):
         return [symbols] * count
     try:
@@ -27,7 +27,7 @@ def names_of(symbols: Any, count: int) -> List[str]:
 
 
 def with_symbols(body: bytes, symbols: Any) -> bytes:
-    """XYZ text whose atoms have these symbols in place of its own, in each frame. What is no frame stays as it is."""
+    """XYZ text in which these symbols replace its own, in each frame. Text outside frames stays as it is."""
     lines, at = body.split(b"\n"), 0
     while (atoms := _next_atoms(lines, at)) is not None:
         names = [checked_symbol(name).encode() for name in names_of(symbols, len(atoms))]
@@ -38,14 +38,14 @@ def with_symbols(body: bytes, symbols: Any) -> bytes:
 
 
 def _next_atoms(lines: Sequence[bytes], at: int) -> Optional[range]:
-    """Which of these lines are the atoms of the next frame from one of them on. None if there is no frame."""
+    """The lines with the atoms of the next frame, from line `at` on. None if there is no frame."""
     begin = next((number for number in range(at, len(lines)) if lines[number].split()), len(lines))
     count = lines[begin].split()[0] if begin < len(lines) else b""
     return range(begin + 2, min(begin + 2 + int(count), len(lines))) if count.isdigit() else None
 
 
 def check_alike(symbols: Iterable[str], scale: Scale) -> None:
-    """Raises ValueError unless these are symbols of atoms that are all alike, and of the substance whose scale this is."""
+    """Raises ValueError if the symbols differ, or are of another element than the substance of the scale."""
     names = sorted(set(symbols))
     if len(names) > 1:
         told = f"{', '.join(names[:-1])} and {names[-1]}"
@@ -62,5 +62,5 @@ def check_alike(symbols: Iterable[str], scale: Scale) -> None:
 
 
 def _words_of(scale: Scale) -> Any:
-    """The words of `units.Substance` of a scale."""
+    """A scale as a `units.Substance`."""
     return {"sigma": scale.sigma, "epsilon": scale.epsilon, "mass": scale.mass}

@@ -1,6 +1,6 @@
 """The whole state of a session: how it is read from the server, and the command that loads it again, exactly.
 
-Two frames that are one step apart are the simulation. A LOAD of both, in the box that shows each ring unit, gives it back.
+Two frames that are one step apart are the simulation. A LOAD of both, in the box that shows each ring unit, restores it.
 """
 from __future__ import annotations
 
@@ -23,18 +23,18 @@ Command = Tuple[str, bytes]
 
 @dataclass
 class Known:
-    """What a user knows of a session: its scale, and how its numbers stand to those of the server.
+    """What a user knows of a session: its scale, and how its numbers relate to the server's numbers.
 
-    n_atoms     how many atoms it has, once the server has said it
+    n_atoms     the number of atoms, once the server has reported it
     symbols     the symbol of each atom, once they were read
     is_sorted   whether its atoms are kept in the order of space
-    gone        how many steps it has made since they were sorted
-    is_started  whether steps were started that nobody has waited for
-    is_box_open whether its atoms have not told yet if the server has them in the box that shows each ring unit
-    branches    how the numbers of what is saved in it stand to those of the server
-    watch       what is known of its energy, to tell whether it changes
-    direction   1 or -1: by how much the next step changes the server's step number. None where this is not known
-    left        the reserved branches that an earlier connection has left, and that stay since somebody has gone on
+    gone        the number of steps since they were sorted
+    is_started  whether steps were started and not yet waited for
+    is_box_open whether its atoms do not show yet if the server has them in the box that shows each ring unit
+    branches    how the numbers of each branch relate to the server's numbers
+    watch       what is known of its energy, to detect changes
+    direction   1 or -1: by how much the next step changes the server's step number. None if this is not known
+    left        the reserved branches that an earlier connection has left, and that stay because the session has advanced since
     """
 
     scale: Optional[Scale] = None
@@ -52,11 +52,11 @@ class Known:
     n_atoms: Optional[int] = None
 
     def branch_order(self, branch: str) -> Order:
-        """How the numbers of what is saved under a name stand to those of the server."""
+        """How the numbers of a branch relate to the server's numbers."""
         return self.branches.get(branch, self.order)
 
     def set_box(self, on_ring: bool, is_open: bool = False) -> None:
-        """Notes whether the server has it, and what is saved in it, in the box that shows each ring unit."""
+        """Notes whether the server has the session and its branches in the box that shows each ring unit."""
         self.order = replace(self.order, on_ring=on_ring)
         self.branches = {branch: replace(order, on_ring=on_ring) for branch, order in self.branches.items()}
         self.is_box_open = is_open and not on_ring
@@ -69,7 +69,7 @@ class State:
     name, scale, mixture  of the session
     step, direction       the step number, and 1 or -1: by how much the next step changes it
     symbols               the symbol of each atom
-    places, before        of each atom now and one step before, in ring units
+    places, before        the places of all atoms now and one step before, in ring units
     is_sorted             whether the atoms are kept in the order of space
     """
 
@@ -84,18 +84,18 @@ class State:
     is_sorted: bool = False
 
     def command(self, order: Order) -> Command:
-        """The command that loads it, with the atoms in this order, and its body."""
+        """The command that loads the state, with the atoms in this order, and its body."""
         symbols = order._for_server(self.symbols)
         both = (("one step before", self.before), ("now", self.places))
         body = b"".join(frames.text_on_ring(comment, symbols, order._for_server(places)) for comment, places in both)
         return f"{self._words()} pair {len(body)}", body
 
     def known(self, order: Order) -> Known:
-        """What is known of the session that this command loads."""
+        """What is known of the session that `command` loads."""
         return Known(self.scale, self.mixture, self.order_of(order), self.symbols, self.is_sorted)
 
     def order_of(self, order: Order) -> Order:
-        """How the numbers stand to the server's in that session."""
+        """How the numbers of that session relate to the server's."""
         return replace(order, step=self.step, direction=self.direction, on_ring=True)
 
     def _words(self) -> str:
@@ -106,7 +106,7 @@ class State:
 
 
 def checked(name: str, known: Known) -> Scale:
-    """The scale of a session that can be loaded again. Raises ValueError if too little was said of it."""
+    """The scale of a session that can be loaded again. Raises ValueError if too little is known of it."""
     scale = known.scale
     if scale is None:
         raise ValueError(f"the scale of {name} must be known, got None; use user.session(name, edge=.., sigma=.., h=..)")
@@ -118,7 +118,7 @@ def checked(name: str, known: Known) -> Scale:
 
 
 def can_be_loaded(name: str, known: Known) -> bool:
-    """Whether enough was said of a session to load it again."""
+    """Whether enough is known of a session to load it again."""
     try:
         checked(name, known)
     except ValueError:
@@ -127,12 +127,12 @@ def can_be_loaded(name: str, known: Known) -> bool:
 
 
 def commands_of_state(atoms: int) -> int:
-    """How many commands `state_of` takes at most, for so many atoms."""
+    """The largest number of commands that `state_of` sends for so many atoms."""
     return 2 * atoms + 4
 
 
 def state_of(user: "Loader", name: str) -> State:
-    """The state of a session. Its pending steps are done first. The session is then as it was."""
+    """The state of a session. Its pending steps are done first. Then the session stays as it is."""
     user.ask(f"ADVANCE {name} 0")
     known = user._known_of(name)
     scale = checked(name, known)

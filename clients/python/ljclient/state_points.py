@@ -56,7 +56,7 @@ class Mean(NamedTuple):
     value : float
         The mean.
     error : float
-        Its standard error, by the means of ten blocks of frames.
+        Its standard error, from the means of ten blocks of frames.
     """
 
     value: float
@@ -75,17 +75,17 @@ class StatePoint:
     session : Session
         The session, at the end of the run.
     density : float
-        How many atoms there are for each sigma^3.
+        The number of atoms per sigma^3.
     temperature : Mean
         In kelvin if epsilon is known, else in epsilon / k_B.
     pressure : Mean
-        In epsilon / sigma^3, with the correction for what is beyond the cutoff.
+        In epsilon / sigma^3, with the tail correction for pairs beyond the cutoff.
     energy : Mean
-        The potential energy of an atom in epsilon, with the correction for what is beyond the cutoff.
+        The potential energy per atom in epsilon, with the tail correction for pairs beyond the cutoff.
     tails : tuple of float
-        The corrections of pressure and energy, for a fluid that is uniform beyond 2.5 sigma.
+        The tail corrections of pressure and energy, for a fluid that is uniform beyond 2.5 sigma.
     n_frames : int
-        Of how many frames these are means.
+        The number of frames in these means.
     """
 
     session: "Session" = dataclasses.field(repr=False)
@@ -117,17 +117,17 @@ class EquationOfState(List[StatePoint]):
     """
 
     def plot(self, axes: Any = None) -> Any:
-        """Draws the pressures over the densities, and Johnson's equation at the mean temperature.
+        """Draws the pressures against the densities, with Johnson's equation at the mean temperature.
 
         Parameters
         ----------
         axes : matplotlib.axes.Axes, optional
-            What is drawn into; else a new figure.
+            The axes to draw into. The default is a new figure.
 
         Returns
         -------
         matplotlib.axes.Axes
-            What was drawn into.
+            The axes.
         """
         axes = pyplot("a plot needs").subplots(layout="constrained")[1] if axes is None else axes
         densities = [point.density for point in self]
@@ -150,11 +150,11 @@ def state_point(session: "Session", steps: int, every: Optional[int] = None, pro
     Parameters
     ----------
     session : Session
-        A session whose scale is known, and whose atoms already have the temperature.
+        A session whose scale is known, already at the temperature of interest.
     steps : int
-        How many steps it goes on by.
+        The number of steps to advance.
     every : int, optional
-        How many steps there are from frame to frame; a five hundredth of the steps by default.
+        The number of steps between frames. The default is a five hundredth of `steps`.
     progress : bool or callable, optional
         As in `Session.advance`.
 
@@ -195,9 +195,9 @@ def equilibrate(
 ) -> StatePoint:
     """Brings a session to a temperature and a density, and returns means with their errors. It needs numpy.
 
-    For another density the atoms are loaded again in another box, and replace the session: all positions are scaled, overlapping
-    atoms are pushed apart, and new velocities are drawn. Branches and a record are then lost. The first half of the steps brings the
-    session to the temperature, as by `Session.equilibrate`. The means are taken in the second half, at constant energy.
+    For another density the session is replaced: all positions are scaled to another box, overlapping atoms are pushed apart, and new
+    velocities are drawn. Branches and a record are then lost. The first half of the steps brings the session to the temperature, as by
+    `Session.equilibrate`. The means are taken in the second half, at constant energy.
 
     Parameters
     ----------
@@ -206,11 +206,11 @@ def equilibrate(
     temperature : float
         In kelvin if epsilon is known, else in epsilon / k_B.
     density : float, optional
-        How many atoms there are for each sigma^3. The default is the density of the session.
+        The number of atoms per sigma^3. The default is the density of the session.
     steps : int, optional
-        How many steps there are in all.
+        The total number of steps.
     seed : int, optional
-        Of the velocities; the same seed gives the same ones.
+        The same seed gives the same velocities.
     progress : bool or callable, optional
         As in `Session.advance`.
 
@@ -261,15 +261,15 @@ def equation_of_state(
     user : User
         The user for the session.
     densities : iterable of float
-        How many atoms there are for each sigma^3.
+        The densities, in atoms per sigma^3.
     temperature : float
         In epsilon / k_B.
     atoms : int, optional
-        How many atoms there are: 4 n^3.
+        The number of atoms: 4 n^3.
     h : int, optional
         The step factor.
     steps : int, optional
-        How many steps there are for each density.
+        The number of steps for each density.
     name : str, optional
         The name of the session. It replaces a session of this name, and is dropped at the end.
 
@@ -297,7 +297,7 @@ def equation_of_state(
 
 
 def _at_density(session: "Session", density: float) -> "Session":
-    """The session with its atoms at rest in a box of another density, loaded in its place."""
+    """The session that replaces this one: its atoms at rest, in a box of another density."""
     user, scale, mixture = session.user, session.scale, session.mixture
     edge = units.edge_of_density(session.n_atoms, density, sigma=scale.sigma)
     positions = tuple(_scaled(session.positions(), edge / scale.edge))
@@ -312,7 +312,7 @@ def _at_density(session: "Session", density: float) -> "Session":
 
 
 def words_of(mixture: Mixture) -> Dict[str, Any]:
-    """The words of `load_mix` for a mixture."""
+    """The arguments of `load_mix` for a mixture."""
     return {"species": mixture.species, "classes": [(each.sigma, each.h, each.weight) for each in mixture.classes]}
 
 
@@ -322,19 +322,19 @@ def _scaled(positions: Any, factor: float) -> Iterator[Position]:
 
 
 def _mean_of(values: Sequence[float]) -> Mean:
-    """The mean of values in order, and its standard error by the means of blocks."""
+    """The mean of a series of values, and its standard error from the means of blocks."""
     numpy = needed_numpy("a mean")
     means = [block.mean() for block in numpy.array_split(numpy.array(values, dtype=float), BLOCKS)]
     return Mean(float(numpy.mean(values)), float(numpy.std(means, ddof=1)) / math.sqrt(BLOCKS))
 
 
 def _density_of(session: "Session") -> float:
-    """How many atoms there are for each sigma^3, of sigma as the program has it."""
+    """The number of atoms per sigma^3, with sigma as the program rounds it."""
     return session.n_atoms * (session.scale.sigma_on_ring / RING) ** 3
 
 
 def _tails_of(session: "Session") -> Tuple[float, float]:
-    """What is beyond the cutoff of the pressure, and of the energy of an atom, if pairs there are at any distance alike."""
+    """The tail corrections of the pressure and of the energy per atom, for a fluid that is uniform beyond the cutoff."""
     first, density = session.scale, _density_of(session)
     inverse = 1 / CUTOFF**3
     pressure, energy = (_weighed(session, first, what) for what in ("h", "weight"))
@@ -344,7 +344,7 @@ def _tails_of(session: "Session") -> Tuple[float, float]:
 
 
 def _weighed(session: "Session", first: Scale, what: str) -> float:
-    """The mean of epsilon sigma^3 over all pairs of atoms, in that of the first class: by h, which forces go by, or by weights."""
+    """The mean of epsilon sigma^3 over all pairs, relative to the first class: by h for forces, or by weight for energies."""
     if session.mixture is None:
         return 1.0
     second = session.symbols().count(session.mixture.species[1]) / session.n_atoms
@@ -353,6 +353,6 @@ def _weighed(session: "Session", first: Scale, what: str) -> float:
 
 
 def _volume(scale: Scale, first: Scale, what: str) -> float:
-    """Epsilon sigma^3 of a class in that of the first one. Epsilon is h sigma^2 for forces, and the weight for energies."""
+    """Epsilon sigma^3 of a class relative to the first one. Epsilon is h sigma^2 for forces, and the weight for energies."""
     ratio = scale.sigma_on_ring / first.sigma_on_ring
     return scale.h / first.h * ratio**5 if what == "h" else scale.weight / first.weight * ratio**3

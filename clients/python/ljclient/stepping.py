@@ -1,4 +1,4 @@
-"""Sessions that go on by many steps, piece by piece: one alone, or several at the same time."""
+"""Sessions that advance by many steps, in pieces: one session, or several at the same time."""
 from __future__ import annotations
 
 import threading
@@ -20,7 +20,7 @@ Ask = Callable[[Iterable[str]], List[Reply]]
 
 
 class Pace:
-    """How many steps take about as long as a piece should."""
+    """The number of steps that takes about as long as a piece should."""
 
     def __init__(self) -> None:
         self._seconds_per_step = 0.0
@@ -36,17 +36,17 @@ class Pace:
 
 
 class Hooks(Protocol):
-    """What a session meets as it goes on."""
+    """Methods called before and after each piece of a session."""
 
     def ready(self) -> int:
-        """Makes it ready to go on, and returns by how many steps it may until this is asked again."""
+        """Prepares the session, and returns how many steps it may advance before the next call."""
 
     def made(self, steps: int, step: int) -> int:
-        """Hears of steps that were made, and returns the user's number of the server's step."""
+        """Counts steps that were made, and returns the user's number of the server's step."""
 
 
 class Progress:
-    """A session on its way, by so many steps in all."""
+    """The progress of a session through a total number of steps."""
 
     def __init__(self, name: str, total: int, report: Optional[Report], hooks: Hooks):
         self.name = name
@@ -73,13 +73,13 @@ class Progress:
         self.step = self._hooks.made(steps, step)
 
     def tell(self) -> None:
-        """Tells who looks how far the session is."""
+        """Reports the steps done and the total, if there is a report."""
         if self._report:
             self._report(self.done, self.total)
 
 
 class Breaks:
-    """Pauses in which other threads get the lock: one that takes it again at once often gets it before who has waited."""
+    """Pauses in which other threads get the lock: a thread that takes it again at once often gets it before waiting ones."""
 
     def __init__(self) -> None:
         self._last = time.monotonic()
@@ -92,9 +92,9 @@ class Breaks:
 
 
 def go(all_progress: Sequence[Progress], ask: Ask, pace: Pace, piece: Optional[int], lock: ContextManager[object]) -> List[int]:
-    """Has sessions go on at the same time, in pieces of so many steps or at a pace, and answers where each has come to.
+    """Advances sessions at the same time, in pieces of a given size or at a pace, and returns their step numbers.
 
-    Each piece is whole under the lock. Between two of them other threads may use the user.
+    The lock is held during each piece. Between pieces other threads may use the user.
     """
     if piece is not None and whole_of(piece, "piece") < 1:
         raise ValueError(f"piece must be at least 1 step, got {piece}")
@@ -116,7 +116,7 @@ def go(all_progress: Sequence[Progress], ask: Ask, pace: Pace, piece: Optional[i
 
 
 def go_by(all_progress: Sequence[Progress], ask: Ask, most: int) -> int:
-    """Has each session make its next steps, at most so many, and waits for all. Answers the greatest number of them."""
+    """Advances each session by its next piece, at most `most` steps, and waits for all. Returns the largest piece."""
     first, *others = all_progress
     sizes = [progress.next_piece(most) for progress in all_progress]
     starts = [f"START {other.name} {size}" for other, size in zip(others, sizes[1:])]

@@ -1,6 +1,6 @@
-"""Studies: a folder that has the records of all sessions, parameters, results, versions and the data of figures, with one manifest.
+"""Studies: folders with the records of all sessions, parameters, results, versions and the data of figures, and one manifest.
 
-`python3 -m ljclient verify FOLDER` plays the records again, and looks whether each file is as it was.
+`python3 -m ljclient verify FOLDER` plays the records again, and checks that each file is unchanged.
 """
 from __future__ import annotations
 
@@ -41,21 +41,21 @@ def study(folder: Path, title: str = "", authors: Sequence[str] = ()) -> "Study"
     Parameters
     ----------
     folder : path
-        A folder that is not there yet, or is empty.
+        A folder that does not exist yet, or is empty.
     title : str, optional
-        How the study is cited; the name of the folder by default.
+        The title in the citation. The default is the name of the folder.
     authors : sequence of str, optional
         The names of its authors, for the citation.
 
     Returns
     -------
     Study
-        What `with` gives.
+        The study, for `with`.
 
     Raises
     ------
     ValueError
-        As `with` begins, if the folder has something in it, or is no folder. It stays as it is.
+        At the start of `with`, if the folder is not empty or not a folder. It is left unchanged.
 
     Examples
     --------
@@ -112,7 +112,7 @@ class Study:
 
     @property
     def sum(self) -> str:
-        """The SHA-256 of `study.json`, for a paper. ValueError as long as the study is open."""
+        """The SHA-256 of `study.json`, for a paper. Raises ValueError while the study is open."""
         if self.state == OPEN:
             raise ValueError("cannot give the SHA-256 of a study that is open: it is written at its end; use `sum` after `with`")
         return self.manifest.sum
@@ -150,7 +150,7 @@ class Study:
         Returns
         -------
         User
-            The user. Its sessions are recorded in the study, except loads with another `record`.
+            The user. Its sessions are recorded in the study, except those loaded with another `record`.
         """
         return self._recorded(lambda: run(*words, **named))
 
@@ -167,7 +167,7 @@ class Study:
         Returns
         -------
         User
-            The user. Its sessions are recorded in the study, except loads with another `record`.
+            The user. Its sessions are recorded in the study, except those loaded with another `record`.
         """
         return self._recorded(lambda: connect(*words, **named))
 
@@ -177,7 +177,7 @@ class Study:
         Parameters
         ----------
         name : str
-            Its name. One that is there is replaced.
+            Its name. A result with this name is replaced.
         value : object
             A number, a text, None, an array, or a list, dict, NamedTuple or dataclass of these, such as `analysis.Estimate`.
 
@@ -202,7 +202,7 @@ class Study:
         Returns
         -------
         str
-            The path of the file, which is new.
+            The path of the new file.
 
         Raises
         ------
@@ -218,14 +218,14 @@ class Study:
         Parameters
         ----------
         path : path
-            The file. A record must be complete, since lines that are written later are not copied.
+            The file. Add a record after its run has ended, since lines that are written later are not copied.
         name : str, optional
             The name of the copy. The default is the name of the file.
 
         Returns
         -------
         str
-            The path of the copy, which is new.
+            The path of the new copy.
 
         Raises
         ------
@@ -241,7 +241,7 @@ class Study:
         return self._put("records" if is_record else "files", _checked(copied), lambda place: _copy(path, place))
 
     def checkpoint(self, session: "Session") -> str:
-        """Saves the whole state of a session, where `verify` can start to play a part of its record.
+        """Saves the whole state of a session, from which `verify` can play a part of its record.
 
         `verify` plays several parts at the same time, and compares the end of each part with the next checkpoint, so that all parts
         together prove the whole record. `checkpoint` waits for steps that were started. No part starts at a checkpoint if the session
@@ -255,7 +255,7 @@ class Study:
         Returns
         -------
         str
-            The path of the checkpoint, which `User.load_saved` reads. It has the server's numbers of atoms and steps.
+            The path of the checkpoint, which `User.load_saved` reads. Atoms and steps in it have the server's numbers.
 
         Raises
         ------
@@ -344,7 +344,7 @@ class Study:
         return f"{kind}/{file}"
 
     def _is_free(self, kind: str, file: str) -> bool:
-        """Whether no file has this name, also where capital letters are no others."""
+        """Whether no file has this name, ignoring case."""
         return f"{kind}/{file}".lower() not in self._taken
 
     def _free(self, kind: str, stem: str, ending: str, number: int = 1) -> str:
@@ -356,7 +356,7 @@ class Study:
         return os.path.join(self.folder, *path.split("/"))
 
     def _path_of(self, place: str) -> Optional[str]:
-        """The path in the study of a record that is written to this place, if it is one of the study's."""
+        """The path within the study of the record written to this place; None for other places."""
         wanted = os.path.realpath(place)
         return next((path for path in self.manifest.of_kind("record") if os.path.realpath(self._place(path)) == wanted), None)
 
@@ -374,7 +374,7 @@ class Study:
                 stack.callback(user.close)
 
     def _end(self, error: Optional[BaseException]) -> None:
-        """Lists the records, which are whole now, and says how the study has ended."""
+        """Lists the records, which are complete now, and writes how the study ended."""
         self._is_open = False
         manifest = self.manifest
         for path in manifest.of_kind("record"):
@@ -390,7 +390,7 @@ class Study:
 
 
 def _make(folder: str) -> None:
-    """Makes a folder, or takes an empty one. ValueError if there is something else."""
+    """Makes a folder, or takes an empty one. Raises ValueError for anything else."""
     if os.path.lexists(folder) and not os.path.isdir(folder):
         raise ValueError(f"cannot make the study {folder}: it exists and is not a folder; use another name")
     os.makedirs(folder, exist_ok=True)
@@ -406,7 +406,7 @@ def _versions() -> Dict[str, Any]:
 
 
 def _checked(name: str) -> str:
-    """A name of a file of a study. ValueError for any other."""
+    """A valid name of a file of a study. Raises ValueError for any other."""
     if not (isinstance(name, str) and NAME.match(name)):
         raise ValueError(
             f"a name must be 1 to 64 letters, digits, `_`, `-` or `.`, with a letter, digit or `_` first, got {shortened(name)}"
@@ -419,7 +419,7 @@ def _copy(path: Path, place: str) -> None:
 
 
 def _of_server(user: User, name: str) -> State:
-    """The state of a session by the server's numbers of atoms and steps, as its record has them."""
+    """The state of a session with the server's numbers of atoms and steps, as in its record."""
     state, order = user._state_of(name), user._known_of(name).order
     frames = (tuple(order._for_server(each)) for each in (state.symbols, state.places, state.before))
     symbols, places, before = frames

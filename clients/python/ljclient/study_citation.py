@@ -1,4 +1,4 @@
-"""The citation of a study: `CITATION.cff`, which says the SHA-256 of its manifest, and the version of the program."""
+"""The citation of a study: `CITATION.cff`, with the SHA-256 of its manifest and the version of the program."""
 from __future__ import annotations
 
 import json
@@ -25,7 +25,7 @@ def citation_of(manifest: Manifest, summed: str) -> bytes:
 
 
 def versions_of(manifest: Manifest) -> List[str]:
-    """The versions of the programs that a study has asked, so far as they told them."""
+    """The versions of the programs that a study has used, as far as they are known."""
     programs = manifest.versions.get("program", [])
     told = [line for line in programs if isinstance(line, str)] if isinstance(programs, list) else []
     return [line[len(WORD_OF_PROGRAM) :] for line in told if line.startswith(WORD_OF_PROGRAM)]
@@ -36,5 +36,5 @@ def _authors(names: List[str]) -> List[str]:
 
 
 def _quoted(text: str) -> str:
-    """A text as YAML has it in double quotes, which is as JSON has it."""
+    """A text in double quotes for YAML, written as in JSON."""
     return json.dumps(text, ensure_ascii=False)

@@ -1,5 +1,5 @@
-"""The manifest of a study: `study.json`, which lists each file of the folder with its SHA-256. It is one text for one content: keys
-are sorted. So its own SHA-256 stands for the whole study."""
+"""The manifest of a study: `study.json`, which lists each file of the folder with its SHA-256. Its keys are
+sorted, so equal contents have equal texts, and its own SHA-256 identifies the whole study."""
 from __future__ import annotations
 
 import hashlib
@@ -28,20 +28,20 @@ KEYS = {"format", "state", "why", "title", "authors", "versions", "parameters", 
 
 
 class NoStudy(ValueError):
-    """Why a folder is no study that can be verified."""
+    """Raised if a folder is not a study that can be verified."""
 
 
 @dataclass
 class Manifest:
-    """What the manifest of a study says.
+    """The contents of the manifest of a study.
 
     state                finished, unfinished or open
-    why                  the error that has ended it, if one has
+    why                  the error that ended the study, if any
     title, authors       as they are cited
-    versions             of ljclient, Python, numpy, and of each program that was asked
-    parameters, results  what was kept, by name
-    files                what is said of each file, by its path: kind, sha256 and bytes, which are None of a record that is being
-                         written; of a checkpoint also its record, and the SHA-256 of this up to there (`after`)
+    versions             of ljclient, Python, numpy, and each program used
+    parameters, results  the kept values, by name
+    files                the entry of each file, by its path: kind; sha256 and bytes, both None for a record that is being written;
+                         for a checkpoint also its record, and the SHA-256 of the record up to there (`after`)
     """
 
     state: str = OPEN
@@ -67,12 +67,12 @@ class Manifest:
 
 
 def text_of(said: Dict[str, Any]) -> bytes:
-    """The one text of what a manifest says."""
+    """The only valid text for the contents of a manifest."""
     return (json.dumps(said, sort_keys=True, indent=1, allow_nan=False) + "\n").encode("ascii")
 
 
 def manifest_in(folder: Path) -> Tuple[Manifest, str]:
-    """The manifest of a folder, and its SHA-256. Raises `NoStudy` if there is none, or one that was not written so."""
+    """The manifest of a folder, and its SHA-256. Raises `NoStudy` if it is missing or not valid."""
     place = os.path.join(folder, MANIFEST)
     if not os.path.lexists(place):
         raise NoStudy(f"a study must have {MANIFEST}, got none in {os.fspath(folder)}")
@@ -93,7 +93,7 @@ def manifest_in(folder: Path) -> Tuple[Manifest, str]:
 
 
 def _check(said: Dict[str, Any], place: str) -> None:
-    """Raises `NoStudy` unless a manifest has the shape of one, and names only files of its folder."""
+    """Raises `NoStudy` unless a manifest has the right keys and types, and names only files of its folder."""
     kinds = {name: type(value) for name, value in vars(Manifest()).items()}
     fits = {name: type(value) for name, value in said.items()} == kinds and said["state"] in (FINISHED, UNFINISHED, OPEN)
     if not fits or not all(isinstance(each, str) for each in said["authors"]):
@@ -105,7 +105,7 @@ def _check(said: Dict[str, Any], place: str) -> None:
 
 
 def _fault_of(path: str, each: Any, said: Dict[str, Any]) -> str:
-    """What is wrong with what is said of a file, or nothing."""
+    """The fault in the entry of a file; empty if there is none."""
     found = FILE.match(path)
     if not found:
         return f"which is no file of a study: these are in {', '.join(KINDS)}"
@@ -132,7 +132,7 @@ def is_sum(word: Any) -> bool:
 
 
 def check_plain(folder: Path, path: str) -> None:
-    """Raises `NoStudy` unless a file of a folder, if it is there, is a regular one, to which no symbolic link leads within."""
+    """Raises `NoStudy` if a file of a folder exists, but is not regular or is reached by a symbolic link in the folder."""
     place = os.fspath(folder)
     for part in path.split("/"):
         place = os.path.join(place, part)
@@ -146,8 +146,8 @@ def check_plain(folder: Path, path: str) -> None:
 
 
 def files_in(folder: Path) -> Iterator[str]:
-    """The paths of all files of a folder, in order, but for the manifest and the citation. Raises `NoStudy` for a symbolic link, or
-    what is no regular file."""
+    """The paths of all files of a folder, in order, except the manifest and the citation. Raises `NoStudy` for a symbolic link or
+    another file that is not regular."""
     top = os.fspath(folder)
     for place, folders, names in os.walk(top):
         folders.sort()
@@ -160,7 +160,7 @@ def files_in(folder: Path) -> Iterator[str]:
 
 
 def sum_of_file(place: Path) -> Tuple[str, int]:
-    """The SHA-256 of a file, and how many bytes it has."""
+    """The SHA-256 of a file, and its size in bytes."""
     summed, size = hashlib.sha256(), 0
     with open(place, "rb") as file:
         for piece in iter(lambda: file.read(PIECE), b""):
@@ -170,6 +170,6 @@ def sum_of_file(place: Path) -> Tuple[str, int]:
 
 
 def listed_file(folder: Path, path: str, more: Optional[Dict[str, Any]] = None) -> Dict[str, Any]:
-    """What a manifest says of a file that is whole."""
+    """The entry of a complete file in a manifest."""
     summed, size = sum_of_file(os.path.join(folder, path))
     return {"kind": KINDS[path.split("/")[0]], "sha256": summed, "bytes": size, **(more or {})}

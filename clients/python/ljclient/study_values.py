@@ -1,4 +1,4 @@
-"""What a study keeps: values as JSON has them, and the data of figures as CSV or as arrays of numpy."""
+"""The data that a study keeps: values in JSON types, and the data of figures as CSV or as numpy arrays."""
 from __future__ import annotations
 
 import csv
@@ -16,9 +16,9 @@ KEPT = "None, a truth value, a number, a text, an array, or a list, dict, NamedT
 
 
 def plain_of(name: str, value: Any) -> Any:
-    """A value as JSON has it. A number that JSON has not becomes a text: "nan", "inf" or "-inf".
+    """A value in JSON types. A number that JSON lacks becomes a text: "nan", "inf" or "-inf".
 
-    Raises TypeError, which says the name, if it is of another kind than those that are kept.
+    Raises TypeError, with the name, if the value is of a type that is not kept.
     """
     if value is None or isinstance(value, (bool, str)):
         return value
@@ -37,14 +37,14 @@ def plain_of(name: str, value: Any) -> Any:
 
 
 def _fields_of(value: Any) -> Any:
-    """The fields of a NamedTuple or a dataclass by name; else the value."""
+    """The fields of a NamedTuple or a dataclass by name; any other value unchanged."""
     if dataclasses.is_dataclass(value) and not isinstance(value, type):
         return {each.name: getattr(value, each.name) for each in dataclasses.fields(value)}
     return value._asdict() if isinstance(value, tuple) and hasattr(value, "_asdict") else value
 
 
 class Values(MutableMapping[str, Any]):
-    """Values by name, each as JSON has it. `changed` is called before one changes, and after it."""
+    """Values by name, in JSON types. `check` is called before a change, and `changed` after it."""
 
     def __init__(self, kept: Dict[str, Any], check: Callable[[], None], changed: Callable[[], None]):
         self._kept, self._check, self._changed = kept, check, changed
@@ -77,7 +77,7 @@ class Values(MutableMapping[str, Any]):
 def figure_file(name: str, data: Any) -> Tuple[str, bytes]:
     """The ending and the bytes of the data of a figure: `.csv` if they are columns of one length, else `.npz`.
 
-    Raises ValueError if there are none, and `Missing` if they are no columns and numpy is not installed.
+    Raises ValueError if there are no arrays, and `Missing` if they need `.npz` and numpy is not installed.
     """
     columns = _columns_of(name, data)
     rows = _rows_of(columns)
@@ -85,7 +85,7 @@ def figure_file(name: str, data: Any) -> Tuple[str, bytes]:
 
 
 def _columns_of(name: str, data: Any) -> Dict[str, Any]:
-    """The columns of data: those of a dict, of the arrays of a dataclass, or of an array or a list, which is then `y`, or `x` and `y`."""
+    """The columns of data: the items of a dict, the arrays of a dataclass, or an array or a list as `y`, or as `x` and `y`."""
     fields = _fields_of(data)
     if isinstance(fields, Mapping):
         named = fields if fields is data else {key: each for key, each in fields.items() if _is_list(each)}
@@ -110,7 +110,7 @@ def _listed(value: Any) -> Any:
 
 
 def _rows_of(columns: Dict[str, Any]) -> Optional[List[List[str]]]:
-    """The rows of columns as words of CSV; None if they are not of one length, or have other things than real numbers and texts."""
+    """The rows of columns as CSV fields; None if the lengths differ, or a value is neither a real number nor a text."""
     lists = list(columns.values())
     if len({len(each) for each in lists}) > 1 or not all(isinstance(word, (str, numbers.Real)) for each in lists for word in each):
         return None
@@ -118,7 +118,7 @@ def _rows_of(columns: Dict[str, Any]) -> Optional[List[List[str]]]:
 
 
 def _word(value: Any) -> str:
-    """A number or a text of CSV. A float is told with all its digits."""
+    """A number or a text as a CSV field. A float has all its digits."""
     if isinstance(value, (bool, str)):
         return str(value)
     return str(int(value)) if isinstance(value, numbers.Integral) else repr(float(value))

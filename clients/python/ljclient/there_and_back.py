@@ -1,4 +1,4 @@
-"""Looks at a session on its way there and back, after which it is as it was, by a branch that the quota needs a place for."""
+"""Looks at a session on its way there and back, and restores it by a branch, for which the quota needs room."""
 from __future__ import annotations
 
 import contextlib
@@ -19,7 +19,7 @@ FRAMES = 100
 
 @contextlib.contextmanager
 def kept(session: "Session") -> Iterator[None]:
-    """What is done within is undone at the end: the session is as it was. If the connection is lost, the error says how to go back."""
+    """Restores the session at the end of the block. If the connection is lost, the error says how to restore it."""
     session.branch(START)
     try:
         yield
@@ -38,19 +38,19 @@ def put_back(session: "Session") -> None:
 
 
 def stops_of(steps: int, every: Optional[int]) -> List[int]:
-    """After how many steps frames are: at the start, each so many, and at the end."""
+    """The steps of the frames: at the start, every `every` steps, and at the end."""
     total = at_least_1(steps, "steps")
     part = max(1, total // FRAMES) if every is None else at_least_1(every, "every")
     return [*range(0, total, part), total]
 
 
 def back_of(stops: Sequence[int]) -> List[int]:
-    """After how many steps behind REVERSE the same frames are on the way back, but for the last one: it goes back by a step itself."""
+    """The steps from REVERSE to the same frames on the way back, without the last stop: REVERSE itself goes back by one step."""
     return [stops[-1] - stop - 1 for stop in reversed(stops[:-1])]
 
 
 def on_the_way(session: "Session", stops: Sequence[int], look: Callable[[], Looked]) -> List[Looked]:
-    """What is seen of a session after so many steps from here each."""
+    """The results of `look` at each stop, in steps from here."""
     seen, made = [], 0
     for stop in stops:
         if stop > made:
@@ -61,7 +61,7 @@ def on_the_way(session: "Session", stops: Sequence[int], look: Callable[[], Look
 
 
 def there_and_back(session: "Session", stops: Sequence[int], look: Callable[[], Looked]) -> Tuple[List[Looked], List[Looked]]:
-    """What is seen at each stop on the way there and on the way back, both in the order of the stops."""
+    """The results of `look` at each stop on the way there and back, both in the order of the stops."""
     with kept(session):
         there = on_the_way(session, stops, look)
         session.reverse()

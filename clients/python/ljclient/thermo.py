@@ -42,7 +42,7 @@ class Thermo(NamedTuple):
 
     @staticmethod
     def of(here: Measurement, after: Measurement) -> "Thermo":
-        """The row of a step, by what was measured there and a step later."""
+        """The row of a step, from measurements there and one step later."""
         kinetic = (here.kinetic_energy + after.kinetic_energy) / 2
         potential, epsilon = here.potential_energy, known(here.scale).epsilon
         numbers = here.step, here.temperature_at(kinetic), kinetic, potential, potential + kinetic
@@ -84,7 +84,7 @@ class ThermoInKelvin(Thermo):
     kinetic, potential, total : float
         In epsilon.
     epsilon : float or None
-        An epsilon in electronvolt.
+        Epsilon in electronvolt.
     """
 
     epsilon: Optional[float] = None
@@ -96,9 +96,9 @@ class ThermoInKelvin(Thermo):
         Parameters
         ----------
         numbers : tuple
-            Those of a `Thermo`, in order.
+            The fields of a `Thermo`, in order.
         epsilon : float
-            An epsilon in electronvolt.
+            Epsilon in electronvolt.
 
         Returns
         -------
@@ -158,10 +158,10 @@ Look = Callable[[Thermo, int], None]
 
 
 def thermo(session: "Session", user: "Loader", ask: Ask, tell: Look, every: int, rows: int, progress: Progress) -> Iterator[Thermo]:
-    """The rows of a session on its way, each when it is there and was looked at.
+    """The rows of a session as it advances, each after a call of `tell`.
 
-    Between two rows a session of a program of its own stands a step ahead, which it has to go anyway. If the rows are broken off it
-    is put back to the step of the last one. At a server it stands at the row all the time, also if the connection is lost.
+    In a program of its own, the session is one step ahead between two rows, since it must make this step anyway. If the iteration
+    ends early, it is put back to the step of the last row. At a server it is always at the row, even if the connection is lost.
     """
     is_ahead, ahead = not user._outlasts_connections, None
     try:
@@ -179,7 +179,7 @@ def thermo(session: "Session", user: "Loader", ask: Ask, tell: Look, every: int,
 
 
 def _put_back(session: "Session", ask: Ask, ahead: int) -> None:
-    """Has a session that still stands a step ahead of its row, at this one, stand at the row.
+    """Puts a session back to its row, if it is still at the step `ahead`, one after the row.
 
     If the program or the session is gone, nothing is put back.
     """
@@ -189,7 +189,7 @@ def _put_back(session: "Session", ask: Ask, ahead: int) -> None:
 
 
 def _measured_ahead(session: "Session", ask: Ask) -> List[Measurement]:
-    """What is measured here and a step ahead, where the session then is."""
+    """Measurements here and one step ahead, where the session is left."""
     measure = f"MEASURE {session.name}"
     with session._lock:
         replies = ask([measure, f"ADVANCE {session.name} 1", measure])
@@ -197,7 +197,7 @@ def _measured_ahead(session: "Session", ask: Ask) -> List[Measurement]:
 
 
 def _measured_twice(session: "Session", user: "Loader", ask: Ask) -> List[Measurement]:
-    """What is measured here and a step ahead, which is undone."""
+    """Measurements here and one step ahead. The step is undone."""
     measure = f"MEASURE {session.name}"
     with look(user, session.name, 3) as way:
         replies = ask([measure, f"ADVANCE {session.name} 1", measure, *way.stepped, *way.end])

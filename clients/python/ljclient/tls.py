@@ -22,7 +22,7 @@ NOT_TLS = ("WRONG_VERSION_NUMBER", "PACKET_LENGTH_TOO_LONG", "RECORD_LAYER_FAILU
 
 class Trust:
     """Which servers are trusted: those whose certificate has an issuer that the system knows, or that a file names; or the one whose
-    certificate has a fingerprint, whoever has issued it and for which name and time."""
+    certificate has a fingerprint. With a fingerprint, the issuer, name and time of the certificate are not checked."""
 
     def __init__(self, ca: Optional[Path], fingerprint: Optional[str] = None):
         self.ca = None if ca is None else os.fspath(ca)
@@ -39,11 +39,11 @@ class Trust:
             raise ClientError(f"cannot read {self.ca}: {error.strerror or error}") from error
 
     def transport(self, host: str, port: int, timeout: float) -> "TlsTransport":
-        """A connection to a server that is trusted. Raises `ConnectionLost`, which says what to do, if it is not."""
+        """A connection to a trusted server. Raises `ConnectionLost`, which says what to do, if the server is not trusted."""
         return TlsTransport(host, port, timeout, self)
 
     def check(self, stream: ssl.SSLSocket) -> None:
-        """Raises OSError if a connection is to another server than the one with the fingerprint. Nothing was sent on it."""
+        """Raises OSError if the certificate of a connection does not have the fingerprint. Nothing is sent before this check."""
         if self.fingerprint is None:
             return
         found = hashlib.sha256(stream.getpeercert(binary_form=True) or b"").hexdigest()
@@ -98,7 +98,7 @@ class TlsTransport(SocketTransport):
             raise ConnectionLost(f"cannot connect to {self._where}: {why}") from error
 
     def read(self, size: int) -> bytes:
-        """All that is there of what has been decrypted, since no wait would end for it."""
+        """All decrypted bytes that are there, because waiting for the socket does not report them."""
         data = self._part(size)
         while more := self._socket.pending():
             data += self._part(more)

@@ -1,6 +1,6 @@
 """The token of a user: from a file, the environment, or a terminal, and never from a command line, where others see it.
 
-A token may have blanks, as on a slip, where it stands in groups that are easier to type. They are left out.
+A token may have blanks, as on a slip, where they separate groups that are easier to type. Blanks are removed.
 """
 from __future__ import annotations
 
@@ -21,15 +21,15 @@ NOT_IN_COMMANDS = f"a token must not be on the command line, where others can se
 
 
 def environment_without_token(environment: Optional[Mapping[str, str]] = None) -> Dict[str, str]:
-    """The environment of a child process, which is that of this process if no other is said: without the token.
+    """The environment of a child process, by default the environment of this process, without the token.
 
-    No program of `run` needs it, and what a child has others may read, such as what the child begins.
+    No program of `run` needs the token, and others may read a child's environment, such as the processes that the child starts.
     """
     return {name: value for name, value in (os.environ if environment is None else environment).items() if name != VARIABLE}
 
 
 def forget_variable() -> None:
-    """Takes the token out of the environment of this process, once it was read: a browser or an editor gets all that is there."""
+    """Removes the token from the environment of this process, after it was read: a browser or an editor would inherit it."""
     os.environ.pop(VARIABLE, None)
 
 
@@ -57,7 +57,7 @@ def fault_of(token: str) -> Optional[str]:
 
 
 def token_of(name: str, path: Optional[str], is_terminal: bool) -> str:
-    """The token of a user: of a file, of the environment, or of whoever sits at the terminal. ClientError if there is none."""
+    """The token of a user: from a file, from the environment, or typed at the terminal. Raises ClientError if there is none."""
     token = stored_token(name, path)
     if token is None and is_terminal:
         return typed_token(name)
@@ -67,7 +67,7 @@ def token_of(name: str, path: Optional[str], is_terminal: bool) -> str:
 
 
 def stored_token(name: str, path: Optional[str]) -> Optional[str]:
-    """The token of a user that a file or else the environment has, if there is one. ClientError if it is no token."""
+    """The token of a user from a file, or without a path from the environment, if there is one. ClientError if it is no token."""
     token = without_blanks(os.environ.get(VARIABLE, "")) if path is None else token_in(path, name)
     if path is None and not token:
         return None
@@ -77,7 +77,7 @@ def stored_token(name: str, path: Optional[str]) -> Optional[str]:
 
 
 def typed_token(name: str) -> str:
-    """The token that somebody types, who is asked again until it has the form of one."""
+    """The token that is typed at the terminal. The prompt is repeated until the token has the right form."""
     while True:
         try:
             token = without_blanks(getpass.getpass(f"token of {name}: "))
@@ -91,7 +91,7 @@ def typed_token(name: str) -> str:
 
 
 def token_in(path: str, name: str) -> str:
-    """The token that a file has: alone on a line, or the second word of the line that begins with this name."""
+    """The token in a file: alone on a line, or the second word of the line that begins with this name."""
     try:
         with open(os.path.expanduser(path), encoding="utf-8", errors="replace") as file:
             lines = [line.split() for line in file.read(MAX_BYTES).splitlines() if not line.startswith("#")]

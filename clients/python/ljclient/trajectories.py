@@ -1,9 +1,9 @@
-"""Files of the frames of a session during a run, of the kind of their ending.
+"""Files of the frames of a session during a run, in the format of their ending.
 
 .xyz, .extxyz  extended XYZ, as text
 .lammpstrj     a dump of LAMMPS, as text
 .traj          ASE's own format, by its writer
-.dcd, .nc      those of CHARMM and NAMD, and of AMBER, by the writers of MDAnalysis
+.dcd, .nc      formats of CHARMM and NAMD, and of AMBER, by MDAnalysis's writers
 """
 from __future__ import annotations
 
@@ -34,13 +34,13 @@ KILOJOULE_PER_MOLE = 96.48533212331  # of an electronvolt
 
 
 class Writer(Protocol):
-    """A file of frames that is open."""
+    """An open file of frames."""
 
     def write(self, frame: Snapshot, positions: Any) -> None:
         """Writes a frame with these positions, in the unit of the session."""
 
     def close(self) -> None:
-        """Ends the file."""
+        """Closes the file."""
 
 
 def write_trajectory(
@@ -64,7 +64,7 @@ def write_trajectory(
 
 
 def opened(session: "Session", path: Path, every: int, symbols: Optional[Replacements], append: bool, unwrap: bool) -> Writer:
-    """The file of a path, whose ending says its kind. What cannot be written is told before anything is changed."""
+    """The open file of a path, in the format of its ending. Raises errors before anything is changed."""
     ending = os.path.splitext(os.fspath(path))[1].lower()
     if ending not in ENDINGS:
         raise ValueError(other_ending(os.fspath(path), ending, session.n_atoms))
@@ -83,19 +83,19 @@ def opened(session: "Session", path: Path, every: int, symbols: Optional[Replace
 
 
 def other_ending(path: str, ending: str, atoms: int) -> str:
-    """What is said of a file with another ending."""
+    """The error message for a file with another ending."""
     kind = ending if ending in MADE_OF_A_DCD else MADE_OF_A_DCD[0]
     line = f"MDAnalysis.Universe.empty({atoms}, trajectory=True).load_new('x.dcd').atoms.write('x{kind}', frames='all')"
     return f"{path} ends in none of {', '.join(ENDINGS)}. Write a .dcd, and MDAnalysis makes other kinds of it, such as {kind}: {line}"
 
 
 def _in_box(frame: Snapshot, scale: Scale) -> Any:
-    """Positions from 0 up to the edge, rounded down to six decimals as those of `Session.dump`."""
+    """Positions from 0 up to the edge, rounded down to six decimals as by `Session.dump`."""
     return arrays.of_millionths(arrays.in_box(frame.places, nano(scale.edge)))
 
 
 def _followed(start: Any, frame: Snapshot, scale: Scale) -> Any:
-    """Positions of atoms that have gone on from these places, where they leave the box too."""
+    """Unwrapped positions of atoms that started at these places."""
     return arrays.scaled(arrays.added(start, frame.moved), scale.edge / RING)
 
 
@@ -119,7 +119,7 @@ class XyzFile:
 
 
 def _momenta_of(frame: Snapshot) -> Iterator[str]:
-    """The words of each atom's mass and momentum in the units of ASE; none if epsilon or mass is not known."""
+    """Each atom's mass and momentum as text in the units of ASE, empty if epsilon or mass is not known."""
     if frame.scale.dt is None or frame.scale.mass is None:
         yield from itertools.repeat("")
     else:
@@ -128,7 +128,7 @@ def _momenta_of(frame: Snapshot) -> Iterator[str]:
 
 
 def comment_of(frame: Snapshot) -> str:
-    """The second line of a frame in extended XYZ: the box, what the columns are, the step, the time and the energies."""
+    """The second line of a frame in extended XYZ: the box, the columns, the step, the time and the energies."""
     edge, unit = repr(frame.scale.edge), _energy_unit(frame.scale)
     lattice = f"{edge} 0 0 0 {edge} 0 0 0 {edge}"
     columns = "species:S:1:pos:R:3:velo:R:3" + (":masses:R:1:momenta:R:3" if frame.scale.dt is not None else "")
@@ -137,7 +137,7 @@ def comment_of(frame: Snapshot) -> str:
 
 
 def _energy_unit(scale: Scale) -> float:
-    """What the unit of energies is in a file: epsilon in electronvolt, or epsilon itself if that is not known."""
+    """The unit of energies in a file: epsilon in electronvolt, or 1 if epsilon is not known."""
     return 1.0 if scale.epsilon is None else scale.epsilon
 
 
@@ -163,7 +163,7 @@ class AseFile:
 class MdaFile:
     """A file that MDAnalysis writes: box and time of each frame and, in `.nc`, velocities and forces.
 
-    Nothing can be put behind what such a file has. So to append, it is copied into a new one, which takes its place at the end.
+    Frames cannot be appended to such a file. Instead it is copied to a new one, which replaces it at the end.
     """
 
     def __init__(self, path: Path, ending: str, atoms: int, every: int, append: bool):
@@ -178,7 +178,7 @@ class MdaFile:
         self._file: Any = None
 
     def _read(self, atoms: int) -> Any:
-        """The file that is there, as MDAnalysis reads it. Raises ValueError if it is of another number of atoms."""
+        """The existing file, as MDAnalysis reads it. Raises ValueError if it has another number of atoms."""
         there = self._library.coordinates.core.get_reader_for(self._path, format=self._format).parse_n_atoms(self._path)
         if there != atoms:
             raise ValueError(f"{self._path} must have frames of {atoms} atoms, as the session, got {there}; use another file")
@@ -195,7 +195,7 @@ class MdaFile:
         self._file.write(self._frame)
 
     def _begun(self, frame: Snapshot) -> Any:
-        """The new file, with what is there already."""
+        """The new file, with the existing frames."""
         words = {"velocities": True, "forces": True} if self._format == "NC" else self._times(frame)
         if self._old is None:
             return self._library.Writer(self._path, self._frame.atoms.n_atoms, format=self._format, **words)
@@ -214,9 +214,9 @@ class MdaFile:
         return file
 
     def _times(self, frame: Snapshot) -> Dict[str, Any]:
-        """What a .dcd says of the times of its frames, which are equally far apart.
+        """The arguments of a .dcd for the times of its frames, which are equally spaced.
 
-        Raises ValueError if this frame does not follow the last one of the file so.
+        Raises ValueError if this frame breaks the spacing of the file.
         """
         step = _picoseconds(frame.scale, frame.three.direction)
         first, apart = _picoseconds(frame.scale, frame.step), step * self._every

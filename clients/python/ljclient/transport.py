@@ -1,4 +1,4 @@
-"""The two ends of a stream that a wire reads and writes: those of a socket, and those of a child process."""
+"""The streams that a wire reads and writes: over a socket, or to a child process."""
 from __future__ import annotations
 
 import os
@@ -24,11 +24,11 @@ warned: Set[str] = set()
 
 
 class PlainTextWarning(UserWarning):
-    """A connection to another machine is not encrypted, so the network sees the token and all else. It comes once for each host."""
+    """A connection to another machine is not encrypted, so the network sees the token and all else. It is given once for each host."""
 
 
 class Transport(Protocol):
-    """A stream that does not block: it can be asked for what is there, and given what there is room for."""
+    """A stream that does not block: it reads what is there, and writes as much as there is room for."""
 
     def source(self) -> int:
         """The descriptor that is read."""
@@ -37,20 +37,20 @@ class Transport(Protocol):
         """The descriptor that is written to."""
 
     def read(self, size: int) -> bytes:
-        """At most so many bytes, none at the end. BlockingIOError where none are there yet."""
+        """At most `size` bytes; none at the end. Raises BlockingIOError if none are there yet."""
 
     def write(self, data: bytes) -> int:
-        """Writes the first of these bytes, and answers how many. BlockingIOError where there is no room yet."""
+        """Writes the first of these bytes, and returns how many. Raises BlockingIOError if there is no room yet."""
 
     def close(self) -> None:
-        """Gives up the stream."""
+        """Closes the stream."""
 
     def last_words(self) -> str:
-        """What is known of why the other side has ended, else nothing."""
+        """Why the other side has ended. Empty if this is not known."""
 
 
 class OpenSocket:
-    """A stream over a socket that is connected already. From here on it does not block."""
+    """A stream over a connected socket, which no longer blocks."""
 
     def __init__(self, connected: socket.socket):
         self._socket = connected
@@ -93,7 +93,7 @@ class SocketTransport(OpenSocket):
         return plain
 
     def peer(self) -> str:
-        """The address of the other side; nothing where that has ended the connection already."""
+        """The address of the other side; empty if the other side has ended the connection already."""
         try:
             return str(self._socket.getpeername()[0])
         except OSError:
@@ -101,7 +101,7 @@ class SocketTransport(OpenSocket):
 
 
 def opened_plainly(host: str, port: int, timeout: float) -> SocketTransport:
-    """A TCP connection that is not encrypted. Of another machine there is a `PlainTextWarning` before anything is said to it."""
+    """A TCP connection that is not encrypted. For another machine, a `PlainTextWarning` is given before anything is sent."""
     transport = SocketTransport(host, port, timeout)
     if host in warned or is_this_machine(host, transport.peer()):
         return transport
@@ -119,7 +119,7 @@ def opened_plainly(host: str, port: int, timeout: float) -> SocketTransport:
 
 
 def is_this_machine(host: str, address: str) -> bool:
-    """Whether a connection stays on this machine: by the word for the host, or by the address that it came to, if that is known."""
+    """Whether a connection stays on this machine: the host is localhost, or the address is a loopback address or not known."""
     if host.lower().rstrip(".") == "localhost" or not address:
         return True
     number = ipaddress.ip_address(address.partition("%")[0])
@@ -129,8 +129,8 @@ def is_this_machine(host: str, address: str) -> bool:
 class ChildTransport:
     """A child process: its standard input and output.
 
-    It stands in a process group of its own, so that an interrupt from the keyboard stops what waits for it and not the
-    process. It is ended and waited for when the ends are closed. It has no LJSERVE_TOKEN in its environment.
+    It runs in its own process group, so that an interrupt from the keyboard stops the code that waits for it and not the
+    process. `close` ends the process and waits for it. Its environment has no LJSERVE_TOKEN.
     """
 
     def __init__(self, command: List[str], env: Optional[Dict[str, str]] = None):
@@ -189,7 +189,7 @@ class ChildTransport:
         return f"{self._command[0]} has ended with status {status}" + (f" ({said})" if said else "")
 
     def _end_child(self) -> None:
-        """Waits for the process. One that still computes, or that does not see that its input has ended, is ended."""
+        """Waits for the process. If it still computes, or does not see the end of its input, it is terminated."""
         for end in (lambda: None, self._child.terminate, self._child.kill):
             end()
             try:

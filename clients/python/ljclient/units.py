@@ -1,4 +1,4 @@
-"""The numbers of the protocol and what they mean in physics.
+"""The numbers of the protocol and their meaning in physics.
 
 Physical units are those of ASE: lengths in angstrom, energies in electronvolt, masses in dalton (u); times are in
 femtoseconds and temperatures in kelvin. `119.8 * units.kelvin` is an energy in electronvolt.
@@ -12,7 +12,7 @@ femtoseconds and temperatures in kelvin. `119.8 * units.kelvin` is an energy in 
 `femtosecond`, `picosecond`
     Times, in femtoseconds.
 
-Without them, everything is in reduced units: lengths in the unit of the file, energies in epsilon, times in
+Without these units, everything is in reduced units: lengths in the unit of the file, energies in epsilon, times in
 `sigma sqrt(m / epsilon)`, temperatures in `epsilon / k_B`.
 """
 from __future__ import annotations
@@ -61,7 +61,7 @@ _SPEED_SQUARED = 1.602176634e-19 / (1.66053906660e-27 * 1e10)
 
 
 class Substance(TypedDict):
-    """Atoms that are all alike, as words of `User.load`: sigma in angstrom, epsilon in electronvolt, mass in dalton."""
+    """Atoms that are all alike, as arguments of `User.load`: sigma in angstrom, epsilon in electronvolt, mass in dalton."""
 
     sigma: float
     epsilon: float
@@ -79,27 +79,27 @@ SUBSTANCES: Dict[str, Substance] = {"Ne": NEON, "Ar": ARGON, "Kr": KRYPTON, "Xe"
 
 
 class TwoSpecies(TypedDict):
-    """Atoms of two species, as words of `User.load_mix`: their symbols, and three classes of sigma, h and weight."""
+    """Atoms of two species, as arguments of `User.load_mix`: their symbols, and three classes of sigma, h and weight."""
 
     species: Tuple[str, str]
     classes: List[Tuple[float, int, int]]
 
 
 def kob_andersen(h: int) -> TwoSpecies:
-    """The glass former of Kob and Andersen (1995), in reduced units of two atoms A.
+    """The glass former of Kob and Andersen (1995), in reduced units of the pair AA.
 
-    Sigma is 1, 0.8 and 0.88, and epsilon 1, 1.5 and 0.5, of A with A, A with B and B with B. In a glass four of five atoms are A, and
-    there are 1.2 atoms for each sigma^3. The other two h are the nearest whole numbers, those of `epsilon / sigma^2`.
+    For the pairs AA, AB and BB, sigma is 1, 0.8 and 0.88, and epsilon is 1, 1.5 and 0.5. In a glass four of five atoms are A, and
+    there are 1.2 atoms per sigma^3. For AB and BB, the step factor is the whole number nearest to `h epsilon / sigma^2`.
 
     Parameters
     ----------
     h : int
-        The step factor of two atoms A.
+        The step factor of the pair AA.
 
     Returns
     -------
     TwoSpecies
-        Words of `User.load_mix`.
+        Arguments of `User.load_mix`.
     """
     pairs = ((1.0, 1.0), (0.8, 1.5), (0.88, 0.5))
     classes = [(sigma, round(h * epsilon / sigma**2), round(FULL_WEIGHT * epsilon)) for sigma, epsilon in pairs]
@@ -164,7 +164,7 @@ def step_factor(dt: float, sigma: float, epsilon: float, mass: float) -> int:
     Raises
     ------
     ValueError
-        If it is not from 1 to 16777216.
+        If a value is not above 0, or h is not from 1 to 16777216.
     """
     for name, value in (("dt", dt), ("sigma", sigma), ("epsilon", epsilon), ("mass", mass)):
         _checked_positive(name, value)
@@ -177,23 +177,23 @@ def step_factor(dt: float, sigma: float, epsilon: float, mass: float) -> int:
 
 
 def edge_of_density(atoms: int, density: float, *, sigma: float = 1.0, mass: Optional[float] = None) -> float:
-    """The edge of the cubic box in which so many atoms have a density.
+    """The edge of the cubic box for a number of atoms and a density.
 
     Parameters
     ----------
     atoms : int
-        How many atoms there are.
+        The number of atoms.
     density : float
-        How many atoms there are for each sigma^3; or, with a mass, grams in a cubic centimetre.
+        Atoms per sigma^3; or, with a mass, grams per cubic centimetre.
     sigma : float, optional
-        The length of the potential.
+        The length sigma of the potential.
     mass : float, optional
         The mass of an atom in dalton.
 
     Returns
     -------
     float
-        The edge in the unit of sigma; with a mass in angstrom.
+        The edge in the unit of sigma, or with a mass in angstrom.
     """
     if whole_of(atoms, "the number of atoms") < 1:
         raise ValueError(f"the number of atoms must be at least 1, got {atoms}")
@@ -207,7 +207,7 @@ def edge_of_density(atoms: int, density: float, *, sigma: float = 1.0, mass: Opt
 
 @dataclass(frozen=True)
 class Scale:
-    """The scale of a session: what its whole numbers mean. Of a mixture, each class has one.
+    """The scale of a session: what its whole numbers mean. In a mixture, each class has one.
 
     Attributes
     ----------
@@ -246,7 +246,7 @@ class Scale:
         dt: Optional[float] = None,
         weight: int = FULL_WEIGHT,
     ) -> "Scale":
-        """The scale of these: h, or epsilon, mass and dt, of which h is the nearest whole number."""
+        """The scale for a given h, or for epsilon, mass and dt with h as the nearest whole number."""
         if (h is None) == (dt is None):
             raise ValueError(f"h or dt must be given, and not both, got h={h!r} and dt={dt!r}; use h=, or dt= with epsilon= and mass=")
         _checked_length("edge", edge)
@@ -280,7 +280,7 @@ class Scale:
 
     @property
     def temperature_unit(self) -> float:
-        """`epsilon / k_B` in kelvin, the unit of temperatures; 1 without epsilon, since temperatures are in it then."""
+        """The unit of temperatures: `epsilon / k_B` in kelvin, or 1 without epsilon, since temperatures are then in it."""
         return 1.0 if self.epsilon is None else self.epsilon / kelvin
 
     def time(self, step: int) -> float:
@@ -314,7 +314,7 @@ class Scale:
         return push * RING / (self.sigma_on_ring * self.h) / self.sigma * (1.0 if self.epsilon is None else self.epsilon)
 
     def potential_energy(self, potential: int) -> float:
-        """The potential energy of a number of `measure`.
+        """The potential energy of `Measurement.potential`.
 
         Parameters
         ----------
@@ -364,7 +364,7 @@ _OLD_NAMES = {"checked_positive": _checked_positive, "nano": _nano, "plain_float
 if not TYPE_CHECKING:
 
     def __getattr__(name: str) -> Any:
-        """A function of 1.1.0 that is no public name any more."""
+        """A function of 1.1.0 that is no longer public."""
         if name not in _OLD_NAMES:
             raise AttributeError(f"module {__name__!r} has no attribute {name!r}")
         _warn(f"units.{name}")

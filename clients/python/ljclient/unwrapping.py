@@ -1,6 +1,6 @@
 """Unwrapped positions: atoms are followed through the images of the periodic box.
 
-Between two frames an atom is taken to have gone the nearer way. So frames are to be so near to each other that none has moved
+Each atom is assumed to move the shorter way round the box between two frames. So frames must be so close that no atom moves
 by half the edge of the box along an axis; from a quarter on there is a warning.
 """
 from __future__ import annotations
@@ -13,7 +13,7 @@ from .warning import warn_caller
 
 
 class Path:
-    """The displacement of each atom from where it was seen first, in ring units."""
+    """The displacement of each atom from its first place, in ring units."""
 
     def __init__(self, name: str):
         self._name = name
@@ -21,14 +21,14 @@ class Path:
         self._moved: Any = None
 
     def to(self, places: Any) -> Any:
-        """The displacements to these places, which are seen next. The first ones are 0."""
+        """The displacements to these next places. For the first places they are 0."""
         moved, far = self.followed(places)
         warn_of_far(self._name, far)
         return moved
 
     def followed(self, places: Any) -> Tuple[Any, float]:
-        """The displacements to these places, and how far an atom has gone since the frame before, as a part of the edge. There is no
-        warning."""
+        """The displacements to these places, and the farthest move of an atom since the frame before, as a fraction of the edge. There
+        is no warning."""
         before = places if self._places is None else self._places
         moved = arrays.least_images(places, before)
         self._moved = moved if self._moved is None else arrays.added(self._moved, moved)
@@ -37,7 +37,7 @@ class Path:
 
 
 def warn_of_far(name: str, far: float) -> None:
-    """Warns if an atom has moved so far, as a part of the edge, that it may have gone round the box the other way."""
+    """Warns if an atom has moved so far, as a fraction of the edge, that it may have gone round the box the other way."""
     if far >= 0.25:
         warn_caller(
             f"an atom of {name} has moved by {far:.2f} of the edge of the box from one frame to the next, so it may have gone "
@@ -46,7 +46,7 @@ def warn_of_far(name: str, far: float) -> None:
 
 
 def unwrapped(name: str, frames: Any, period: Any) -> Any:
-    """Frames of coordinates in a box of this edge, of which each follows the one before: those of an array are changed in place."""
+    """The unwrapped frames of coordinates in a box of edge `period`. An array is changed in place."""
     if len(frames) < 2:
         return frames
     half = period / 2 if isinstance(period, float) else period // 2
@@ -62,7 +62,7 @@ def unwrapped(name: str, frames: Any, period: Any) -> Any:
 
 
 def _listed(name: str, frames: List[Any], period: Any, half: Any) -> List[Any]:
-    """The same of lists of tuples."""
+    """As `unwrapped`, for lists of tuples."""
     told, far = [frames[0]], 0.0
     for before, frame in zip(frames, frames[1:]):
         moved = [tuple((b - a + half) % period - half for a, b in zip(*pair)) for pair in zip(before, frame)]

@@ -109,11 +109,11 @@ class User(Loader):
         """Returns a session that is already at the server.
 
         The server does not report the scale of a session, nor how another connection numbers its atoms and steps. So pass the scale
-        again, by the arguments of `load`, for positions, energies and temperatures. Places need no scale.
+        again, with the arguments of `load`, if you need positions, energies or temperatures. Places need no scale.
 
-        With an edge, the client reads by DUMP and SHOW in which box the server has the session, and so waits for steps that were started.
-        If it is the box of `load_saved`, `order="space"` or `resort`, and no step numbers are given, a warning follows. Later energies
-        are compared with the present one.
+        With an edge, the client uses DUMP and SHOW to find the server's box of the session, and so waits for started steps. It warns
+        if this is the box of `load_saved`, `order="space"` or `resort`, and no step numbers are given. Later energies are compared with
+        the energy at the start of the next long run.
 
         Parameters
         ----------
@@ -129,7 +129,7 @@ class User(Loader):
         watch : bool, optional
             As in `load`.
         record : path, optional
-            Not possible here, raises a ValueError: a record begins with the `load` of its session.
+            Not possible here: raises a ValueError, because a record begins with the `load` of its session.
 
         Returns
         -------
@@ -182,14 +182,14 @@ class User(Loader):
             The number of steps: one for all, or one for each.
         progress : bool or callable, optional
             True shows a progress bar for each session, as in `Session.advance`. A function is called with the name of a session, the
-            number of its steps that are done, and the number of all its steps.
+            number of its steps done, and its total number of steps.
         piece : int, optional
             The number of steps in a piece, as in `Session.advance`.
 
         Returns
         -------
         list of int
-            Their new step numbers.
+            The new step number of each session.
         """
         totals = n if isinstance(n, list) else [n] * len(sessions)
         if len(totals) != len(sessions):
@@ -208,8 +208,8 @@ class User(Loader):
         Returns
         -------
         list of Row
-            For each session: its name, the step after all steps that were started, the numbers of its atoms and branches. The sessions
-            are in the order of loading.
+            For each session: its name, its step number after all started steps, its number of atoms and its number of branches. The
+            sessions are in the order of loading.
         """
         rows = []
         for line in self.ask("LIST").lines:
@@ -222,7 +222,7 @@ class User(Loader):
 
     @whole
     def _row(self, name: str) -> Row:
-        """The line of the list of sessions that is this session's."""
+        """The row of this session in the list of sessions."""
         for row in self.sessions():
             if row.name == name:
                 return row
@@ -273,7 +273,7 @@ class User(Loader):
 
     @whole
     def _ask_commands(self, commands: Sequence[Command]) -> List[Reply]:
-        """As `ask_all`, of commands with the bodies that they announce."""
+        """As `ask_all`, for commands with bodies."""
         if self._started:
             look_at_started(self, (line for line, _ in commands))
         self._make_room(len(commands))
@@ -299,12 +299,12 @@ class User(Loader):
 
     @contextlib.contextmanager
     def on_wait(self, tell: Callable[[str, float], None]) -> Iterator[None]:
-        """Calls a function within the block, each quarter of a second in which no reply arrives.
+        """Calls a function within the block, after every quarter of a second without a reply.
 
         Parameters
         ----------
         tell : callable
-            It is called with the command line that has no reply yet, and with the seconds since something arrived. It may raise an
+            It is called with the command line that awaits its reply, and with the seconds since something arrived. It may raise an
             error, which ends the call like an interrupt.
         """
         self._wire.on_wait = tell
@@ -314,11 +314,11 @@ class User(Loader):
             self._wire.on_wait = None
 
     def _take(self, wire: Dialogue) -> None:
-        """Goes on over another connection."""
+        """Continues over another connection."""
         wire.on_wait, self._wire = self._wire.on_wait, wire
 
     def _note(self, reply: Reply) -> None:
-        """Notes which sessions there are, and forgets what was said of one that is new or gone."""
+        """Updates what is known of the sessions from a reply. A session that is new or gone is forgotten first."""
         verb, *words = reply.words
         if verb in NEW_OR_GONE:
             self._forget(words[0])
@@ -342,7 +342,7 @@ class User(Loader):
 
     @contextlib.contextmanager
     def _told(self) -> Iterator[None]:
-        """Has what was asked be recorded before anyone is told, and a refusal say so if the server had the session."""
+        """As `_losses_told`, and records are written before the caller gets the reply or the error."""
         try:
             with self._losses_told():
                 yield
@@ -351,7 +351,7 @@ class User(Loader):
                 self._flush()
 
     def _flush(self) -> None:
-        """Has records be written. Where the connection has ended, so do they."""
+        """Writes the records, and ends them if the connection has ended."""
         try:
             if self._wire.closed:
                 self._listeners.close()
@@ -365,7 +365,7 @@ class User(Loader):
 
     @contextlib.contextmanager
     def _losses_told(self) -> Iterator[None]:
-        """Has a refusal say so if the server had the session that it does not know."""
+        """Gives a `NoSession` the meaning `LOST` if this object has seen the session at the server."""
         try:
             yield
         except NoSession as refusal:
@@ -375,7 +375,7 @@ class User(Loader):
 
     @whole
     def _ask_text(self, line: str) -> Tuple[List[str], bytes]:
-        """The words of the reply to a command line after `OK`, and the lines after them as they came. A refusal is raised."""
+        """The words after `OK` in the reply to a command line, and the bytes of the lines below them. A refusal is raised."""
         if self._started:
             look_at_started(self, [line])
         self._make_room(1)
@@ -384,7 +384,7 @@ class User(Loader):
 
     @whole
     def _ask_rows(self, lines: Sequence[str]) -> bytes:
-        """The lines that many command lines are answered by, one for each, as they came. The first refusal is raised."""
+        """The bytes of the replies to many command lines with one reply line each. The first refusal is raised."""
         if self._started:
             look_at_started(self, lines)
         self._make_room(len(lines))
@@ -392,10 +392,10 @@ class User(Loader):
             return self._wire.ask_rows(lines)
 
     def _make_room(self, count: int) -> None:
-        """Begins a new connection where this one's million commands would be passed, if the sessions outlast it.
+        """Begins a new connection if this one would exceed its million commands, and the sessions outlast it.
 
-        Of `run` they don't, so there they move to a new program when half of the commands are used up: reading them takes
-        commands too. If this cannot be, it is tried again later.
+        With `run` they do not. So they move to a new program when half of the commands are used up, because reading them takes
+        commands too. If they cannot move, this is tried again later.
         """
         asked = self._wire.asked + count
         if self._wire.closed or count >= MAX_ITEMS:
@@ -418,9 +418,9 @@ class User(Loader):
                     self._known_of(name).watch = watch
 
     def _move(self, restart: Callable[[], Wire], commands: int) -> None:
-        """Goes on in a new program with all sessions as they are, if this takes no more than so many commands.
+        """Moves all sessions unchanged to a new program, if this takes fewer than `commands` commands.
 
-        While a session may have pending steps, which have to be waited for, it does so only if few commands are left.
+        If a session may have pending steps, which must be waited for, the sessions move only when few commands are left.
         """
         rows = self.sessions()
         needed = sum(migrate.most_commands(row.atoms, row.branches) for row in rows)
@@ -445,7 +445,7 @@ class User(Loader):
 
     @property
     def _outlasts_connections(self) -> bool:
-        """Whether what is loaded is still there when the connection has ended, as at a server."""
+        """Whether sessions outlast the connection, as at a server."""
         return self._reopen is not None
 
     @property
@@ -455,7 +455,7 @@ class User(Loader):
 
     @property
     def _is_free(self) -> bool:
-        """Whether the connection is there, and no command is under way."""
+        """Whether the connection is open, and no command is under way."""
         return not self._wire.closed and self._wire.is_idle
 
     @whole
@@ -469,7 +469,7 @@ class User(Loader):
         self._listeners.close()
 
     def _say_bye(self) -> None:
-        """Takes leave where nothing is under way."""
+        """Sends BYE if no command is under way, and closes the connection."""
         if self._wire.closed:
             return
         try:

@@ -1,4 +1,4 @@
-"""`python3 -m ljclient verify run.lj` plays a record again, or all of a study, and checks that each reply is the same."""
+"""`python3 -m ljclient verify run.lj` plays a record or all records of a study again, and checks that each reply is the same."""
 from __future__ import annotations
 
 import argparse
@@ -52,12 +52,12 @@ of study.json, which stands for all. Status 1: something does not fit, and is na
 
 
 def told(text: str) -> str:
-    """A text as one line that a terminal shows and does not obey: names of files and versions may have any bytes."""
+    """A text as one line without control characters: names of files and versions may have any bytes."""
     return shown(text.encode("utf-8", "surrogateescape"))
 
 
 def say(text: str) -> None:
-    """Tells a line. Raises Trouble if it cannot be written, but BrokenPipeError if nobody reads it."""
+    """Prints a line. Raises Trouble if it cannot be written, but BrokenPipeError if nobody reads it."""
     try:
         print(told(text), flush=True)
     except BrokenPipeError:
@@ -71,12 +71,12 @@ def complain(text: str) -> None:
 
 
 def let_go() -> None:
-    """Has nothing more be written to standard output, which takes nothing."""
+    """Redirects standard output, which has failed, to the null device."""
     os.dup2(os.open(os.devnull, os.O_WRONLY), sys.stdout.fileno())
 
 
 def options_of(words: List[str]) -> argparse.Namespace:
-    """The options that the command line says."""
+    """The options of the command line."""
     usage = "python3 -m ljclient verify FILE [OPTION ..] [--program PROGRAM | --server HOST:PORT NAME [OPTIONS OF THE PROMPT]]"
     parser = Parser("ljclient", usage, ABOUT, formatter_class=argparse.RawDescriptionHelpFormatter, allow_abbrev=False)
     parser.add_argument("file", metavar="FILE", help="the record, or the folder of a study")
@@ -109,7 +109,7 @@ def options_of(words: List[str]) -> argparse.Namespace:
 
 
 def opener_of(options: argparse.Namespace) -> Opener:
-    """What begins a user who plays a record."""
+    """A function that starts a user to play a record."""
 
     def begun(file: RecordFile) -> User:
         sessions, atoms, branches = file.quota.numbers
@@ -135,7 +135,7 @@ def opener_of(options: argparse.Namespace) -> Opener:
 
 
 def checked(options: argparse.Namespace) -> Plan:
-    """What the record has, which was read once. Raises `Damaged`, or Trouble if it cannot be played as it should."""
+    """The contents of the record, read once. Raises `Damaged`, or Trouble if it cannot be played as requested."""
     plan = plan_of(options.file)
     most = max(plan.played)
     if not most:
@@ -148,7 +148,7 @@ def checked(options: argparse.Namespace) -> Plan:
 
 
 def is_whole(file: RecordFile) -> bool:
-    """Whether a record has its end, which is complained of if it has not."""
+    """Whether a record has its end. A missing end is reported."""
     path = os.fspath(file.path)
     if file.cut:
         complain(f"{path}, line {file.cut}: the file is cut short here, as where its writer was killed; it is played up to here")
@@ -180,7 +180,7 @@ def trajectories_of(joints: Joints) -> str:
 
 
 def verdict(plan: Plan, player: Player, joints: Joints) -> str:
-    """What is told at the end."""
+    """The final report on a record."""
     parts = [compared(player), counted(plan.left_out, "command was not played", "commands were not played"), trajectories_of(joints)]
     if plan.connections:
         parts.append(counted(plan.connections, "new connection", "new connections"))
@@ -195,7 +195,7 @@ def verdict(plan: Plan, player: Player, joints: Joints) -> str:
 
 
 def heading(options: argparse.Namespace, file: RecordFile) -> str:
-    """Which programs there were, as the file says, and which one there is, so far as it tells. A server does not."""
+    """The programs of the recording, as the file says, and the present one, if its version is known. A server's is not."""
     unknown = ["a program that tells no version"]
     here = unknown if options.server else version_of(options.program) or unknown
     said = f"recorded by {file.client or 'an unknown client'} over {(file.programs or unknown)[0]}, with a quota of {file.quota}"
@@ -203,7 +203,7 @@ def heading(options: argparse.Namespace, file: RecordFile) -> str:
 
 
 def verify(options: argparse.Namespace) -> int:
-    """Plays a record, or those of a study, and tells what came of it. Returns the exit status."""
+    """Plays a record, or those of a study, and prints the results. Returns the exit status."""
     if os.path.isdir(options.file):
         from .study_verifying import verify_study
 
@@ -227,7 +227,7 @@ def verify(options: argparse.Namespace) -> int:
 
 
 def main(words: List[str]) -> int:
-    """Verifies the record that the words of the command line say, and returns the exit status."""
+    """Verifies the record of the command line, and returns the exit status."""
     options = options_of(words)
     try:
         return verify(options)

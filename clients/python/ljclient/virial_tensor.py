@@ -1,4 +1,4 @@
-"""The virial of a session by axes, of which a stress is made. It needs numpy."""
+"""The virial tensor of a session, from which its stress is made. It needs numpy."""
 from __future__ import annotations
 
 from typing import Any, Sequence
@@ -13,7 +13,7 @@ BLOCK = 256
 
 def virial_tensor(places: Any, atoms: Composition) -> Any:
     """The sum over all pairs of the force along one axis times the distance along another, in epsilon of the first class: an array of
-    shape (3, 3), whose trace is `pressure.virial`. Repulsion counts above 0."""
+    shape (3, 3), whose trace is `pressure.virial`. Repulsion is positive."""
     checked_numpy()
     numpy = arrays.numpy
     # Differences of 32 bits are those round the box the nearer way.
@@ -24,7 +24,7 @@ def virial_tensor(places: Any, atoms: Composition) -> Any:
 
 
 def _of_block(axes: Any, seconds: Any, classes: Sequence[Scale], start: int) -> Any:
-    """The part of the pairs of which one atom is in a block, and the other behind it."""
+    """The part of the pairs of an atom in a block and a later atom."""
     numpy = arrays.numpy
     apart = [(axis[start : start + BLOCK, None] - axis[None, start:]).view(numpy.int32).astype(float) for axis in axes]
     reach = max(each.sigma_on_ring for each in classes) ** 2 * BINS / BINS_TO_SQUARE
@@ -37,7 +37,7 @@ def _of_block(axes: Any, seconds: Any, classes: Sequence[Scale], start: int) -> 
 
 
 def _of_class(between: Any, scale: Scale, first: Scale) -> Any:
-    """The part of the pairs of one class, of these differences in ring units."""
+    """The part of the pairs of one class, from their differences in ring units."""
     numpy = arrays.numpy
     squares = (between**2).sum(axis=0) / float(scale.sigma_on_ring) ** 2 * BINS_TO_SQUARE
     near = squares < BINS

@@ -1,4 +1,4 @@
-"""Warnings, which are shown at the line of whoever calls this package."""
+"""Warnings that are shown at the line of the caller of this package."""
 from __future__ import annotations
 
 import contextlib
@@ -22,7 +22,7 @@ def warn_caller(text: str, kind: Type[Warning] = UserWarning) -> None:
 
 @contextlib.contextmanager
 def told_in_a_line() -> Iterator[None]:
-    """Has each warning within the block be a line of standard error, as a program tells it, without the line of its source."""
+    """Prints each warning within the block as a line of standard error, as programs do, without its source line."""
 
     def tell(message: Union[Warning, str], *_: object, **__: object) -> None:
         print(f"ljclient: warning: {printable(str(message))}", file=sys.stderr, flush=True)

@@ -1,8 +1,8 @@
 """Commands out and replies in, over a socket or a child process.
 
 A wire reads while it writes, so neither side's buffers fill up while it waits for the other, however many commands are
-under way. Each wait has a time limit. A reply says itself how many lines it has, so replies that nobody came for, since an
-interrupt from the keyboard was quicker, are skipped before the next command.
+under way. Each wait has a time limit. A reply states its number of lines, so replies that a keyboard interrupt has left unread
+are skipped before the next command.
 """
 from __future__ import annotations
 
@@ -48,27 +48,27 @@ def checked_timeout(seconds: float) -> float:
 
 
 def first_line_of_others(text: bytes) -> bytes:
-    """The first line of a text that has other bytes than those of replies."""
+    """The first line of a text with bytes that replies do not have."""
     found = NOT_PLAIN.search(text)
     at = len(text) if found is None else found.start()
     return text[text.rfind(b"\n", 0, at) + 1 :].partition(b"\n")[0]
 
 
 class Listener(Protocol):
-    """Who hears of each command when it is replied to, and of those whose replies will not come."""
+    """A listener for each command and its reply, and for commands whose replies will not come."""
 
     def answered(self, answer: Answer) -> None:
-        """Hears of a command and its reply, before whoever asked."""
+        """Receives a command and its reply, before the caller does."""
 
     def unanswered(self, lines: Sequence[str]) -> None:
-        """Hears of commands that were sent, and whose replies will not come."""
+        """Receives commands that were sent, but whose replies will not come."""
 
     def told(self, mark: Mark) -> None:
-        """Hears that a new connection was begun."""
+        """Receives the mark of a new connection."""
 
 
 class Dialogue(Protocol):
-    """What a user asks over: a `Wire`, or one that is made again where it is lost (`retrying`)."""
+    """The dialogue of a user: a `Wire`, or one that is made again if it is lost (`retrying`)."""
 
     timeout: float
     on_wait: Optional[Callable[[str, float], None]]
@@ -76,7 +76,7 @@ class Dialogue(Protocol):
 
     @property
     def asked(self) -> int:
-        """How many of the commands of a connection are used up."""
+        """The number of commands that a connection has used up."""
 
     @property
     def closed(self) -> bool:
@@ -115,8 +115,8 @@ class Dialogue(Protocol):
 class Wire:
     """A dialogue with `ljserve`: one command after the other, or many under way.
 
-    on_wait  if it is set, it is called each quarter of a second in which nothing is heard, with the command line whose reply is
-             awaited, and for how many seconds nothing was heard
+    on_wait  if set, it is called each quarter of a second in which nothing is received, with the command line whose reply is
+             awaited, and the number of seconds without input
     """
 
     def __init__(self, transport: Transport, timeout: float):
@@ -141,7 +141,7 @@ class Wire:
 
     @property
     def closed(self) -> bool:
-        """Whether nothing can be asked any more."""
+        """Whether no more commands can be asked."""
         return bool(self._closed)
 
     @property
@@ -151,7 +151,7 @@ class Wire:
 
     @property
     def unanswered(self) -> List[str]:
-        """The command lines that were asked, and are not answered yet."""
+        """The command lines that were asked and are not answered yet."""
         return list(self._unanswered)
 
     def catch_up(self) -> None:
@@ -163,9 +163,9 @@ class Wire:
         return self.ask_all([(line, body)])[0]
 
     def ask_all(self, commands: Iterable[Tuple[str, bytes]]) -> List[Reply]:
-        """The replies to many commands, which are sent without waiting for the replies to those before.
+        """The replies to many commands, sent without waiting for the replies to earlier ones.
 
-        Where some are refused, the first refusal is raised when all are answered.
+        If some are refused, the first refusal is raised when all are answered.
         """
         self._begin()
         answers: List[Union[Reply, Refused]] = []
@@ -180,7 +180,7 @@ class Wire:
         return self._granted(answers)
 
     def ask_text(self, line: str) -> Tuple[List[str], bytes]:
-        """The words of the reply to a command after `OK`, and the lines after them as they came. A refusal is raised."""
+        """The words after `OK` in the reply to a command, and its further lines as received. A refusal is raised."""
         self._begin()
         self._post(line, b"")
         if whole := self._whole_reply():
@@ -192,9 +192,9 @@ class Wire:
         return words, b"\n".join([*lines, b""])
 
     def ask_rows(self, lines: Sequence[str]) -> bytes:
-        """The reply lines to many commands that are answered by one line each, for who reads them all at once.
+        """The reply lines to many commands that are answered by one line each, for callers that read them all at once.
 
-        Nothing of them was looked at but that each begins with `OK`. If some are refused, the first refusal is raised when
+        They are only checked to begin with `OK`. If some are refused, the first refusal is raised when
         all are answered.
         """
         self._begin()
@@ -218,12 +218,12 @@ class Wire:
         return text
 
     def pass_over(self) -> None:
-        """Waits for the replies that nobody came for, since an interrupt was quicker."""
+        """Waits for the replies that an interrupt has left unread."""
         while self._unanswered and not self._closed and not self._torn:
             self._next_answer()
 
     def close(self, why: str = "the connection was closed") -> None:
-        """Gives up the stream. Nothing is asked and nothing is awaited."""
+        """Closes the stream. Nothing is asked and nothing is awaited."""
         if not self._closed:
             self._closed = why
             if self.listener is not None:
@@ -244,7 +244,7 @@ class Wire:
             raise Closed(self._closed)
 
     def _post(self, line: str, body: bytes) -> None:
-        """Puts a command among what is to be sent."""
+        """Adds a command to the outgoing bytes."""
         if "\n" in line:
             raise ValueError(f"a command must be one line, got {shown(line)!r}")
         if body and len(line.encode()) > MAX_COMMAND:
@@ -255,7 +255,7 @@ class Wire:
         self._put(line.encode() + b"\n" + body, [line])
 
     def _put(self, data: bytes, lines: Sequence[str]) -> None:
-        """Puts the bytes of some commands among what is to be sent."""
+        """Adds the bytes of some commands to the outgoing bytes."""
         self._torn = True
         self._outgoing += data
         self._unanswered.extend(lines)
@@ -263,7 +263,7 @@ class Wire:
         self._torn = False
 
     def _granted(self, answers: List[Union[Reply, Refused]]) -> List[Reply]:
-        """These answers, and those to all that still awaits its reply. The first refusal is raised when all are there."""
+        """These answers, and the answers to all unanswered commands. The first refusal is raised when all are there."""
         while self._unanswered and not self.closed:
             answers.append(self._next_answer())
         replies = []
@@ -274,12 +274,12 @@ class Wire:
         return replies
 
     def _next_answer(self) -> Union[Reply, Refused]:
-        """What the first command that awaits its reply is answered."""
+        """The answer to the first unanswered command."""
         taken = self._next_taken()
         return taken if isinstance(taken, Refused) else Reply(taken[0], self._texts(taken[1]))
 
     def _next_taken(self) -> Union[Tuple[List[str], List[bytes]], Refused]:
-        """The words of the first reply that is awaited, and its lines as they came. It is taken whole, or not at all."""
+        """The words of the first awaited reply, and its lines as received. The reply is taken whole, or not at all."""
         self._await_lines(1)
         words = self._words(self._lines[0])
         count = self._lines_after(words)
@@ -301,9 +301,9 @@ class Wire:
         return refusal
 
     def _whole_reply(self) -> Optional[Tuple[List[str], bytes]]:
-        """The words and the text of the only reply that is awaited, whose lines are not taken apart, since that takes long.
+        """The words and the text of the only awaited reply, whose lines are not split, since that takes long.
 
-        None if anything about it is not as usual, such as a refusal, which is then read line by line."""
+        None if anything about it is unusual, such as a refusal. It is then read line by line."""
         if self._lines or self.listener is not None:
             return None
         self._keeps_whole = True
@@ -328,7 +328,7 @@ class Wire:
                 self._split()
 
     def _whole_rows(self, count: int) -> Optional[bytes]:
-        """The replies that are awaited, of one line each, as `_whole_reply`."""
+        """The text of the awaited replies of one line each, as in `_whole_reply`."""
         if self._lines or self.listener is not None:
             return None
         self._keeps_whole = True
@@ -348,7 +348,7 @@ class Wire:
                 self._split()
 
     def _take(self, data: bytes) -> None:
-        """Takes in what was received."""
+        """Adds received bytes."""
         self._partial += data
         if self._keeps_whole:
             self._unsplit += count_of_lines(data)
@@ -356,13 +356,13 @@ class Wire:
             self._split()
 
     def _split(self) -> None:
-        """Takes the whole lines apart that were received."""
+        """Splits off the whole lines that were received."""
         *lines, self._partial = self._partial.split(b"\n")
         self._lines.extend(lines)
         self._unsplit = 0
 
     def _words(self, line: bytes) -> List[str]:
-        """The words of a reply's first line, which is one to the first command that awaits its reply."""
+        """The words of a reply's first line, which must answer the first unanswered command."""
         words = line.decode("ascii").split(" ")
         asked = self._unanswered[0].split()[:1]
         if words[0] == "OK" and words[1:2] == asked:
@@ -384,22 +384,22 @@ class Wire:
         return b"\n".join(lines).decode("ascii").split("\n") if lines else []
 
     def _await_lines(self, count: int) -> None:
-        """Sends and receives until so many lines are there."""
+        """Sends and receives until `count` lines are there."""
         self._gather(count)
         if len(self._lines) < count:
             raise self._given_up(not_answered(ConnectionLost, self._transport.last_words() or self._at_end, self._unanswered[0]))
 
     def _gather(self, count: int) -> None:
-        """Sends and receives until so many lines are there, or no more will come."""
+        """Sends and receives until `count` lines are there, or no more will come."""
         deadline = time.monotonic() + self.timeout
         while len(self._lines) + self._unsplit < count and not self._at_end:
             if self._move(deadline - time.monotonic()):
                 deadline = time.monotonic() + self.timeout
 
     def _move(self, seconds: float) -> bool:
-        """Sends and receives what can be. Answers whether any byte was sent or any line came whole.
+        """Sends and receives what is possible. Returns whether any byte was sent or any line was completed.
 
-        It waits, for so many seconds at most, only where nothing was sent: what is sent begins the time limit again.
+        It waits, for at most `seconds`, only if nothing was sent: sending restarts the time limit.
         """
         went = self._send()
         if not went:
@@ -409,7 +409,7 @@ class Wire:
         return self._receive() or went
 
     def _has_heard(self, seconds: float) -> bool:
-        """Waits until bytes can be received or sent, for so many seconds at most. Answers whether they can."""
+        """Waits for at most `seconds` until bytes can be received or sent. Returns whether they can."""
         start = time.monotonic()
         end = start + seconds
         while (left := end - time.monotonic()) > 0:
@@ -421,7 +421,7 @@ class Wire:
         return bool(self._selector.select(0))
 
     def _watch_sink(self, wanted: bool) -> None:
-        """Lets the next wait end when bytes can be sent, or not."""
+        """Sets whether the next wait ends when bytes can be sent."""
         source, sink = self._transport.source(), self._transport.sink()
         if source == sink:
             events = selectors.EVENT_READ | (selectors.EVENT_WRITE if wanted else 0)
@@ -433,7 +433,7 @@ class Wire:
             self._selector.unregister(sink)
 
     def _send(self) -> bool:
-        """Sends what there is room for. Where nothing can be sent any more, there may still be replies to read."""
+        """Sends what there is room for. If nothing can be sent any more, there may still be replies to read."""
         if not self._outgoing:
             return False
         with held():
@@ -450,9 +450,9 @@ class Wire:
         return sent > 0
 
     def _receive(self) -> bool:
-        """Receives what is there. Answers whether a line came whole.
+        """Receives the available bytes. Returns whether a line was completed.
 
-        Whatever reads a reply has text alone, since any other byte ends the connection here: it could be for a terminal.
+        Readers of replies get only text, since any other byte ends the connection here: it could be meant for a terminal.
         """
         with held():
             self._torn = True
@@ -474,6 +474,6 @@ class Wire:
         return b"\n" in data
 
     def _given_up(self, error: ClientError) -> ClientError:
-        """The error, after which nothing more is asked."""
+        """Returns the error, after closing the connection."""
         self.close(f"the connection was closed: {error}")
         return error

@@ -22,10 +22,10 @@ Frames = Tuple[str, bytes]
 def body_of(source: Any, symbols: Symbols = None) -> bytes:
     """The XYZ text of a source.
 
-    A path (`str` or `os.PathLike`) is read, and so is an open file; `bytes`, and a `str` with a line end in it, are the
-    text itself; `Atoms` of ASE, a list of `(symbol, x, y, z)`, and a list or an array of positions become a text in which
-    each coordinate is written with all its digits. The symbol of all atoms, or a list of one for each, stands in place of
-    those that the source has; positions have none.
+    Paths (`str` or `os.PathLike`) and open files are read. `bytes`, and a `str` with a line end in it, are the text itself.
+    `Atoms` of ASE, a list of `(symbol, x, y, z)`, and a list or an array of positions are written as text with all digits of
+    each coordinate. `symbols`, one for all atoms or a list with one for each, replaces the symbols of the source; positions
+    have none.
     """
     text = _text_in(source)
     if text is None:
@@ -38,7 +38,7 @@ def body_of(source: Any, symbols: Symbols = None) -> bytes:
 
 
 def _text_in(source: Any) -> Optional[bytes]:
-    """The text of a source that is one, or that is read. None of any other source."""
+    """The text of a source that is text, a path or a file. None for any other."""
     if isinstance(source, (bytes, bytearray, memoryview)):
         return bytes(source)
     if isinstance(source, str) and "\n" in source:
@@ -55,7 +55,7 @@ def _text_in(source: Any) -> Optional[bytes]:
 
 
 def _rows(source: Any, symbols: Symbols) -> List[Tuple[str, Sequence[float]]]:
-    """The symbol and the position of each atom of a source that is no text."""
+    """The symbol and the position of each atom of a source that is not text."""
     if ase_bridge.is_atoms(source):
         own, positions = list(source.get_chemical_symbols()), list(source.get_positions())
     else:
@@ -66,7 +66,7 @@ def _rows(source: Any, symbols: Symbols) -> List[Tuple[str, Sequence[float]]]:
 
 
 def _listed(source: Any) -> Tuple[List[str], List[Any]]:
-    """The symbols and the positions of a list, where all of its rows have symbols; else no symbols."""
+    """The symbols and the positions of a list. There are no symbols unless all rows have one."""
     try:
         rows = list(source)
     except TypeError:
@@ -77,7 +77,7 @@ def _listed(source: Any) -> Tuple[List[str], List[Any]]:
 
 
 def text_of(atoms: Iterable[Tuple[str, Sequence[float]]], comment: str = "ljclient") -> bytes:
-    """A frame of XYZ text, which gives back each coordinate to the last digit."""
+    """A frame of XYZ text, with all digits of each coordinate."""
     lines = []
     for number, (symbol, position) in enumerate(atoms):
         if not (isinstance(symbol, str) and symbol.split() == [symbol]):
@@ -93,7 +93,7 @@ def text_of(atoms: Iterable[Tuple[str, Sequence[float]]], comment: str = "ljclie
 def frames_of(source: Any, before: Any, symbols: Symbols, pair: bool = False) -> Frames:
     """The mode and the body of a command that loads a source: at rest, or in motion from the atoms one step before.
 
-    With `pair` the source has both frames itself, that of one step before first.
+    With `pair` the source has both frames itself, the earlier one first.
     """
     if pair and before is not None:
         raise ValueError("cannot use before= with pair=True: the source has both frames then; use one of them")
@@ -112,7 +112,7 @@ def pair_of(before: bytes, present: bytes) -> bytes:
 
 
 def present_atoms(frames: Frames) -> List[Row]:
-    """The atoms of the present frame of a text, each with its symbol and position. None of them if the text is no such frame."""
+    """The atoms of the present frame of a text, each with its symbol and position. Empty if the text has no such frame."""
     mode, body = frames
     lines = iter(body.split(b"\n"))
     try:
@@ -142,14 +142,14 @@ def _number(word: bytes) -> float:
 
 
 def edge_of(source: Any, frames: Frames) -> Optional[float]:
-    """The edge of the box that a source says itself: `Atoms` of ASE in a cubic cell, or a text with its `Lattice`."""
+    """The edge of the box from the source itself: the cubic cell of an ASE `Atoms`, or the `Lattice` of a text."""
     return ase_bridge.edge_of(source) if ase_bridge.is_atoms(source) else lattice_edge(frames)
 
 
 def lattice_edge(frames: Frames) -> Optional[float]:
-    """The edge of the box that the comment lines of extended XYZ text say. None if they say no Lattice.
+    """The edge of the box from the comment lines of extended XYZ text. None if they have no Lattice.
 
-    Raises ValueError if the box is no cube along the axes.
+    Raises ValueError if the box is not a cube along the axes.
     """
     mode, body = frames
     comments = itertools.islice(_comments(body), 1 if mode == "rest" else 2)

@@ -1,4 +1,4 @@
-"""The analysis of a run: results of its frames, each with its standard error and its unit. It needs numpy, and `plot` matplotlib.
+"""The analysis of a run: results from its frames, each with its standard error and unit. It needs numpy, and `plot` needs matplotlib.
 
 `rdf`
     The radial distribution function g(r).
@@ -7,7 +7,7 @@
 `vacf`
     The velocity autocorrelation function and its spectrum, over many origins.
 `diffusion`
-    The diffusion coefficient by both.
+    The diffusion coefficient, from `msd` and from `vacf`.
 `structure_factor`
     S(k).
 `stress`, `pressure`
@@ -19,16 +19,16 @@
 `order`
     Bond orders and cubic order.
 `clusters`
-    Atoms that are connected.
+    Clusters of connected atoms.
 
-Each of these has a session go on, and looks at frames on the way. `Rdf`, `Msd` and so on look at frames that `add` gives them, of a
-session, of a file or of another program (`Frame.of`), one at a time: their memory does not grow with the run. `analyse` gives frames
-of one run to several of them.
+Each of these functions advances a session, and looks at frames during the run. `Rdf`, `Msd` and so on take frames one at a time, by
+`add`: from a session, a file or another program (`Frame.of`). Their memory does not grow with the run. `analyse` passes the frames of
+one run to several of them.
 
-Errors are those of the mean of one run by blocks (`Blocks`): they count that a frame depends on those before. They are nan where there
-are too few frames. Of two species each result has `partial`, the same by species or by pairs of them.
+Errors are standard errors of the mean of one run, from block averages (`Blocks`). They account for correlated frames. They are nan if
+there are too few frames. With two species, most results have `partial`: the same by species, or by pairs of species.
 
-The liquid argon of Rahman (1964), which has a diffusion coefficient of 2.43 there:
+The liquid argon of Rahman (1964). The paper gives a diffusion coefficient of 2.43:
 
     from ase.build import bulk
     from matplotlib import pyplot
@@ -54,7 +54,7 @@ The liquid argon of Rahman (1964), which has a diffusion coefficient of 2.43 the
     d.vacf.plot_spectrum(axes[1, 1])
     figure.savefig("rahman.png")
 
-And the liquid of Kob and Andersen (1995), of which `partial` has g(r) of each pair of species:
+The liquid of Kob and Andersen (1995). `partial` has g(r) of each pair of species:
 
     import numpy
 

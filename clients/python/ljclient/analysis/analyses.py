@@ -1,4 +1,4 @@
-"""The base of all analyses: they take frames one at a time, and give a result. `analyse` gives them the frames of a session."""
+"""The base class of all analyses: they take frames one at a time, and give a result. `analyse` passes them the frames of a session."""
 from __future__ import annotations
 
 from typing import TYPE_CHECKING, Any, Dict, Generic, Iterator, List, Sequence, TypeVar
@@ -17,12 +17,12 @@ Result = TypeVar("Result", covariant=True)
 
 
 class Analysis(Generic[Result]):
-    """What takes frames, one at a time, and tells what they say together. Its memory does not grow with their number.
+    """An analysis takes frames one at a time, and gives one result. Its memory does not grow with their number.
 
     Parameters
     ----------
     stride : int
-        Of the frames that are added, each so many-th is looked at, beginning with the first.
+        Of the added frames, every `stride`-th is looked at, beginning with the first.
     """
 
     # What frames have to have: more than positions, and the stress.
@@ -34,24 +34,24 @@ class Analysis(Generic[Result]):
         self._added = 0
 
     def add(self, frame: Source) -> None:
-        """Looks at the next frame.
+        """Adds the next frame.
 
         Parameters
         ----------
         frame : Frame or Snapshot
-            Atoms at an instant, or a frame that `Session.frames` gives.
+            Atoms at an instant, or a snapshot from `Session.frames`.
 
         Raises
         ------
         ValueError
-            If the frame has not what is looked at, or does not follow those before. It is as if it were not added.
+            If the frame lacks data for the analysis, or does not fit the frames before it. It is not added then.
         """
         if self._added % self.stride == 0:
             self._take(frame_of(frame, self.needs_stress) if isinstance(frame, Snapshot) else frame)
         self._added += 1
 
     def result(self) -> Result:
-        """What the frames so far say.
+        """The result of the frames so far.
 
         Returns
         -------
@@ -71,7 +71,7 @@ class Analysis(Generic[Result]):
 
 
 def checked_count(name: str, number: int, least: int = 1) -> int:
-    """A whole number that is not below another one. Raises TypeError or ValueError, with its name, if it is another value."""
+    """A whole number of at least `least`. Other values raise TypeError or ValueError, with the name of the number."""
     count = whole_of(number, name)
     if count < least:
         raise ValueError(f"{name} must be at least {least}, got {count}")
@@ -79,25 +79,27 @@ def checked_count(name: str, number: int, least: int = 1) -> int:
 
 
 def analyse(session: "Session", steps: int, every: int, analyses: Sequence["Analysis[object]"], progress: Progress = False) -> None:
-    """Has a session go on, and gives frames on the way to analyses.
+    """Advances a session, and passes its frames to analyses.
 
     Parameters
     ----------
     session : Session
-        It goes on by so many steps, at the end of which it stands.
+        The session is advanced, and is left at its last step.
     steps : int
-        How many steps it goes on by. What is left behind the last frame is gone on by too.
+        Number of steps to advance. Steps that remain after the last frame are made too.
     every : int
-        How many steps there are from one frame to the next. The first frame is the present one.
+        Number of steps between frames. The first frame is the present one.
     analyses : sequence of Analysis
-        What takes the frames, such as `[Rdf(), Vacf(100)]`. Their `result()` tells what is found, also where this is broken off.
+        The analyses, such as `[Rdf(), Vacf(100)]`. Their `result()` gives the results, also if the run is interrupted.
     progress : bool or callable
         As in `Session.advance`.
 
     Raises
     ------
     ValueError
-        If the session's scale is not known, or these are no whole numbers above 0.
+        If the session's scale is not known, or `steps` or `every` is below 1.
+    TypeError
+        If `steps` or `every` is not a whole number.
 
     Examples
     --------
@@ -116,7 +118,7 @@ def analyse(session: "Session", steps: int, every: int, analyses: Sequence["Anal
 
 
 def _frames(session: "Session", steps: int, every: int, analyses: Sequence["Analysis[object]"], progress: Progress) -> Iterator[Frame]:
-    """Frames of a session that goes on by so many steps, with what analyses need."""
+    """Frames of a session that is advanced by `steps`, with the data that analyses need."""
     count, with_stress = steps // every + 1, any(each.needs_stress for each in analyses)
     with bars.reporter(progress, session.name) as report:
         step: Progress = onward(report, 0, steps) if report else False
@@ -130,7 +132,7 @@ def _frames(session: "Session", steps: int, every: int, analyses: Sequence["Anal
 
 
 def _positions(session: "Session", every: int, count: int, progress: Progress) -> Iterator[Frame]:
-    """Frames with positions alone."""
+    """Frames with positions only."""
     species = session.symbols() if session.mixture else []
     for number in range(count):
         if number:
@@ -142,7 +144,7 @@ class Groups:
     """The atoms of each species, if there are two, and all atoms.
 
     names    of the species, in the order of their first atoms
-    members  of each species the numbers of its atoms; `None` stands for all
+    members  of each species the numbers of its atoms
     """
 
     def __init__(self, frame: Frame):

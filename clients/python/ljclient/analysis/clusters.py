@@ -1,4 +1,4 @@
-"""Clusters: atoms that bonds connect, from one to the next."""
+"""Clusters: atoms that are connected by bonds, directly or through others."""
 from __future__ import annotations
 
 from dataclasses import dataclass, field
@@ -25,13 +25,13 @@ class ClustersResult:
     Parameters
     ----------
     number, largest : Estimate
-        How many clusters there are, atoms that are alone among them, and how many atoms the largest has: means over the frames.
+        The number of clusters, including single atoms, and the number of atoms in the largest: means over the frames.
     counts, error : array of shape (atoms,)
-        How many clusters there are of 1 atom, of 2, and so on, and their standard errors.
+        The numbers of clusters of 1 atom, of 2 atoms and so on, and their standard errors.
     partial : dict of str to ClustersResult
-        Of two species the same of each, as if the other one were not there.
+        With two species, the same result for each, as if the other were absent.
     frames : int
-        How many frames there were.
+        The number of frames.
     """
 
     number: Estimate
@@ -42,17 +42,17 @@ class ClustersResult:
     frames: int
 
     def plot(self, axes: Any = None) -> Any:
-        """Draws how many clusters there are of each size.
+        """Draws the number of clusters of each size.
 
         Parameters
         ----------
         axes : matplotlib.axes.Axes, optional
-            What is drawn into; else a new figure.
+            The axes to draw into. The default is a new figure.
 
         Returns
         -------
         matplotlib.axes.Axes
-            What was drawn into.
+            The axes drawn into.
         """
         axes = axes_of(axes)
         for name, each in (self.partial or {"": self}).items():
@@ -70,7 +70,7 @@ class Clusters(Analysis[ClustersResult]):
     Parameters
     ----------
     reach : float
-        Up to which distance two atoms are connected, in the unit of length.
+        The distance below which two atoms are connected, in the unit of length.
     stride : int
         As in `Analysis`.
 
@@ -102,7 +102,7 @@ class Clusters(Analysis[ClustersResult]):
             self._blocks[name].add([len(sizes), sizes.max(), *numpy.bincount(sizes, minlength=sizes.sum() + 1)[1:]])
 
     def result(self) -> ClustersResult:
-        """What the frames so far say.
+        """The result of the frames so far.
 
         Returns
         -------
@@ -127,15 +127,15 @@ def told_of(blocks: Blocks, partial: Dict[str, ClustersResult]) -> ClustersResul
 
 
 def sizes_of(places: Any, square: float) -> Any:
-    """How many atoms each cluster has."""
+    """The number of atoms in each cluster."""
     near = near_pairs(places, square)
     return numpy.unique(labels_of(len(places), near.first, near.second), return_counts=True)[1]
 
 
 def labels_of(count: int, first: Any, second: Any) -> Any:
-    """Of each atom the least number of an atom that is connected with it.
+    """For each atom, the smallest atom number in its cluster.
 
-    Each atom has a number of its cluster, which is lowered to the least one across its bonds, until all bonds have one number.
+    Labels are lowered to the smaller one of each bond, until both ends of every bond have the same label.
     """
     labels = numpy.arange(count)
     while len(first):
@@ -149,7 +149,7 @@ def labels_of(count: int, first: Any, second: Any) -> Any:
 
 
 def settled(labels: Any) -> Any:
-    """Labels that are those of the atoms which they name."""
+    """Labels, followed until each names an atom with the same label."""
     following = labels[labels]
     while (following != labels).any():
         labels, following = following, following[following]
@@ -157,23 +157,23 @@ def settled(labels: Any) -> Any:
 
 
 def clusters(session: "Session", steps: int, every: int, reach: float, progress: Progress = False) -> ClustersResult:
-    """The clusters of a session on its way.
+    """The clusters of a session as it advances.
 
     Parameters
     ----------
     session : Session
-        It goes on, and stands behind its last step then.
+        The session is advanced, and is left at its last step.
     steps, every : int
-        How many steps it goes on by, and how many there are from one frame to the next. The first frame is the present one.
+        Number of steps to advance, and number of steps between frames. The first frame is the present one.
     reach : float
-        Up to which distance two atoms are connected, in the unit of length.
+        The distance below which two atoms are connected, in the unit of length.
     progress : bool or callable
         As in `Session.advance`.
 
     Returns
     -------
     ClustersResult
-        How many clusters there are, and of which sizes, by species too.
+        Numbers and sizes of the clusters, also by species.
 
     Examples
     --------

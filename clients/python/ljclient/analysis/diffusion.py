@@ -1,4 +1,4 @@
-"""The diffusion coefficient of one run by both ways: the slope of displacements, and the integral over velocities."""
+"""The diffusion coefficient of one run by two methods: the slope of displacements, and the integral over velocities."""
 from __future__ import annotations
 
 from dataclasses import dataclass, field
@@ -17,14 +17,14 @@ if TYPE_CHECKING:
 
 @dataclass(frozen=True)
 class DiffusionResult:
-    """The diffusion coefficient of some frames, by both ways.
+    """The diffusion coefficient of some frames, by both methods.
 
     Parameters
     ----------
     by_msd, by_vacf : Estimate
         A sixth of the slope of the mean squared displacement, and a third of the integral over the velocity autocorrelation.
     partial : dict of str to (Estimate, Estimate)
-        Of two species both of each.
+        With two species, both estimates of each.
     msd : MsdResult
         The mean squared displacement.
     vacf : VacfResult
@@ -39,14 +39,14 @@ class DiffusionResult:
 
 
 class Diffusion(Analysis[DiffusionResult]):
-    """The diffusion coefficient of the frames that are added, by both ways.
+    """The diffusion coefficient of the frames that are added, by both methods.
 
     Parameters
     ----------
     lags : int
         The longest lag of velocities, in frames that are looked at.
     msd_lags : int, optional
-        The longest lag of displacements; the same by default.
+        The longest lag of displacements. The default is `lags`.
     fit : tuple of float, optional
         As in `Msd`.
     stride : int
@@ -54,7 +54,7 @@ class Diffusion(Analysis[DiffusionResult]):
 
     Examples
     --------
-    An atom that goes on and on has no diffusion coefficient, which both ways tell by a number that grows with the lag:
+    An atom in uniform motion has no diffusion coefficient. Both estimates grow with the lag:
 
     >>> from ljclient.analysis import Diffusion, Frame
     >>> both = Diffusion(lags=2)
@@ -76,7 +76,7 @@ class Diffusion(Analysis[DiffusionResult]):
         self._moved.add(frame)
 
     def result(self) -> DiffusionResult:
-        """What the frames so far say.
+        """The result of the frames so far.
 
         Returns
         -------
@@ -102,27 +102,27 @@ def diffusion(
     fit: Optional[Tuple[float, float]] = None,
     progress: Progress = False,
 ) -> DiffusionResult:
-    """The diffusion coefficient of a session on its way, by the displacements and by the velocities of its atoms.
+    """The diffusion coefficient of a session as it advances, from the displacements and from the velocities of its atoms.
 
     Parameters
     ----------
     session : Session
-        It goes on, and stands behind its last step then.
+        The session is advanced, and is left at its last step.
     steps, every : int
-        How many steps it goes on by, and how many there are from one frame to the next. The first frame is the present one.
+        Number of steps to advance, and number of steps between frames. The first frame is the present one.
     lags : int
         The longest lag of velocities, in frames.
     msd_lags : int, optional
-        The longest lag of displacements, in frames; the same by default.
+        The longest lag of displacements, in frames. The default is `lags`.
     fit : tuple of float, optional
-        Between which times the slope is fitted, in the unit of time, as in `Msd`.
+        Range of times for the fit of the slope, in units of time, as in `Msd`.
     progress : bool or callable
         As in `Session.advance`.
 
     Returns
     -------
     DiffusionResult
-        In angstrom^2 / fs, of which 10^-4 are 10^-5 cm^2 / s, or in the unit of the file and reduced time; by species too.
+        In angstrom^2 / fs (10^-4 angstrom^2 / fs is 10^-5 cm^2 / s), or in the unit of the file and reduced time; also by species.
 
     Examples
     --------

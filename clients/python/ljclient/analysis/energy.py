@@ -1,4 +1,4 @@
-"""Energies and temperature: the mean over frames, with the long-range term on request."""
+"""Energies and temperature: means over frames, with the tail correction on request."""
 from __future__ import annotations
 
 import operator
@@ -16,12 +16,12 @@ if TYPE_CHECKING:
 
 @dataclass(frozen=True)
 class EnergyResult:
-    """The energies of some frames, for each atom, and their temperature.
+    """The energies per atom of some frames, and their temperature.
 
     Parameters
     ----------
     kinetic, potential, total : Estimate
-        Means of an atom, in the unit of energy.
+        Means per atom, in the unit of energy.
     temperature : Estimate
         The mean temperature, in its unit.
     """
@@ -38,7 +38,7 @@ class Energy(Analysis[EnergyResult]):
     Parameters
     ----------
     tail : bool
-        Adds to the potential energy what the pairs beyond the cutoff would, if they were as dense there as anywhere.
+        Adds the contribution of the pairs beyond the cutoff to the potential energy, if the density there is uniform.
     stride : int
         As in `Analysis`.
 
@@ -71,7 +71,7 @@ class Energy(Analysis[EnergyResult]):
         self._blocks.add([frame.energies["kinetic"] / frame.atoms, potential / frame.atoms, frame.energies["temperature"]])
 
     def result(self) -> EnergyResult:
-        """What the frames so far say.
+        """The result of the frames so far.
 
         Returns
         -------
@@ -90,14 +90,14 @@ class Energy(Analysis[EnergyResult]):
 
 
 def energy(session: "Session", steps: int, every: int, tail: bool = False, progress: Progress = False) -> EnergyResult:
-    """The mean energies of an atom of a session on its way, and its temperature.
+    """The mean energies per atom of a session as it advances, and its temperature.
 
     Parameters
     ----------
     session : Session
-        It goes on, and stands behind its last step then.
+        The session is advanced, and is left at its last step.
     steps, every : int
-        How many steps it goes on by, and how many there are from one frame to the next. The first frame is the present one.
+        Number of steps to advance, and number of steps between frames. The first frame is the present one.
     tail : bool
         As in `Energy`.
     progress : bool or callable
@@ -106,7 +106,8 @@ def energy(session: "Session", steps: int, every: int, tail: bool = False, progr
     Returns
     -------
     EnergyResult
-        In electronvolt and kelvin, or in epsilon of the first class and epsilon / k_B if epsilon and mass are not known.
+        Energies in electronvolt if epsilon and mass are known, else in epsilon of the first class. The temperature is in kelvin if
+        epsilon is known, else in epsilon / k_B.
 
     Examples
     --------

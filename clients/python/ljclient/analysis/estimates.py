@@ -1,6 +1,6 @@
-"""Means of series whose values depend on those before, with their standard errors by blocks (Flyvbjerg and Petersen, 1989).
+"""Means of correlated series, with their standard errors from block averages (Flyvbjerg and Petersen, 1989).
 
-A series is kept as means of blocks, which grow with it: there are never more than twice `MOST` of them.
+A series is kept as block averages. The blocks grow with it: there are never more than twice `MOST`.
 """
 from __future__ import annotations
 
@@ -27,7 +27,7 @@ class Estimate:
     Parameters
     ----------
     value, error : float
-        The number, and its standard error. This is nan where there are too few values to tell it.
+        The number, and its standard error. The error is nan if there are too few values.
     unit : str
         The unit of both.
 
@@ -59,9 +59,9 @@ class Estimate:
         Parameters
         ----------
         size : float
-            What the new unit is in the unit of before.
+            The new unit, in terms of the old unit.
         unit : str
-            Its name.
+            The name of the new unit.
 
         Returns
         -------
@@ -78,15 +78,15 @@ class Estimate:
 
 
 class Blocks:
-    """Means of blocks of a series of numbers, or of arrays of one shape.
+    """Block averages of a series of numbers, or of arrays of one shape.
 
     Parameters
     ----------
     most : int
-        How many blocks are kept at least, and less than twice as many: a power of 2.
+        The least number of blocks to keep, a power of 2. Fewer than twice as many are kept.
     overlap : int
-        Over how many values that follow one another these depend on each other anyway, such as by frames that they share. Errors are
-        those of blocks that are as long at least.
+        Number of consecutive values that are correlated anyway, such as by shared frames. Errors are from blocks of at least this
+        length.
 
     Examples
     --------
@@ -115,7 +115,7 @@ class Blocks:
         Parameters
         ----------
         values : float or array
-            One number, or an array of the shape of those before.
+            One number, or an array of the same shape as before.
         """
         values = numpy.array(values, dtype=float)
         self._open, self._total = self._open + values, self._total + values
@@ -138,14 +138,14 @@ class Blocks:
         Raises
         ------
         ValueError
-            If there are none.
+            If there are no values.
         """
         if not self.count:
             raise ValueError("a series must have at least 1 value, got 0; add frames first, more of them than the longest lag")
         return self._total / self.count
 
     def means(self) -> FloatArray:
-        """The means of the blocks in their order.
+        """The means of the blocks, in order.
 
         Returns
         -------
@@ -166,14 +166,14 @@ class Blocks:
         return self._error_of(self.means())
 
     def estimate(self, function: Callable[[Any], Any], unit: str = "") -> Estimate:
-        """What a function says of the mean, with its error.
+        """The value of a function at the mean, with its error.
 
         Parameters
         ----------
         function : callable
             From an array of the shape of one value to a number.
         unit : str
-            Its unit.
+            The unit of the number.
 
         Returns
         -------
@@ -184,10 +184,10 @@ class Blocks:
         return Estimate(float(value), float(error), unit)
 
     def derived(self, function: Callable[[Any], Any]) -> Tuple[Any, Any]:
-        """What a function says of the mean, with its error.
+        """The value of a function at the mean, with its error.
 
-        The error is that of the means of blocks, each put in place of a small part of the mean. So it is exact where the function
-        is linear, and else that of its tangent.
+        For the error, each block mean in turn replaces a small part of the mean. So the error is exact if the function is linear.
+        Else it is the error of the tangent.
 
         Parameters
         ----------
@@ -207,14 +207,14 @@ class Blocks:
         return value, self._error_of(numpy.array(near))
 
     def _error_of(self, blocks: Any) -> Any:
-        """The standard error by what the blocks say, of which as many are put together as overlap."""
+        """The standard error from blocks, which are joined to at least the length of the overlap."""
         together = -(-self._overlap // self._length)
         count = len(blocks) // together
         return errors_of(blocks[: count * together].reshape(count, together, *blocks.shape[1:]).mean(axis=1))
 
 
 def joined(blocks: Any) -> Any:
-    """The means of each two blocks that follow one another. One that is left over is left out."""
+    """The means of successive pairs of blocks. If their number is odd, the last one is left out."""
     pairs = len(blocks) // 2
     return blocks[: 2 * pairs].reshape(pairs, 2, *blocks.shape[1:]).mean(axis=1)
 
@@ -222,8 +222,8 @@ def joined(blocks: Any) -> Any:
 def errors_of(blocks: Any) -> Any:
     """The standard error of the mean of blocks, of the shape of one.
 
-    Blocks are joined in pairs until those of one size, and of each larger one, no longer depend on the one before: until the sum of
-    their squared correlations is what it would be by chance (Jonsson, 2018).
+    Blocks are joined in pairs until successive blocks of one size, and of each larger size, are no longer correlated: until the sum
+    of their squared correlations is as expected by chance (Jonsson, 2018).
     """
     if len(blocks) < 2:
         return numpy.full(numpy.shape(blocks)[1:], math.nan)
@@ -238,7 +238,7 @@ def errors_of(blocks: Any) -> Any:
 
 
 def _levels(series: Any) -> Sequence[Tuple[Any, Any]]:
-    """For each size of blocks the error of the mean, and how far they depend on the one before: by chance this is some 1."""
+    """For each size of blocks, the error of the mean, and their squared correlation, scaled so that it is about 1 by chance."""
     levels: List[Tuple[Any, Any]] = []
     while len(series) >= 2 and (not levels or len(series) >= LEAST):
         count = len(series)
@@ -258,7 +258,7 @@ def mean_of(series: Union[Sequence[float], FloatArray], unit: str = "") -> Estim
     Parameters
     ----------
     series : sequence of float, or array of shape (values,)
-        Numbers in the order of time. Each may depend on those before.
+        Numbers in order of time. They may be correlated.
     unit : str
         Their unit.
 

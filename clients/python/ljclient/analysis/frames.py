@@ -1,4 +1,4 @@
-"""The input of an analysis: a frame of atoms in a periodic cubic box, of a session or of any other source."""
+"""The input of an analysis: a frame of atoms in a periodic cubic box, from a session or any other source."""
 from __future__ import annotations
 
 from dataclasses import dataclass, field
@@ -18,18 +18,18 @@ if TYPE_CHECKING:
 
 @dataclass(frozen=True)
 class Units:
-    """The names of the units of a frame, and what turns products of them into others.
+    """The names of the units of a frame, and conversion factors for products of units.
 
     Parameters
     ----------
     length, time, energy, temperature, pressure, viscosity : str
         Names of units, such as "angstrom", "fs", "eV", "K", "bar" and "mPa s".
     boltzmann : float
-        Boltzmann's constant, in the unit of energy for each unit of temperature.
+        Boltzmann's constant, in units of energy per unit of temperature.
     pressure_size : float
-        What the unit of pressure is in units of energy for each cube of the unit of length.
+        The unit of pressure, in units of energy per cube of the unit of length.
     viscosity_size : float
-        What the unit of viscosity is in units of energy times time for each cube of the unit of length.
+        The unit of viscosity, in units of energy times time per cube of the unit of length.
     """
 
     length: str = "sigma"
@@ -54,12 +54,12 @@ class Units:
 
     @property
     def frequency(self) -> str:
-        """The name of the unit of cycles for each unit of time."""
+        """The name of the unit of frequency: cycles per unit of time."""
         return f"1 / {_in_brackets(self.time)}"
 
 
 def _in_brackets(unit: str) -> str:
-    """A unit that others are multiplied by or divided by."""
+    """A unit as a factor or divisor: in brackets if it has a space."""
     return f"({unit})" if " " in unit else unit
 
 
@@ -71,7 +71,8 @@ METAL = Units("angstrom", "fs", "eV", "K", "bar", "mPa s", physical.kelvin, phys
 
 
 def units_of(scale: Scale) -> Units:
-    """The units of a session of this scale: physical ones if epsilon and mass are known, else those of its first class."""
+    """The units of a session of this scale: physical units if epsilon and mass are known, else units of its first class. With epsilon
+    alone, temperatures are in kelvin."""
     if scale.dt is not None:
         return METAL
     length = "sigma" if scale.sigma == 1 else "unit of the file"
@@ -84,27 +85,27 @@ def units_of(scale: Scale) -> Units:
 
 @dataclass(frozen=True)
 class Frame:
-    """Atoms at an instant, in a periodic cubic box. `Frame.of` makes one of positions.
+    """Atoms at an instant, in a periodic cubic box. `Frame.of` makes a frame from positions.
 
     Parameters
     ----------
     places : array of shape (atoms, 3)
-        Where the atoms are, in ring units: whole numbers of 2^-32 of the edge.
+        The places of the atoms in ring units: whole multiples of 2^-32 of the edge.
     edge : float
         The edge of the box, in the unit of length.
     time : float
-        When it is, in the unit of time. What compares frames takes those that are equally far apart.
+        The time, in the unit of time. Analyses that compare frames need them at equal intervals.
     species : tuple of str
         The symbol of each atom. Without symbols all atoms are alike.
     velocities : array of shape (atoms, 3), optional
-        In the unit of length for each unit of time.
+        In units of length per unit of time.
     stress : array of shape (3, 3), optional
         The stress, which is the negative of the pressure tensor, in the unit of pressure.
     energies : dict of str to float
-        The kinetic and the potential energy of all atoms in the unit of energy, and the temperature in its unit; as `kinetic`,
-        `potential` and `temperature`.
+        The energies of all atoms in the unit of energy, as `kinetic` and `potential`, and the temperature in its unit, as
+        `temperature`.
     tails : dict of str to float
-        What potential energy and pressure lack by the cutoff, as `potential` and `pressure`, in the same units.
+        The tail corrections of potential energy and pressure, as `potential` and `pressure`, in the same units.
     units : Units
         The names of the units.
 
@@ -128,21 +129,21 @@ class Frame:
 
     @staticmethod
     def of(positions: Any, edge: float, **words: Any) -> "Frame":
-        """The frame of positions, which may be outside of the box.
+        """The frame of positions, which may be outside the box.
 
         Parameters
         ----------
         positions : array of shape (atoms, 3)
             In the unit of length.
         edge : float
-            The edge of the box, in this unit.
+            The edge of the box, in the same unit.
         **words
-            As the other parameters of `Frame`.
+            The other parameters of `Frame`.
 
         Raises
         ------
         ValueError
-            If this is no array of that shape, or the edge is not above 0.
+            If `positions` is not an array of finite numbers of this shape, or `edge` is not above 0.
         """
         rows = numpy.asarray(positions, dtype=float)
         if rows.ndim != 2 or rows.shape[1] != 3 or not numpy.isfinite(rows).all():
@@ -152,7 +153,7 @@ class Frame:
 
     @property
     def atoms(self) -> int:
-        """How many atoms there are."""
+        """The number of atoms."""
         return len(self.places)
 
     @property
@@ -163,12 +164,12 @@ class Frame:
 
     @property
     def density(self) -> float:
-        """How many atoms there are for each cube of the unit of length."""
+        """The number of atoms per cube of the unit of length."""
         return float(self.atoms / self.edge**3)
 
 
 def species_of(atoms: Composition) -> Sequence[str]:
-    """The symbol of each atom; none if all are alike."""
+    """The symbol of each atom, or no symbols if all atoms are alike."""
     return [atoms.species[bool(second)] for second in atoms.seconds]
 
 
@@ -178,9 +179,9 @@ def frame_of(snapshot: Snapshot, with_stress: bool = True) -> Frame:
     Parameters
     ----------
     snapshot : Snapshot
-        A frame that `Session.frames` gives.
+        A snapshot from `Session.frames`.
     with_stress : bool, optional
-        Whether it has its stress.
+        Whether the frame has its stress.
 
     Returns
     -------
@@ -206,7 +207,7 @@ def frame_of(snapshot: Snapshot, with_stress: bool = True) -> Frame:
 
 
 def position_frame(session: "Session", species: Sequence[str]) -> Frame:
-    """The frame of a session as it is, with positions alone, which take one command."""
+    """The present frame of a session, with positions only, read by one command."""
     (step,), (positions,) = session.sample(every=1, frames=1)
     return Frame.of(positions, session.edge, time=session.scale.time(step), species=species, units=units_of(session.scale))
 

@@ -9,7 +9,7 @@ numpy: Any = optional.needed("numpy", "ljclient.analysis needs", "numpy", "pytho
 
 
 def axes_of(axes: Any) -> Any:
-    """Axes of matplotlib to draw into: those that are said, else those of a new figure.
+    """The matplotlib axes to draw into: the given ones, else the axes of a new figure.
 
     Raises `Missing` if matplotlib is not installed.
     """

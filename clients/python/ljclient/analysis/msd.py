@@ -35,11 +35,11 @@ class MsdResult:
     diffusion : Estimate
         A sixth of the slope between the times of `fit`.
     fit : tuple of float
-        The times between which the line is fitted, by least squares.
+        The range of times for the least-squares fit of the slope.
     partial : dict of str to MsdResult
-        Of two species the same of each.
+        With two species, the same result for each.
     origins : int
-        How many origins there were.
+        Number of origins.
     units : dict of str to str
         The units of `times`, `msd`, `error`, `diffusion` and `fit`.
     """
@@ -59,12 +59,12 @@ class MsdResult:
         Parameters
         ----------
         axes : matplotlib.axes.Axes, optional
-            What is drawn into; else a new figure.
+            The axes to draw into. The default is a new figure.
 
         Returns
         -------
         matplotlib.axes.Axes
-            What was drawn into.
+            The axes drawn into.
         """
         axes = axes_of(axes)
         for name, each in (self.partial or {"": self}).items():
@@ -77,18 +77,18 @@ class MsdResult:
 class Msd(Analysis[MsdResult]):
     """The mean squared displacement of the frames that are added, over many origins.
 
-    Atoms are followed round the box from frame to frame, each the nearer way, so no atom may move by half the edge between two: from a
-    quarter on there is a warning.
+    Atoms are unwrapped from frame to frame by the nearest image. So no atom may move by half the edge between two frames. A move by a
+    quarter or more gives a warning.
 
     Parameters
     ----------
     lags : int
-        The longest lag, in frames that are looked at. An error takes a run that is three times as long at least, and some ten times for
-        one that is right to a fifth: origins depend on each other as far as their lags overlap.
+        The longest lag, in analysed frames. Errors need a run of at least three times this length, and about ten times for errors
+        accurate to a fifth, since origins with overlapping lags are correlated.
     apart : int, optional
-        How many of them there are from one origin to the next; a twentieth of `lags` by default.
+        Number of analysed frames between origins. The default is a twentieth of `lags`.
     fit : tuple of float, optional
-        Between which times the slope is fitted, in the unit of time. By default from a quarter of the longest lag on.
+        Range of times for the fit of the slope, in units of time. The default starts at a quarter of the longest lag.
     stride : int
         As in `Analysis`.
 
@@ -126,7 +126,7 @@ class Msd(Analysis[MsdResult]):
         return [squares.mean(), *(squares[members].mean() for members in self._groups.members.values())]
 
     def result(self) -> MsdResult:
-        """What the frames so far say.
+        """The result of the frames so far.
 
         Returns
         -------
@@ -165,27 +165,27 @@ def msd(
     fit: Optional[Tuple[float, float]] = None,
     progress: Progress = False,
 ) -> MsdResult:
-    """The mean squared displacement of a session on its way.
+    """The mean squared displacement of a session as it advances.
 
     Parameters
     ----------
     session : Session
-        It goes on, and stands behind its last step then.
+        The session is advanced, and is left at its last step.
     steps, every : int
-        How many steps it goes on by, and how many there are from one frame to the next. The first frame is the present one.
+        Number of steps to advance, and number of steps between frames. The first frame is the present one.
     lags : int
         The longest lag, in frames.
     apart : int, optional
-        How many frames there are from one origin to the next, as in `Msd`.
+        Number of frames between origins, as in `Msd`.
     fit : tuple of float, optional
-        Between which times the slope is fitted, in the unit of time, as in `Msd`.
+        Range of times for the fit of the slope, in units of time, as in `Msd`.
     progress : bool or callable
         As in `Session.advance`.
 
     Returns
     -------
     MsdResult
-        In angstrom^2 and femtoseconds, or in the unit of the file and reduced time; by species too.
+        In angstrom^2 and femtoseconds, or in the unit of the file and reduced time, also by species.
 
     Examples
     --------

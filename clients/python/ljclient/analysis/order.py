@@ -1,4 +1,4 @@
-"""Order: of the directions of bonds (Steinhardt, Nelson and Ronchetti, 1983), and how far these lie along the axes of the box."""
+"""Order of bond directions (Steinhardt, Nelson and Ronchetti, 1983), and their alignment with the axes of the box."""
 from __future__ import annotations
 
 import math
@@ -20,22 +20,22 @@ if TYPE_CHECKING:
 
 @dataclass(frozen=True)
 class OrderResult:
-    """The order of some frames. None of it has a unit.
+    """The order of some frames. All values are dimensionless.
 
     Parameters
     ----------
     q4, q6 : Estimate
-        The bond orders of an atom, by its own bonds: the mean over all atoms. Of a face-centred crystal they are 0.1909 and 0.5745,
-        and with 12 neighbours in a liquid some 0.2 and 0.4.
+        The bond orders of each atom's own bonds, averaged over all atoms. They are 0.1909 and 0.5745 in a face-centred crystal, and
+        about 0.2 and 0.4 in a liquid with 12 neighbours.
     global_q4, global_q6 : Estimate
-        The same of all bonds together, which is near 0 in a liquid.
+        The bond orders of all bonds together, near 0 in a liquid.
     cubic : Estimate
-        The mean of `(x^4 + y^4 + z^4) / r^4` over all bonds, along the axes of the box: 1/2 of a face-centred crystal, 1 of a simple
-        cubic one, 1/3 of the nearest neighbours in a body-centred one, and 3/5 if all directions are alike.
+        The mean of `(x^4 + y^4 + z^4) / r^4` over all bonds, along the axes of the box. It is 1/2 for a face-centred crystal, 1 for a
+        simple cubic one, 1/3 for nearest neighbours in a body-centred one, and 3/5 for isotropic directions.
     neighbours : Estimate
-        How many bonds an atom has.
+        Mean number of bonds of an atom.
     partial : dict of str to OrderResult
-        Of two species the same of each, as if the other one were not there.
+        With two species, the same result for each, without the atoms of the other.
     """
 
     q4: Estimate
@@ -48,7 +48,7 @@ class OrderResult:
 
 
 class Bonds(NamedTuple):
-    """The bonds of a frame: the numbers of both atoms of each, and its direction as an array of shape (3, bonds)."""
+    """The bonds of a frame: the numbers of both atoms of each, and the directions as an array of shape (3, bonds)."""
 
     first: Any
     second: Any
@@ -68,7 +68,7 @@ class Order(Analysis[OrderResult]):
     Parameters
     ----------
     reach : float
-        Up to which distance two atoms have a bond, in the unit of length: the first minimum of g(r), 1.5 sigma in a liquid.
+        Two atoms have a bond below this distance, in units of length: the first minimum of g(r), 1.5 sigma in a liquid.
     stride : int
         As in `Analysis`.
 
@@ -100,7 +100,7 @@ class Order(Analysis[OrderResult]):
             self._blocks[name].add(values_of(frame.places[members], (self._reach / frame.edge * RING) ** 2))
 
     def result(self) -> OrderResult:
-        """What the frames so far say.
+        """The result of the frames so far.
 
         Returns
         -------
@@ -118,7 +118,7 @@ class Order(Analysis[OrderResult]):
 
 
 def values_of(places: Any, square: float) -> List[float]:
-    """Both bond orders of an atom, both of all bonds, the cubic order and the bonds of an atom."""
+    """`q4`, `q6`, `global_q4`, `global_q6`, `cubic` and `neighbours` of a group of atoms."""
     bonds = bonds_of(places, square)
     (local4, all4), (local6, all6) = (orders_of(bonds, degree, len(places)) for degree in (4, 6))
     count = len(bonds.first)
@@ -133,7 +133,7 @@ def told_of(blocks: Blocks, partial: Dict[str, OrderResult]) -> OrderResult:
 
 
 def orders_of(bonds: Bonds, degree: int, atoms: int) -> Tuple[float, float]:
-    """The bond order of a degree, which is even: the mean over atoms, and that of all bonds together. Atoms without bonds have 0."""
+    """The bond orders of an even degree: the mean over atoms, and the one of all bonds together. Atoms without bonds have 0."""
     counts = numpy.bincount(bonds.first, minlength=atoms) + numpy.bincount(bonds.second, minlength=atoms)
     local, total = numpy.zeros(atoms), 0.0
     for order, values in enumerate(harmonics(bonds.directions, degree)):
@@ -148,7 +148,7 @@ def orders_of(bonds: Bonds, degree: int, atoms: int) -> Tuple[float, float]:
 
 
 def harmonics(directions: Any, degree: int) -> List[Any]:
-    """The spherical harmonics of a degree and of the orders from 0 on, at directions of length 1."""
+    """The spherical harmonics of a degree, for orders from 0 to the degree, at unit vectors."""
     x, y, z = directions
     told = []
     for order in range(degree + 1):
@@ -160,16 +160,16 @@ def harmonics(directions: Any, degree: int) -> List[Any]:
 
 
 def order(session: "Session", steps: int, every: int, reach: float, progress: Progress = False) -> OrderResult:
-    """The order of a session on its way.
+    """The order of a session as it advances.
 
     Parameters
     ----------
     session : Session
-        It goes on, and stands behind its last step then.
+        The session is advanced, and is left at its last step.
     steps, every : int
-        How many steps it goes on by, and how many there are from one frame to the next. The first frame is the present one.
+        Number of steps to advance, and number of steps between frames. The first frame is the present one.
     reach : float
-        Up to which distance two atoms have a bond, in the unit of length.
+        Two atoms have a bond below this distance, in units of length.
     progress : bool or callable
         As in `Session.advance`.
 

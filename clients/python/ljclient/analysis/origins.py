@@ -1,7 +1,7 @@
-"""Functions of the time between two frames, each the mean over many origins: frames that later ones are compared with.
+"""Functions of the time between two frames, averaged over many origins: frames that later frames are compared with.
 
-An origin is kept until the longest lag, and then what was found of it is a value of the series of `Blocks`. So at most
-`lags / apart + 1` frames are kept, whatever the length of the run.
+An origin is kept up to the longest lag. Its results are then one value of the series of `Blocks`. So at most `lags / apart + 1`
+frames are kept, whatever the length of the run.
 """
 from __future__ import annotations
 
@@ -21,11 +21,11 @@ Compare = Callable[[Any, Any], Any]
 
 
 class Origins:
-    """Origins with what was found of each so far.
+    """Origins, with the results of each so far.
 
     lags     the longest lag, in frames
-    apart    how many frames there are from one origin to the next
-    is_path  whether what is compared adds up along the way, so that origins depend on each other as far as their lags overlap
+    apart    number of frames between origins
+    is_path  whether the compared values accumulate over time, so that origins with overlapping lags are correlated
     """
 
     def __init__(self, lags: int, apart: Optional[int], compare: Compare, is_path: bool = False):
@@ -39,7 +39,7 @@ class Origins:
         self._time = 0.0
 
     def check(self, frame: Frame) -> None:
-        """Raises ValueError unless a frame is as far from the one before as those before."""
+        """Raises ValueError unless the time since the last frame is above 0 and the same as before."""
         interval = abs(frame.time - self._time)
         if self._seen == 1 and not interval > 0:
             raise ValueError(f"frames must be at different times, got two at {frame.time:g}; use time= of Frame.of")
@@ -47,7 +47,7 @@ class Origins:
             raise ValueError(f"frames must be equally far apart in time, got {interval:g} after {self.interval:g}; use every n-th frame")
 
     def add(self, frame: Frame, values: Any) -> None:
-        """Compares the values of a frame, which was checked, with those of all origins."""
+        """Compares the values of a checked frame with those of all kept origins."""
         if self._seen == 1:
             self.interval = abs(frame.time - self._time)
         if self._seen % self.apart == 0:
@@ -64,7 +64,7 @@ class Origins:
         return numpy.arange(self.lags + 1) * self.interval
 
     def checked_range(self, start: float, stop: float) -> Any:
-        """Which lags are in a range of times. ValueError if they are too few for a line."""
+        """A mask of the lags in a range of times. ValueError if they are too few for a line."""
         kept = (self.times >= start * (1 - 1e-9)) & (self.times <= stop * (1 + 1e-9))
         if kept.sum() < 2:
             raise ValueError(f"a range of times must have at least 2 lags, got {start:g} to {stop:g} of {self.times[-1]:g}")

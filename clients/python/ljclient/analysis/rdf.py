@@ -1,4 +1,4 @@
-"""The radial distribution function g(r): how dense atoms are at a distance from an atom, beside their mean density."""
+"""The radial distribution function g(r): the density of atoms at a distance from an atom, over their mean density."""
 from __future__ import annotations
 
 import itertools
@@ -37,12 +37,12 @@ class RdfResult:
     g, error : array of shape (bins,)
         The mean of g(r) over each shell, and its standard error. It has no unit.
     neighbours : array of shape (bins,)
-        How many atoms there are within the outer edge of each bin around an atom, in the mean.
+        Mean number of atoms around an atom, within the outer edge of each bin.
     partial : dict of (str, str) to RdfResult
-        Of two species the same of each pair of them, such as `("A", "B")`: g(r) and the neighbours of the second species around an
-        atom of the first.
+        With two species, the same result for each pair of them, such as `("A", "B")`: g(r) and the neighbours of the second species around
+        an atom of the first.
     frames : int
-        How many frames there were.
+        Number of frames.
     units : dict of str to str
         The units of `r`, `g`, `error` and `neighbours`.
     """
@@ -56,12 +56,12 @@ class RdfResult:
     units: Dict[str, str] = field(repr=False)
 
     def plot(self, axes: Any = None) -> Any:
-        """Draws g(r) with its errors: that of each pair of species, if there are two.
+        """Draws g(r) with its errors, for each pair of species if there are two.
 
         Parameters
         ----------
         axes : matplotlib.axes.Axes, optional
-            What is drawn into; else a new figure.
+            The axes to draw into. The default is a new figure.
 
         Returns
         -------
@@ -84,7 +84,7 @@ class Rdf(Analysis[RdfResult]):
     Parameters
     ----------
     bins : int
-        How many bins there are from 0 to `r_max`, of equal width.
+        Number of bins of equal width from 0 to `r_max`.
     r_max : float, optional
         The end of the last bin, in the unit of length: at most half the edge, which is the default.
     stride : int
@@ -121,13 +121,13 @@ class Rdf(Analysis[RdfResult]):
         return self._edge / 2 if self._r_max is None else self._r_max
 
     def _kinds(self) -> List[Pair]:
-        """The pairs of species, of which the counts are kept one after the other; with one species a single pair of no names."""
+        """The pairs of species, in the order of their counts. With one species there is a single pair of empty names."""
         assert self._groups is not None
         names = self._groups.names or [""]
         return [(first, second) for first, second in itertools.combinations_with_replacement(names, 2)]
 
     def _counts(self, frame: Frame) -> Any:
-        """How many pairs of each kind there are in each bin: an array of shape (kinds, bins)."""
+        """The number of pairs of each kind in each bin: an array of shape (kinds, bins)."""
         width = self._reach() / self._edge * RING / self._bins
         if self._reach() < NEAR_PART * self._edge:
             return self._counts_near(frame, width)
@@ -140,7 +140,7 @@ class Rdf(Analysis[RdfResult]):
         return numpy.array(rows)
 
     def _counts_near(self, frame: Frame, width: float) -> Any:
-        """The same by a search for pairs that are near each other."""
+        """The same counts by a search for near pairs."""
         assert self._groups is not None
         near = near_pairs(frame.places, (self._bins * width) ** 2)
         bins = numpy.minimum((numpy.sqrt(near.squares) / width).astype(numpy.intp), self._bins - 1)
@@ -151,7 +151,7 @@ class Rdf(Analysis[RdfResult]):
         return numpy.bincount(bins, minlength=self._bins * len(kinds)).reshape(len(kinds), self._bins)
 
     def result(self) -> RdfResult:
-        """What the frames so far say.
+        """The result of the frames so far.
 
         Returns
         -------
@@ -176,7 +176,7 @@ class Rdf(Analysis[RdfResult]):
         return self._told(*total, count, count - 1, partial)
 
     def _told(self, pairs: Any, spread: Any, count: int, others: int, partial: Dict[Pair, RdfResult]) -> RdfResult:
-        """The result of so many ordered pairs in each bin, of so many atoms with so many others each."""
+        """The result for the ordered pairs in each bin, of `count` atoms with `others` other atoms each."""
         edges = numpy.linspace(0, self._reach(), self._bins + 1)
         shells = 4 / 3 * math.pi * numpy.diff(edges**3) / self._edge**3
         ideal = shells * count * max(others, 1)
@@ -187,7 +187,7 @@ class Rdf(Analysis[RdfResult]):
 
 
 def counts_between(ours: Any, theirs: Any, is_same: bool, bins: int, width: float) -> Any:
-    """How many pairs of one atom here and one there are in each bin of a width in ring units; of the same atoms each pair once."""
+    """The number of pairs of `ours` and `theirs` in each bin. Bin widths are in ring units. With `is_same`, each pair counts once."""
     counts = numpy.zeros(bins, dtype=numpy.int64)
     for start in range(0, ours.shape[1], BLOCK):
         rows, others = ours[:, start : start + BLOCK], theirs[:, start:] if is_same else theirs
@@ -206,14 +206,14 @@ def counts_between(ours: Any, theirs: Any, is_same: bool, bins: int, width: floa
 def rdf(
     session: "Session", steps: int, every: int, bins: int = 200, r_max: Optional[float] = None, progress: Progress = False
 ) -> RdfResult:
-    """The radial distribution function of a session on its way.
+    """The radial distribution function of a session as it advances.
 
     Parameters
     ----------
     session : Session
-        It goes on, and stands behind its last step then.
+        The session is advanced, and is left at its last step.
     steps, every : int
-        How many steps it goes on by, and how many there are from one frame to the next. The first frame is the present one.
+        Number of steps to advance, and number of steps between frames. The first frame is the present one.
     bins : int
         As in `Rdf`.
     r_max : float, optional
@@ -224,7 +224,7 @@ def rdf(
     Returns
     -------
     RdfResult
-        r in angstrom, or in the unit of the file if epsilon and mass are not known; g(r) with its errors, by species too.
+        r in angstrom, or in the unit of the file if epsilon and mass are not known; g(r) with its errors, also by species.
 
     Examples
     --------

@@ -1,4 +1,4 @@
-"""The stress and the pressure: the mean over frames, with the long-range term on request."""
+"""The stress and the pressure: means over frames, with the tail correction on request."""
 from __future__ import annotations
 
 from dataclasses import dataclass, field
@@ -19,14 +19,14 @@ NO_STRESS = "a frame must have a stress, got none; use stress= of Frame.of, or S
 
 @dataclass(frozen=True)
 class StressResult:
-    """The stress of some frames. It is the negative of the pressure tensor, as ASE has it: a body that is pressed has one below 0.
+    """The stress of some frames: the negative of the pressure tensor, as in ASE. Compressed bodies have a stress below 0.
 
     Parameters
     ----------
     stress, error : array of shape (3, 3)
         The mean and its standard error, in the unit of pressure.
     pressure : Estimate
-        The negative third of its trace.
+        The negative third of the trace of `stress`.
     units : dict of str to str
         The units of `stress`, `error` and `pressure`.
     """
@@ -43,7 +43,7 @@ class Stress(Analysis[StressResult]):
     Parameters
     ----------
     tail : bool
-        Adds what the pairs beyond the cutoff would, if they were as dense there as anywhere.
+        Adds the contribution of the pairs beyond the cutoff, if the density there is uniform.
     stride : int
         As in `Analysis`.
 
@@ -75,7 +75,7 @@ class Stress(Analysis[StressResult]):
         self._blocks.add(frame.stress - (frame.tails["pressure"] if self._tail else 0.0) * numpy.eye(3))
 
     def result(self) -> StressResult:
-        """What the frames so far say.
+        """The result of the frames so far.
 
         Returns
         -------
@@ -128,7 +128,7 @@ class Pressure(Analysis[Estimate]):
         self._stress.add(frame)
 
     def result(self) -> Estimate:
-        """What the frames so far say.
+        """The result of the frames so far.
 
         Returns
         -------
@@ -144,14 +144,14 @@ class Pressure(Analysis[Estimate]):
 
 
 def stress(session: "Session", steps: int, every: int, tail: bool = False, progress: Progress = False) -> StressResult:
-    """The mean stress of a session on its way, and its pressure.
+    """The mean stress of a session as it advances, and its pressure.
 
     Parameters
     ----------
     session : Session
-        It goes on, and stands behind its last step then.
+        The session is advanced, and is left at its last step.
     steps, every : int
-        How many steps it goes on by, and how many there are from one frame to the next. The first frame is the present one.
+        Number of steps to advance, and number of steps between frames. The first frame is the present one.
     tail : bool
         As in `Stress`.
     progress : bool or callable
@@ -177,14 +177,14 @@ def stress(session: "Session", steps: int, every: int, tail: bool = False, progr
 
 
 def pressure(session: "Session", steps: int, every: int, tail: bool = False, progress: Progress = False) -> Estimate:
-    """The mean pressure of a session on its way.
+    """The mean pressure of a session as it advances.
 
     Parameters
     ----------
     session : Session
-        It goes on, and stands behind its last step then.
+        The session is advanced, and is left at its last step.
     steps, every : int
-        How many steps it goes on by, and how many there are from one frame to the next. The first frame is the present one.
+        Number of steps to advance, and number of steps between frames. The first frame is the present one.
     tail : bool
         As in `Stress`.
     progress : bool or callable

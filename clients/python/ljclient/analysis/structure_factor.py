@@ -1,4 +1,4 @@
-"""The static structure factor S(k): how strongly a liquid or a crystal scatters at a wave vector, by the sums over all atoms."""
+"""The static structure factor S(k): how strongly a liquid or a crystal scatters at a wave vector, from sums over all atoms."""
 from __future__ import annotations
 
 import itertools
@@ -30,15 +30,15 @@ class StructureFactorResult:
     Parameters
     ----------
     k : array of shape (shells,)
-        The mean wave number of each shell, in radians for each unit of length.
+        The mean wave number of each shell, in radians per unit of length.
     s, error : array of shape (shells,)
         S(k), the mean over the wave vectors of the shell, and its standard error. It has no unit.
     vectors : array of shape (shells,)
-        How many wave vectors a shell has, of each two opposite ones one.
+        Number of wave vectors in each shell. Opposite ones count once.
     partial : dict of (str, str) to StructureFactorResult
-        Of two species the same of each pair of them: the mean of `Re(rho_a rho_b*) / sqrt(N_a N_b)` (Ashcroft and Langreth).
+        With two species, the same result for each pair of them: the mean of `Re(rho_a rho_b*) / sqrt(N_a N_b)` (Ashcroft and Langreth).
     frames : int
-        How many frames there were.
+        Number of frames.
     units : dict of str to str
         The units of `k`, `s` and `error`.
     """
@@ -52,17 +52,17 @@ class StructureFactorResult:
     units: Dict[str, str] = field(repr=False)
 
     def plot(self, axes: Any = None) -> Any:
-        """Draws S(k) with its errors, that of each pair of species if there are two.
+        """Draws S(k) with its errors, for each pair of species if there are two.
 
         Parameters
         ----------
         axes : matplotlib.axes.Axes, optional
-            What is drawn into; else a new figure.
+            The axes to draw into. The default is a new figure.
 
         Returns
         -------
         matplotlib.axes.Axes
-            What was drawn into.
+            The axes drawn into.
         """
         axes = axes_of(axes)
         drawn = {"-".join(pair): each for pair, each in self.partial.items()} or {"": self}
@@ -75,18 +75,18 @@ class StructureFactorResult:
 
 
 class StructureFactor(Analysis[StructureFactorResult]):
-    """The structure factor of the frames that are added, at all wave vectors that the box has up to a wave number.
+    """The structure factor of the frames that are added, at all wave vectors of the box up to a wave number.
 
     Parameters
     ----------
     k_max : float, optional
-        The largest wave number, in radians for each unit of length; by default that of 16 waves along the edge.
+        The largest wave number, in radians per unit of length. The default is 16 waves along the edge.
     stride : int
         As in `Analysis`.
 
     Examples
     --------
-    Two atoms half the edge apart, along each axis: they scatter alike where the sum of the three numbers of waves is even.
+    Two atoms half the edge apart along each axis. They scatter in phase where the sum of the three wave indices is even.
 
     >>> from ljclient.analysis import Frame, StructureFactor
     >>> pair = StructureFactor(k_max=1.2)
@@ -123,7 +123,7 @@ class StructureFactor(Analysis[StructureFactorResult]):
         return [(first, second) for first, second in itertools.combinations_with_replacement(things, 2)]
 
     def result(self) -> StructureFactorResult:
-        """What the frames so far say.
+        """The result of the frames so far.
 
         Returns
         -------
@@ -154,12 +154,12 @@ class StructureFactor(Analysis[StructureFactorResult]):
 
 @dataclass(frozen=True)
 class Shells:
-    """The wave vectors of a box up to a length, of each two opposite ones one, in shells by the nearest whole length.
+    """The wave vectors of a box up to a length, one of each opposite pair, in shells by the nearest whole length.
 
     most     the largest number of waves along an axis
-    kept     which of all vectors are kept, whose first number is not below 0
-    numbers  the shell of each of these
-    counts   how many each shell has, and lengths their mean length in waves along the edge
+    kept     indices of these vectors, among all with a first number >= 0
+    numbers  the shell of each vector
+    counts   number of vectors in each shell, and lengths their mean length in waves along the edge
     """
 
     most: int
@@ -170,7 +170,7 @@ class Shells:
 
     @staticmethod
     def of(longest: float) -> "Shells":
-        """Those up to a length. ValueError if there are none."""
+        """The shells up to a length. ValueError if there are none."""
         if longest < 1:
             raise ValueError(f"k_max must be at least 2 pi / edge, got {longest:.3g} times this")
         most = math.floor(longest)
@@ -198,23 +198,23 @@ class Shells:
 def structure_factor(
     session: "Session", steps: int, every: int, k_max: Optional[float] = None, progress: Progress = False
 ) -> StructureFactorResult:
-    """The structure factor of a session on its way.
+    """The structure factor of a session as it advances.
 
     Parameters
     ----------
     session : Session
-        It goes on, and stands behind its last step then.
+        The session is advanced, and is left at its last step.
     steps, every : int
-        How many steps it goes on by, and how many there are from one frame to the next. The first frame is the present one.
+        Number of steps to advance, and number of steps between frames. The first frame is the present one.
     k_max : float, optional
-        As in `StructureFactor`, in radians for each unit of length.
+        As in `StructureFactor`, in radians per unit of length.
     progress : bool or callable
         As in `Session.advance`.
 
     Returns
     -------
     StructureFactorResult
-        k for each angstrom, or for each unit of the file if epsilon and mass are not known; by species too.
+        k per angstrom, or per unit of the file if epsilon and mass are not known; also by species.
 
     Examples
     --------

@@ -1,4 +1,4 @@
-"""The velocity autocorrelation function: its spectrum, and the diffusion coefficient, a third of its integral."""
+"""The velocity autocorrelation function, its spectrum, and the diffusion coefficient, a third of its integral."""
 from __future__ import annotations
 
 from dataclasses import dataclass, field
@@ -25,19 +25,19 @@ class VacfResult:
     times : array of shape (lags + 1,)
         From 0 to the longest lag, in the unit of time.
     vacf, error : array of shape (lags + 1,)
-        The mean product of the velocities of an atom at two times, and its standard error: squares of the unit of velocity.
+        The mean dot product of the velocities of an atom at two times, and its standard error, in squared units of velocity.
     normalized, normalized_error : array of shape (lags + 1,)
-        The same divided by its value at 0.
+        `vacf` divided by its value at 0, and its standard error.
     diffusion : Estimate
         A third of the integral up to the longest lag, by trapezoids.
     frequencies : array of shape (lags + 1,)
-        From 0 to what two frames tell apart, in cycles for each unit of time.
+        From 0 to the Nyquist frequency, in cycles per unit of time.
     spectrum, spectrum_error : array of shape (lags + 1,)
         Four times the cosine transform of `normalized`, in the unit of time: its integral over all frequencies is 1.
     partial : dict of str to VacfResult
-        Of two species the same of each.
+        With two species, the same result for each.
     origins : int
-        How many origins there were.
+        Number of origins.
     units : dict of str to str
         The units of all these.
     """
@@ -61,12 +61,12 @@ class VacfResult:
         Parameters
         ----------
         axes : matplotlib.axes.Axes, optional
-            What is drawn into; else a new figure.
+            The axes to draw into. The default is a new figure.
 
         Returns
         -------
         matplotlib.axes.Axes
-            What was drawn into.
+            The axes drawn into.
         """
         axes = axes_of(axes)
         for name, each in (self.partial or {"": self}).items():
@@ -82,12 +82,12 @@ class VacfResult:
         Parameters
         ----------
         axes : matplotlib.axes.Axes, optional
-            What is drawn into; else a new figure.
+            The axes to draw into. The default is a new figure.
 
         Returns
         -------
         matplotlib.axes.Axes
-            What was drawn into.
+            The axes drawn into.
         """
         axes = axes_of(axes)
         for name, each in (self.partial or {"": self}).items():
@@ -104,15 +104,15 @@ class Vacf(Analysis[VacfResult]):
     Parameters
     ----------
     lags : int
-        The longest lag, in frames that are looked at. By then the function should have come to 0.
+        The longest lag, in analysed frames. The function should have decayed to 0 by then.
     apart : int, optional
-        How many of them there are from one origin to the next; a twentieth of `lags` by default.
+        Number of analysed frames between origins. The default is a twentieth of `lags`.
     stride : int
         As in `Analysis`.
 
     Examples
     --------
-    An atom that turns round, in a time of 4:
+    A velocity that rotates with a period of 4:
 
     >>> from ljclient.analysis import Frame, Vacf
     >>> speeds = Vacf(lags=4)
@@ -141,13 +141,13 @@ class Vacf(Analysis[VacfResult]):
         self._origins.add(frame, numpy.asarray(frame.velocities, dtype=float))
 
     def _compare(self, origin: Any, velocities: Any) -> Any:
-        """The mean product of all atoms, and of each species."""
+        """The mean dot product over all atoms, and by species."""
         assert self._groups is not None
         products = numpy.einsum("ij,ij->i", origin, velocities)
         return [products.mean(), *(products[members].mean() for members in self._groups.members.values())]
 
     def result(self) -> VacfResult:
-        """What the frames so far say.
+        """The result of the frames so far.
 
         Returns
         -------
@@ -195,34 +195,34 @@ class Vacf(Analysis[VacfResult]):
 
 
 def spectrum_of(values: Any, interval: float) -> Any:
-    """Four times the cosine transform of values at 0 and after each interval, by trapezoids, at as many frequencies.
+    """Four times the cosine transform of equally spaced values from 0 on, by trapezoids, at as many frequencies.
 
-    The values are those of an even function, so it is the discrete Fourier transform of them forth and back.
+    The function is even, so this is the discrete Fourier transform of the values and their mirror image.
     """
     there_and_back = numpy.concatenate([values, values[-2:0:-1]])
     return 2 * interval * numpy.fft.rfft(there_and_back).real
 
 
 def vacf(session: "Session", steps: int, every: int, lags: int, apart: Optional[int] = None, progress: Progress = False) -> VacfResult:
-    """The velocity autocorrelation function of a session on its way, with its spectrum.
+    """The velocity autocorrelation function of a session as it advances, with its spectrum.
 
     Parameters
     ----------
     session : Session
-        It goes on, and stands behind its last step then.
+        The session is advanced, and is left at its last step.
     steps, every : int
-        How many steps it goes on by, and how many there are from one frame to the next. The first frame is the present one.
+        Number of steps to advance, and number of steps between frames. The first frame is the present one.
     lags : int
         The longest lag, in frames.
     apart : int, optional
-        How many frames there are from one origin to the next, as in `Vacf`.
+        Number of frames between origins, as in `Vacf`.
     progress : bool or callable
         As in `Session.advance`.
 
     Returns
     -------
     VacfResult
-        In angstrom and femtoseconds, or in the unit of the file and reduced time; by species too.
+        In angstrom and femtoseconds, or in the unit of the file and reduced time, also by species.
 
     Examples
     --------

@@ -30,9 +30,9 @@ class ViscosityResult:
     autocorrelation, error : array of shape (lags + 1,)
         The mean product of a shear stress at two times, and its standard error, in squares of the unit of pressure.
     integral, integral_error : array of shape (lags + 1,)
-        The viscosity by the integral up to each lag. It should no longer change at the longest ones.
+        The viscosity from the integral up to each lag. It should be constant at the longest lags.
     origins : int
-        How many origins there were.
+        Number of origins.
     units : dict of str to str
         The units of all these.
     """
@@ -52,12 +52,12 @@ class ViscosityResult:
         Parameters
         ----------
         axes : matplotlib.axes.Axes, optional
-            What is drawn into; else a new figure.
+            The axes to draw into. The default is a new figure.
 
         Returns
         -------
         matplotlib.axes.Axes
-            What was drawn into.
+            The axes drawn into.
         """
         axes = axes_of(axes)
         axes.errorbar(self.times, self.integral, self.integral_error, elinewidth=0.8)
@@ -68,14 +68,14 @@ class ViscosityResult:
 class Viscosity(Analysis[ViscosityResult]):
     """The viscosity of the frames that are added.
 
-    It is by the five independent shear stresses of a liquid that is alike in all directions (Daivis and Evans, 1994).
+    It uses the five independent shear stresses of an isotropic liquid (Daivis and Evans, 1994).
 
     Parameters
     ----------
     lags : int
-        The longest lag, in frames that are looked at. By then the autocorrelation should have come to 0.
+        The longest lag, in analysed frames. The autocorrelation should have decayed to 0 by then.
     apart : int, optional
-        How many of them there are from one origin to the next; 1 by default.
+        Number of analysed frames between origins. The default is 1; None is a twentieth of `lags`.
     stride : int
         As in `Analysis`.
 
@@ -112,7 +112,7 @@ class Viscosity(Analysis[ViscosityResult]):
         self._temperatures.add(frame.energies["temperature"])
 
     def result(self) -> ViscosityResult:
-        """What the frames so far say.
+        """The result of the frames so far.
 
         Returns
         -------
@@ -132,7 +132,7 @@ class Viscosity(Analysis[ViscosityResult]):
         return ViscosityResult(viscosity, times, mean, error, integral, spread, blocks.count, self._named())
 
     def _size(self) -> float:
-        """What a unit of the integral is, in the unit of viscosity: the volume over the thermal energy, and what units are."""
+        """The viscosity for an integral of 1: the volume over the thermal energy, with the unit conversion."""
         thermal = self._units.boltzmann * self._temperatures.mean()
         return float(self._volume / thermal * self._units.pressure_size**2 / self._units.viscosity_size)
 
@@ -144,26 +144,26 @@ class Viscosity(Analysis[ViscosityResult]):
 
 
 def integral_of(values: Any, interval: float) -> Any:
-    """The integral up to each of some values, by trapezoids."""
+    """The integral up to each value, by trapezoids."""
     return numpy.concatenate([[0.0], numpy.cumsum((values[1:] + values[:-1]) / 2)]) * interval
 
 
 def viscosity(
     session: "Session", steps: int, every: int, lags: int, apart: Optional[int] = 1, progress: Progress = False
 ) -> ViscosityResult:
-    """The shear viscosity of a session on its way.
+    """The shear viscosity of a session as it advances.
 
     Parameters
     ----------
     session : Session
-        It goes on, and stands behind its last step then.
+        The session is advanced, and is left at its last step.
     steps, every : int
-        How many steps it goes on by, and how many there are from one frame to the next. The first frame is the present one.
-        The stress changes within some 10 steps of 2 fs in argon.
+        Number of steps to advance, and number of steps between frames. The first frame is the present one.
+        The stress changes within about 10 steps of 2 fs in argon.
     lags : int
         The longest lag, in frames.
     apart : int, optional
-        How many frames there are from one origin to the next.
+        Number of frames between origins.
     progress : bool or callable
         As in `Session.advance`.
 
