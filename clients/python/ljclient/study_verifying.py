@@ -26,10 +26,10 @@ Played = Tuple[Joints, List[str]]
 
 @dataclass
 class Verified:
-    """What was found.
+    """The findings of a verification.
 
-    folder      of the study
-    misfits     what does not fit, in order
+    folder      the folder of the study
+    misfits     the files that do not fit, in order
     unfinished  records that have no end
     """
 
@@ -42,7 +42,7 @@ class Verified:
         return os.path.join(self.folder, *path.split("/"))
 
     def misfit(self, path: str, why: str) -> None:
-        """Takes in that a file does not fit, and tells it."""
+        """Notes that a file does not fit, and prints why."""
         with self._lock:
             if path not in self.misfits:
                 self.misfits.append(path)
@@ -50,7 +50,7 @@ class Verified:
 
 
 def verify_study(options: argparse.Namespace) -> int:
-    """Verifies the study of a folder, tells what came of it, and returns the exit status."""
+    """Verifies the study of a folder, prints the results, and returns the exit status."""
     folder = os.fspath(options.file)
     try:
         manifest, summed = manifest_in(folder)
@@ -79,7 +79,7 @@ def _heading(manifest: Manifest) -> str:
 
 
 def _look_at_files(manifest: Manifest, found: Verified) -> List[str]:
-    """The files that are there as they are listed, in order. What does not fit is told."""
+    """The files that exist as listed, in order. Files that do not fit are reported."""
     fitting = []
     there = set(files_in(found.folder))
     for path, said in sorted(manifest.files.items()):
@@ -99,7 +99,7 @@ def _look_at_files(manifest: Manifest, found: Verified) -> List[str]:
 
 
 def _look_at_citation(manifest: Manifest, summed: str, found: Verified) -> None:
-    """Tells if the citation is not that of the manifest. A study that is not finished has none."""
+    """Reports a citation that does not fit the manifest. A study that is not finished has none."""
     place = found.place(CITATION)
     check_plain(found.folder, CITATION)
     wanted = citation_of(manifest, summed) if manifest.state == FINISHED else None
@@ -115,17 +115,8 @@ def _look_at_citation(manifest: Manifest, summed: str, found: Verified) -> None:
         found.misfit(CITATION, f"does not fit {MANIFEST}, whose SHA-256 is {summed}: one of them was changed")
 
 
-@dataclass
-class _Job:
-    """A part of a record that is to be played, and how it came out."""
-
-    division: Division
-    part: Part
-    player: PartPlayer
-
-
 def _play_records(options: argparse.Namespace, manifest: Manifest, records: List[str], found: Verified, tell: Tell) -> None:
-    """Plays the records, several parts at the same time, and tells of each record when all of it was played."""
+    """Plays the records, several parts at the same time, and reports on each record once all of it was played."""
     jobs = 1 if options.server else options.jobs or os.cpu_count() or 1
     stop, opener = threading.Event(), opener_of(options)
     most = 1 if jobs == 1 else PARTS_OF_A_JOB * jobs
@@ -145,7 +136,7 @@ def _play_records(options: argparse.Namespace, manifest: Manifest, records: List
 
 
 def _divided(path: str, manifest: Manifest, found: Verified, most: int) -> Optional[Division]:
-    """A record in parts; None if it cannot be read, which is told."""
+    """A record in parts; None, with a message, if it cannot be played."""
     place = found.place(path)
     try:
         division = divided(place, _checkpoints_of(path, manifest, found), most)
@@ -185,7 +176,7 @@ def _begun(
     stop: threading.Event,
     is_server: bool,
 ) -> Callable[[], Tuple[PartPlayer, Played]]:
-    """Has a part be played, and returns what waits for it."""
+    """Starts to play a part, and returns a function that waits for it."""
 
     def tell(text: str) -> None:
         if stop.is_set():
@@ -201,7 +192,7 @@ def _begun(
 
 
 def _told_of_record(path: str, division: Division, played: List[Tuple[PartPlayer, Played]], found: Verified, tell: Tell) -> None:
-    """Tells what came of all parts of a record."""
+    """Prints the results of all parts of a record."""
     whole = PartPlayer(found.place(path), tell, tell, complain)
     joints = Joints(division.plan.file.session, 0)
     for player, (ends, told) in played:
@@ -224,7 +215,7 @@ def _told_of_parts(division: Division) -> str:
 
 
 def _told_at_the_end(options: argparse.Namespace, manifest: Manifest, summed: str, found: Verified) -> int:
-    """Tells the verdict on a study, and returns the exit status."""
+    """Prints the verdict on a study, and returns the exit status."""
     counts: Dict[str, int] = {kind: len(manifest.of_kind(kind)) for kind in ("record", "checkpoint", "figure", "file")}
     parts = [", ".join(counted(number, kind, f"{kind}s") for kind, number in counts.items())]
     if found.misfits:
