@@ -1,4 +1,4 @@
-"""Which connections `watch` and `class` let in: how many of a user may wait, and how many of an address may be on their way."""
+"""Which connections `watch` and `class` let in: how many of a user may wait, and how many of an address may not be in yet."""
 import contextlib
 import math
 import re
@@ -9,7 +9,7 @@ from typing import Dict, FrozenSet, Iterator, List, NamedTuple, Optional, Tuple
 
 from .user_files import rows_of
 
-# After so many bytes without a line feed the server ends a connection.
+# The server ends a connection after so many bytes without a line feed.
 MAX_UNENDED = 1 << 16
 PIECE = 1 << 16
 SECONDS_FOR_FIRST_LINE = 10.0
@@ -31,8 +31,8 @@ def accounts_of(path: str) -> FrozenSet[Account]:
 class Limits:
     """How many connections there may be at once.
 
-    of_an_address  those of an address that are not in: that were not answered `OK HELLO`
-    of_a_user      those that wait, of one name with one token
+    of_an_address  connections of an address that are not in: not yet answered `OK HELLO`
+    of_a_user      waiting connections with one name and one token
     accounts       the users, if they are known: connections of others are counted by their address alone
     """
 
@@ -41,7 +41,7 @@ class Limits:
     accounts: Optional[FrozenSet[Account]] = None
 
     def account_of(self, first: bytes) -> Optional[Account]:
-        """The user whom a first line asks for by name and token. None if it asks for none, or for none who is known."""
+        """The user whom a first line asks for by name and token. None if it asks for none, or for an unknown one."""
         found = FIRST_LINE.match(first)
         account = (found[1], found[2]) if found else None
         return account if self.accounts is None or account in self.accounts else None
@@ -55,8 +55,7 @@ def of_an_address(word: str) -> int:
 
 
 def first_bytes(client: socket.socket) -> bytes:
-    """What a client sends at first: its first line, with more behind it or not, or less if it sends no more. Raises OSError if that
-    does not come in time."""
+    """The first bytes of a client: at least its first line, or less if it sends no more. Raises OSError if they do not come in time."""
     until, data = time.monotonic() + SECONDS_FOR_FIRST_LINE, b""
     while b"\n" not in data and len(data) < MAX_UNENDED:
         client.settimeout(max(until - time.monotonic(), 0.001))
@@ -69,14 +68,14 @@ def first_bytes(client: socket.socket) -> bytes:
 
 
 def close_unanswered(client: socket.socket) -> None:
-    """Closes a connection without a byte. What has come is taken before: else the client would be told of a reset."""
+    """Closes a connection without a byte. Received bytes are read first: else the client would get a reset."""
     with client, contextlib.suppress(OSError):
         client.shutdown(socket.SHUT_WR)
         client.recv(PIECE, socket.MSG_DONTWAIT)
 
 
 class Denials:
-    """Wrong tokens by the address that they come from: of each so many are looked at within ten seconds."""
+    """Wrong tokens, counted by address. Of each address, only so many are checked within ten seconds."""
 
     def __init__(self, of_an_address: int = USUAL_OF_AN_ADDRESS):
         self._most = of_an_address
@@ -84,14 +83,14 @@ class Denials:
         self._counts: Dict[str, int] = {}
 
     def is_full(self, host: str) -> bool:
-        """Whether no more tokens of an address are looked at for now."""
+        """Whether no more tokens of an address are checked for now."""
         if time.monotonic() >= self._begun.get(host, 0.0) + SECONDS_OF_A_COUNT:
             self._begun.pop(host, None)
             self._counts.pop(host, None)
         return self._counts.get(host, 0) >= self._most
 
     def add(self, host: str) -> None:
-        """Counts a wrong one. Of addresses without any in ten seconds nothing is kept."""
+        """Counts a wrong one. Beyond MAX_HOSTS addresses, counts older than ten seconds are dropped."""
         now = time.monotonic()
         if len(self._begun) > MAX_HOSTS:
             self._begun = {each: begun for each, begun in self._begun.items() if now < begun + SECONDS_OF_A_COUNT}
@@ -101,7 +100,7 @@ class Denials:
 
 
 class Whose(NamedTuple):
-    """Whose connections were closed: a user's, or those of an address."""
+    """The user or the address whose connections were closed."""
 
     user: Optional[str] = None
     host: Optional[str] = None
@@ -141,7 +140,7 @@ class Closings:
             yield Closed(whose, self._counts[whose], seconds)
 
     def take_ended(self) -> List[Closed]:
-        """The counts whose ten seconds are over, which begin again with the next connection that is closed."""
+        """Removes and returns the counts whose ten seconds are over. The next closed connection begins a new count."""
         now = time.monotonic()
         ended = [each for each in self.counts() if now - self._begun[each.whose] >= SECONDS_OF_A_COUNT]
         for each in ended:

@@ -14,7 +14,7 @@ BEGIN = "-----BEGIN CERTIFICATE"
 
 
 def alternative(name: str) -> str:
-    """A name of a host as a certificate has it."""
+    """A name of a host as written in a certificate."""
     with contextlib.suppress(ValueError):
         return f"IP:{ipaddress.ip_address(name)}"
     return f"DNS:{name}"
@@ -35,10 +35,10 @@ def made_certificate(names: Sequence[str]) -> str:
 
 
 def certificate_in(made: str) -> str:
-    """The certificate of such a text, without its key."""
+    """The certificate in a text of `made_certificate`, without its key."""
     return made[made.index(BEGIN) :]
 
 
 def fingerprint_of(made: str) -> str:
-    """The SHA-256 of the certificate of such a text, in hexadecimal digits."""
+    """The SHA-256 of the certificate in such a text, in hexadecimal digits."""
     return hashlib.sha256(ssl.PEM_cert_to_DER_cert(certificate_in(made))).hexdigest()

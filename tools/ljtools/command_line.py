@@ -5,14 +5,14 @@ from typing import NoReturn, Sequence
 
 
 class Parser(argparse.ArgumentParser):
-    """Words of a tool, whose help is the text at its head."""
+    """The parser of a tool's words. `about` is the help text."""
 
     def __init__(self, name: str, about: str):
         super().__init__(name, usage=about.strip(), add_help=False, allow_abbrev=False)
         self.add_argument("-h", "--help", action="store_true")
 
     def options(self, words: Sequence[str]) -> argparse.Namespace:
-        """What the words say. Where they ask for help it is printed, and the program ends."""
+        """The options in the words. If they ask for help, it is printed, and the program ends."""
         options = self.parse_args(words)
         if options.help:
             print(self.usage)

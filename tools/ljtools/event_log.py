@@ -7,12 +7,12 @@ import time
 
 from .user_files import Fault
 
-# Where a log cannot be written, connections are passed on all the same.
+# If a log cannot be written, connections are still passed on.
 logging.raiseExceptions = False
 
 
 class EventLog:
-    """Events that are written behind what a file has, or to standard output for `-`. If the file was moved, a new one is begun."""
+    """Events that are appended to a file, or written to standard output for `-`. If the file was moved, a new one is begun."""
 
     def __init__(self, path: str):
         """Raises Fault if the file cannot be written."""
@@ -24,7 +24,7 @@ class EventLog:
             raise Fault(f"cannot write {path}: {error.strerror}") from error
 
     def note(self, event: str, **known: object) -> None:
-        """Writes an event with its time, in UTC. What is None is left out."""
+        """Writes an event with its time, in UTC. None values are left out."""
         now = time.time()
         clock = time.strftime("%Y-%m-%dT%H:%M:%S", time.gmtime(now)) + f".{int(now % 1 * 1000):03}Z"
         said = {name: value for name, value in known.items() if value is not None}

@@ -1,19 +1,19 @@
 """Runs a program that the system kills when its parent ends, however that ends: tools/ljtools/launcher.py PARENT PROGRAM WORD..
 
-setpriv of util-linux does so too, but sets capabilities before, which the units of systemd here refuse.
+setpriv of util-linux does this too, but first sets capabilities, which the systemd units here refuse.
 """
 import ctypes
 import os
 import sys
 
-# Numbers of Linux. To import the module `signal` would take as long as all else here.
+# Linux constants. Importing `signal` would take as long as all else here.
 SET_PDEATHSIG, KILL = 1, 9
-# PIPE and XFSZ, which Python ignores. They would stay ignored in another program.
+# SIGPIPE and SIGXFSZ, which Python ignores. The new program would inherit that.
 IGNORED = (13, 25)
 
 
 def become(parent: int, words: "list[str]") -> None:
-    """Becomes the program of a command line, unless the parent has ended before. Raises OSError."""
+    """Replaces this process by a program, unless the parent has ended. Raises OSError."""
     system = ctypes.CDLL(None)
     system.prctl(SET_PDEATHSIG, KILL)
     if os.getppid() == parent:

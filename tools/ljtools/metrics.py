@@ -42,7 +42,7 @@ class Metrics:
         return text_of([*of_connections(totals), *of_server(server, totals, left), *of_users(totals)])
 
     def _left(self, passed: int, server: Optional[Server]) -> Optional[int]:
-        """How many connections the server still accepts. A new process has had those since the last time at most."""
+        """How many connections the server still accepts. A new process has had at most those since the last call."""
         if server and server.process and server.process != self._process:
             self._passed_before = self._last_passed if self._process else 0
             self._process = server.process
@@ -61,7 +61,7 @@ def of_connections(totals: Totals) -> Iterator[Metric]:
 
 
 def of_server(server: Optional[Server], totals: Totals, left: Optional[int]) -> Iterator[Metric]:
-    """What the server has. Where /proc tells nothing of it, its places are those of the connections that are passed on to it."""
+    """The metrics of the server. If /proc has nothing of it, its taken places are the connections that are passed on to it."""
     if server:
         yield "ljserve_up", "gauge", "Whether the server listens.", [({}, int(server.listens))]
     taken, gone = (server.taken, server.gone) if server else (sum(totals.states.values()) - totals.states.get("new", 0), totals.gone)
@@ -97,12 +97,12 @@ def in_braces(labels: Labels) -> str:
 
 
 def escaped(value: str) -> str:
-    """The value of a label."""
+    """The value of a label, escaped."""
     return value.replace("\\", "\\\\").replace('"', '\\"').replace("\n", "\\n")
 
 
 class Endpoint(ThreadingHTTPServer):
-    """An address at which pages are told to who asks for them by their paths."""
+    """An HTTP server that returns pages by their paths."""
 
     daemon_threads = True
 
@@ -113,7 +113,7 @@ class Endpoint(ThreadingHTTPServer):
         self.pages = pages
 
     def handle_error(self, request: object, client_address: object) -> None:
-        """One who asks and is gone is no matter."""
+        """Ignores clients that are gone."""
 
 
 class Answer(BaseHTTPRequestHandler):
@@ -135,9 +135,9 @@ class Answer(BaseHTTPRequestHandler):
             self.wfile.write(body)
 
     def log_message(self, *_: object) -> None:
-        """Nothing is noted of requests."""
+        """Logs no requests."""
 
 
 def tell(listener: socket.socket, pages: Mapping[str, Page]) -> None:
-    """Tells pages to all who ask, beside what else the program does."""
+    """Serves pages to all who ask, in a thread of its own."""
     threading.Thread(target=Endpoint(listener, pages).serve_forever, daemon=True).start()

@@ -13,26 +13,26 @@ SIGNATURE = b"\r\n\r\n\0\r\nQUIT\n"
 MAX_TEXT = 107
 TEXT = re.compile(rb"PROXY (?:UNKNOWN(?: [^\r\n]*)?|TCP[46] ([0-9A-Fa-f.:]+) [0-9A-Fa-f.:]+ ([0-9]{1,5}) [0-9]{1,5})\r\n")
 LOCAL, PROXY = 0x20, 0x21
-# For each family of a version 2 over TCP how many bytes an address has.
+# Bytes of an address, for each TCP family of version 2.
 SIZES = {0x11: 4, 0x21: 16}
 
 
 class NotWhole(Exception):
-    """More bytes are to come."""
+    """More bytes are needed."""
 
 
 class Stream(Protocol):
-    """What a header is read from: a socket, or bytes that have come."""
+    """A stream with a header: a socket, or received bytes."""
 
     def settimeout(self, seconds: Optional[float], /) -> None:
-        """Says how long to wait."""
+        """Sets how long to wait."""
 
     def recv(self, count: int, /) -> bytes:
         """At most so many bytes."""
 
 
 class Held:
-    """Bytes that have come, read as a socket is."""
+    """Received bytes, read like a socket."""
 
     def __init__(self, data: bytes):
         self.data = data
@@ -48,15 +48,15 @@ class Held:
 
 
 def source_of_bytes(data: bytes) -> Tuple[Optional[str], bytes]:
-    """What the header at the start of some bytes names as the source, as `source_of` does, and the bytes behind it. Raises
-    `NotWhole` if more are needed, and ValueError if there is no header."""
+    """The source in the header at the start of some bytes, as by `source_of`, and the bytes after the header. Raises `NotWhole` if
+    more are needed, and ValueError if there is no header."""
     held = Held(data)
     return source_of(held), held.data
 
 
 def source_of(stream: Stream) -> Optional[str]:
-    """Reads the header at the start of a connection, and no byte more. Returns the HOST:PORT that it names as the source, or None
-    where it names none, as of a balancer's own checks. Raises ValueError if there is no header, and OSError if it does not come."""
+    """Reads the header at the start of a connection, and no byte more. Returns the source in it as HOST:PORT, or None if it names
+    none, as in a balancer's own checks. Raises ValueError if there is no header, and OSError if it does not come."""
     until = time.monotonic() + SECONDS_FOR_HEADER
     head = received(stream, len(SIGNATURE), until)
     source = source_of_version_2(stream, until) if head == SIGNATURE else source_of_version_1(stream, head, until)
@@ -75,7 +75,7 @@ def source_of_version_1(stream: Stream, head: bytes, until: float) -> Optional[s
 
 
 def source_of_version_2(stream: Stream, until: float) -> Optional[str]:
-    """The source that a header in binary names. Further fields are skipped."""
+    """The source that a binary header names. Further fields are skipped."""
     command, family, size = struct.unpack("!BBH", received(stream, 4, until))
     body = received(stream, size, until)
     if command not in (LOCAL, PROXY):
@@ -98,7 +98,7 @@ def joined(host: str, port: int) -> str:
 
 
 def received(stream: Stream, count: int, until: float) -> bytes:
-    """So many bytes, no later than a time. Raises ValueError if the connection ends before."""
+    """Exactly `count` bytes, received before `until`. Raises ValueError if the connection ends first."""
     data = b""
     while len(data) < count:
         stream.settimeout(max(until - time.monotonic(), 0.001))

@@ -1,4 +1,4 @@
-"""What /proc shows of a server on this machine: the connections that it has, and how many it accepts."""
+"""The state of a server on this machine, as /proc shows it: its connections, and how many it accepts."""
 import contextlib
 import pathlib
 import socket
@@ -15,8 +15,8 @@ LISTEN_OPTION, CONNECTIONS_OPTION = "--listen", "--connections"
 
 @dataclass(frozen=True)
 class Server:
-    """Whether a server listens, how many connections it has accepted that are open, and of how many of these the client has ended
-    its side. If its process was found, how many it accepts in all, and which process it is: its number, and when it began."""
+    """Whether a server listens, how many of its accepted connections are open, and in how many of these the client has ended its
+    side. If its process was found: how many connections it accepts, its process number, and its start time."""
 
     listens: bool
     taken: int
@@ -26,7 +26,7 @@ class Server:
 
 
 class Row(NamedTuple):
-    """A TCP socket of this machine. The inode is 0 if no process has accepted it, or has it no more."""
+    """A TCP socket of this machine. Its inode is 0 before a process accepts it and after that closes it."""
 
     host: str
     port: int
@@ -39,7 +39,7 @@ class Row(NamedTuple):
 
 
 def server_at(address: Address) -> Optional[Server]:
-    """What is told of the server at an address. None if that is not on this machine, or /proc tells nothing."""
+    """The state of the server at an address. None if it is on another machine or /proc cannot be read."""
     try:
         hosts = hosts_here(address[0])
         rows = [row for row in rows_of_sockets() if row.port == address[1]]
@@ -67,7 +67,7 @@ def hosts_here(host: str) -> FrozenSet[str]:
 
 
 def rows_of_sockets() -> Iterator[Row]:
-    """The TCP sockets of this machine. Raises OSError if /proc does not tell them."""
+    """The TCP sockets of this machine. Raises OSError if /proc cannot be read."""
     text = (PROC / "net" / "tcp").read_text()
     others = PROC / "net" / "tcp6"
     for line in [*text.splitlines()[1:], *(others.read_text().splitlines()[1:] if others.exists() else [])]:
@@ -77,9 +77,9 @@ def rows_of_sockets() -> Iterator[Row]:
 
 
 def processes_at(hosts: FrozenSet[str], port: int) -> Iterator[Tuple[Tuple[int, str], int]]:
-    """Each process that is a server at an address by its words, and how many connections it accepts.
+    """Each process whose command line is a server at an address, and how many connections it accepts.
 
-    All users may read a process' words, and its owner alone the sockets that it has open.
+    All users may read a process' command line, but only its owner may read its open sockets.
     """
     for folder in PROC.glob("[0-9]*"):
         try:
@@ -92,7 +92,7 @@ def processes_at(hosts: FrozenSet[str], port: int) -> Iterator[Tuple[Tuple[int, 
 
 
 def connections_of(words: List[str], hosts: FrozenSet[str], port: int) -> Optional[int]:
-    """How many connections a server of these words accepts, if it listens at an address."""
+    """The connection limit in a server's command line, if it listens at an address."""
     try:
         listen, accepts = (words[words.index(option) + 1] for option in (LISTEN_OPTION, CONNECTIONS_OPTION))
         host, its_port = address_of(listen)

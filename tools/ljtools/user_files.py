@@ -18,7 +18,7 @@ USUAL = [8, 16384, 16]
 TOKEN_LETTERS = "abcdefghijkmnpqrstuvwxyzABCDEFGHJKLMNPQRSTUVWXYZ23456789"
 TOKEN_LENGTH = 32
 GROUP = 4
-# So many hexadecimal digits of a certificate's SHA-256 stand on a slip to be typed, which no other certificate has.
+# Number of hexadecimal digits of a certificate's SHA-256 to type from a slip. No other certificate has the same.
 DIGITS_TYPED = 32
 NAME = re.compile(rb"[A-Za-z0-9_-]{1,16}")
 TOKEN = re.compile(rb"[A-Za-z0-9]{32}")
@@ -26,11 +26,11 @@ DIGITS = re.compile(rb"[0-9]{1,19}")
 
 
 class Fault(Exception):
-    """What is wrong with a file, or why it cannot be had."""
+    """What is wrong with a file, or why it is unusable."""
 
 
 class User(NamedTuple):
-    """A user who is made: a name and a token."""
+    """A user: a name and a token."""
 
     name: str
     token: str
@@ -42,8 +42,8 @@ def new_users(names: Sequence[str]) -> List[User]:
 
 
 class Way(NamedTuple):
-    """How users reach their server: its HOST:PORT, and whether by TLS, with a file of the certificate's issuer if one is needed; or
-    by the fingerprint of the certificate. `page` is the HOST:PORT of its pages, if it has any, which have the same certificate."""
+    """How users reach their server: its HOST:PORT, and whether by TLS, with a file of the certificate's issuer if needed; or by the
+    fingerprint of the certificate. `page` is the HOST:PORT of its pages, if any. They have the same certificate."""
 
     server: str
     tls: bool = False
@@ -52,33 +52,33 @@ class Way(NamedTuple):
     page: str = ""
 
     def link(self, user: User) -> str:
-        """The link to the page of a user, whose part behind # no browser sends."""
+        """The link to a user's page. Browsers do not send the part after #."""
         return f"https://{self.page}/#{user.name}.{user.token}"
 
     def typed(self) -> str:
-        """As much of the fingerprint as is typed, in groups."""
+        """The typed part of the fingerprint, in groups."""
         return in_groups(self.fingerprint[:DIGITS_TYPED], ":")
 
     def options(self) -> str:
-        """What it adds to a command line of the client."""
+        """The options for the client's command line."""
         if self.fingerprint:
             return f"{self._option_of_page()} --fingerprint {self.typed()}"
         return (" --tls" if self.tls else "") + (f" --ca {shlex.quote(self.ca)}" if self.ca else "")
 
     def _option_of_page(self) -> str:
-        """The option of its pages, which are at the same host nearly always."""
+        """The option `--page`. Its host is nearly always the server's."""
         (host, _, port), of_server = self.page.rpartition(":"), self.server.rpartition(":")[0]
         return "" if not self.page else f" --page {port if host == of_server else self.page}"
 
     def arguments(self) -> str:
-        """What it adds to a call of the client."""
+        """The arguments for `connect`."""
         if self.fingerprint:
             return f',\n                   fingerprint="{self.typed()}"'
         return (", tls=True" if self.tls else "") + (f', ca="{self.ca}"' if self.ca else "")
 
 
 def names_of(words: Sequence[str], servers: int = 1, of_store: Optional[int] = None) -> List[str]:
-    """The names that the words say: themselves, or those of so many students, at servers or in a store."""
+    """The names given by the words: a list of names, or a number of students, for servers or a store."""
     is_count = len(words) == 1 and words[0].isascii() and words[0].isdecimal()
     count, most = int(words[0]) if is_count else len(words), of_store or MAX_USERS * servers
     if words and not 1 <= count <= most:
@@ -97,19 +97,19 @@ def names_of(words: Sequence[str], servers: int = 1, of_store: Optional[int] = N
 
 
 def in_groups(token: str, between: str = " ") -> str:
-    """A token as it is typed with fewer slips: in groups, with blanks that count for nothing."""
+    """A token in groups, for fewer typing errors. The blanks between them do not count."""
     return between.join(token[place : place + GROUP] for place in range(0, len(token), GROUP))
 
 
 def check_quota(quota: Sequence[int]) -> None:
-    """Raises ValueError if a user may not have so much."""
+    """Raises ValueError if a quota is out of range."""
     for number, (name, most) in zip(quota, MAX_NUMBERS.items()):
         if not 0 <= number <= most:
             raise ValueError(f"the {name} of a user must be from 0 to {most}, got {number}")
 
 
 def slip_of(user: User, way: Way) -> str:
-    """What a user is handed out."""
+    """The slip for a user."""
     host, _, port = way.server.rpartition(":")
     return f"""\
 ------------------------------------------------------------------------
@@ -136,7 +136,7 @@ or in Python:
 
 
 def browser_of(user: User, way: Way) -> str:
-    """The lines of a slip for who has a browser alone, if there is a page."""
+    """The lines of a slip about the browser, if there is a page."""
     if not way.page:
         return ""
     return f"""
@@ -151,7 +151,7 @@ certificate, and continue only if its SHA-256 is the fingerprint above.
 
 
 def seal_of(way: Way) -> str:
-    """The lines of a slip that say which certificate the server has, if it is known by that."""
+    """The lines of a slip about the server's certificate, if `way` has its fingerprint."""
     if not way.fingerprint:
         return ""
     return f"""
@@ -174,7 +174,7 @@ def text_of(users: Sequence[User], quota: Sequence[int], slips: Sequence[str]) -
 
 
 class Files(NamedTuple):
-    """Where the users and their slips are written. Without a file the users are printed, and the slips stand with the users."""
+    """The files for users and slips. Without a file of their own, users are printed, and slips are written with the users."""
 
     users: Optional[str]
     slips: Optional[str]
@@ -194,8 +194,7 @@ def make_users(names: Sequence[str], quota: Sequence[int], way: Way, files: File
 
 
 def write_secrets(texts: Dict[str, str], may_replace: bool, first: Callable[[], None] = lambda: None) -> None:
-    """Writes files that their owner alone can read: each of them whole, or none if one cannot be written, or what is done first
-    cannot be."""
+    """Writes files that only their owner can read. Writes each of them whole, or none if one cannot be written or `first` fails."""
     if may_replace:
         texts = {replaceable(path): text for path, text in texts.items()}
     with contextlib.ExitStack() as stack:
@@ -225,7 +224,7 @@ def replaceable(path: str) -> str:
 
 @contextlib.contextmanager
 def written(path: str, text: str) -> Iterator[str]:
-    """The path of a new file with this text, beside the one that it is to become; gone at the end if it has not become it."""
+    """The path of a temporary file with this text, beside `path`. At the end it is removed, unless it was renamed."""
     try:
         descriptor, temporary = tempfile.mkstemp(dir=os.path.dirname(path) or ".", prefix=".users-")
     except OSError as error:
@@ -248,12 +247,12 @@ def is_there(path: str) -> Fault:
 
 
 def put(temporary: str, path: str, may_replace: bool) -> None:
-    """Gives a file its name, at once. One that has it already stays, unless it may be replaced."""
+    """Gives a file its name atomically. An existing file stays unless it may be replaced."""
     try:
         if may_replace:
             os.replace(temporary, path)
         else:
-            # Unlike a rename, it fails if the name is taken, also since a moment ago.
+            # Unlike a rename, this fails if the name is taken, even if just now.
             os.link(temporary, path)
     except FileExistsError:
         raise is_there(path) from None
@@ -267,7 +266,7 @@ def openness_of(mode: int) -> str:
 
 
 def warn_of_output(out: TextIO, better: str = "--out") -> None:
-    """Says if what was printed stands in a file that others can read."""
+    """Warns if the output is a file that others can read or change."""
     try:
         status = os.fstat(out.fileno())
     except (OSError, ValueError):
@@ -278,9 +277,9 @@ def warn_of_output(out: TextIO, better: str = "--out") -> None:
 
 
 class Checked:
-    """The users of a file, line by line, and what is wrong with each line. Tokens are not told.
+    """The users of a file, line by line, and what is wrong with each line. Tokens are not shown.
 
-    With `apart` a token of two users is a fault too, which no server refuses.
+    With `apart` a shared token is also a fault, although no server refuses it.
     """
 
     def __init__(self, apart: bool = False, most: int = MAX_USERS) -> None:
@@ -310,7 +309,7 @@ class Checked:
         return cause_of_words(words) or self.cause_of_name(number, words[0]) or self.cause_of_token(number, words[1])
 
     def cause_of_name(self, number: int, name: bytes) -> Optional[str]:
-        """Why there is no place for a user of this name, if there is none."""
+        """Why a user of this name is refused, or None."""
         if name in self.lines:
             return f"each name must come once, got {name.decode()}, which line {self.lines[name]} has too"
         if len(self.lines) == self._most:
@@ -319,7 +318,7 @@ class Checked:
         return None
 
     def cause_of_token(self, number: int, token: bytes) -> Optional[str]:
-        """Why this token may not be that of one more user, if it may not."""
+        """Why this token is refused for one more user, or None."""
         line = self._tokens.setdefault(token, number)
         return f"each user must have a token of its own, got the one of line {line}" if self._apart and line != number else None
 

@@ -30,11 +30,11 @@ MORE_LINES = re.compile(rb"OK (?:DUMP|LIST)(?: [A-Za-z0-9_-]{1,16})?(?: -?[0-9]+
 CAME_TO = re.compile(rb"OK (ADVANCE|START|REVERSE|RESTORE) (\S{1,16})(?: \S{1,16})? (-?[0-9]{1,13})\Z")
 BEGAN_OR_ENDED = re.compile(rb"OK (LOAD|LOADMIX|DROP) (\S{1,16})(?: |\Z)")
 COUNTED = (b"ADVANCE", b"START")
-# The states of a connection that keeps a place of the server until its turn comes: also of one whose client is gone.
+# States of a connection that keeps a place of the server until its turn comes, even if its client is gone.
 WAITING = ("waits", "gone")
-# Those of who is in: by a connection, or by a page of the class.
+# States of a user who is in: by a connection, or by a page of the class.
 INSIDE = ("in", "page")
-# How the words of these begin, so that a thousand lines of SHOW are passed over at once.
+# The first four letters of these words, so that a thousand lines of SHOW are skipped fast.
 LISTING = {b"DUMP", b"LIST"}
 STEPPING = {b"ADVA", b"STAR", b"REVE", b"REST", b"LOAD", b"DROP"}
 Address = Tuple[str, int]
@@ -44,7 +44,7 @@ class Connection:
     """What is known of a connection, from the first line of its client and from the replies."""
 
     def __init__(self, origin: str, sessions: Optional[Dict[str, Dict[bytes, int]]] = None):
-        """`sessions` has for each user the step that each of its sessions has come to, over all connections."""
+        """`sessions` has for each user the current step of each of its sessions, over all connections."""
         self.origin = origin
         self.since = time.time()
         self.user = ""
@@ -65,7 +65,7 @@ class Connection:
         return self.origin.rpartition(":")[0]
 
     def hear_client(self, data: bytes) -> None:
-        """Takes the name out of a client's first line."""
+        """Reads the name in a client's first line."""
         if self._first_line is None:
             return
         self._first_line += data[:MAX_LINE]
@@ -104,7 +104,7 @@ class Connection:
             self.refusal = line.decode()
 
     def _note_step(self, line: bytes) -> None:
-        """Counts the steps of an ADVANCE or a START. A session that was not seen before is counted from its first step on."""
+        """Counts the steps of an ADVANCE or a START. A session is counted from the first step that is seen of it."""
         if found := CAME_TO.match(line):
             steps, name, step = self._sessions[self.user], found[2], int(found[3])
             self.steps += abs(step - steps.get(name, step)) if found[1] in COUNTED else 0
@@ -115,14 +115,14 @@ class Connection:
                 del self._sessions[self.user][found[2]]
 
     def leave(self) -> bool:
-        """Notes that its client is gone. Returns whether it waits, so that the server has it until its turn comes."""
+        """Notes that its client is gone. Returns whether it waits: then the server keeps it until its turn comes."""
         self.is_gone = True
         if self.state == "waits":
             self.state = "gone"
         return self.state == "gone"
 
     def state_at_end(self) -> str:
-        """What it is when it has ended, which tells whether its user was in."""
+        """Its state after its end, which shows whether its user was in."""
         return {**dict.fromkeys(INSIDE, "ended"), "denied": "denied"}.get(self.state, "not in")
 
     def end(self) -> None:
@@ -130,13 +130,13 @@ class Connection:
         self.state = self.state_at_end()
 
     def known(self) -> Dict[str, object]:
-        """What a log has of it."""
+        """Its values in a log."""
         seconds = round(time.time() - self.since, 3)
         counts = {"commands": self.commands, "steps": self.steps, "seconds": seconds}
         return {"user": self.user or None, "from": self.origin, **counts, "refusal": self.refusal or None}
 
     def text(self, state: str = "") -> str:
-        """The line that is shown of it: with its own state, if no other is said."""
+        """The line that shows it: with its own state, unless another is given."""
         refusal = f"  {self.refusal}" if self.refusal else ""
         commands = f"{self.commands} command{'' if self.commands == 1 else 's'}"
         state = state or self.state
@@ -144,14 +144,14 @@ class Connection:
 
 
 def clock(seconds: float) -> str:
-    """A time of today, or with its day."""
+    """A time, with its day unless that is today."""
     then, now = time.localtime(seconds), time.localtime()
     return time.strftime("%H:%M:%S" if then[:3] == now[:3] else "%Y-%m-%d %H:%M:%S", then)
 
 
 @dataclass(frozen=True)
 class Totals:
-    """What was seen so far: connections by their state, those whose clients are gone, and what users did who were let in."""
+    """The counts so far: connections by state, those whose clients are gone, and commands and steps of users who were let in."""
 
     states: Dict[str, int]
     gone: int
@@ -163,10 +163,10 @@ class Totals:
 
 
 class Board:
-    """All connections, how many there may be, and what is shown of them: a log, or on a terminal a screen that is drawn again."""
+    """All connections, their limits, and the lines that show them: a log, or on a terminal a screen that is redrawn."""
 
     def __init__(self, out: Optional[TextIO], log: Optional[EventLog] = None, address: str = "", limits: Limits = Limits()):
-        """`address` is where users connect to: it stands in the first line of the screen."""
+        """`address` is where users connect to: the first line of the screen shows it."""
         self._out = out
         self._log = log
         self._address = address
@@ -189,7 +189,7 @@ class Board:
             self._say(text)
 
     def _say(self, text: str) -> None:
-        """Writes such a line, for who has the lock."""
+        """Writes such a line. The caller has the lock."""
         line = f"{clock(time.time())}  {text}\n"
         self._write(self._erased() + line + self._table() if self._is_screen else line)
 
@@ -211,7 +211,7 @@ class Board:
             return list(self._open)
 
     def totals(self) -> Totals:
-        """What was seen until now."""
+        """The counts until now."""
         with self._lock:
             commands, steps = Counter(self._commands), Counter(self._steps)
             for each in self._open:
@@ -236,7 +236,7 @@ class Board:
             self._open.append(connection)
 
     def admits(self, connection: Connection) -> bool:
-        """Has a connection begin, unless there are too many of its address that are not in: then it is to be closed."""
+        """Adds a connection, or returns False if too many of its address are not in: then it is to be closed."""
         with self._lock:
             same = [each for each in self._open if each.host == connection.host and each.state not in INSIDE]
             if len(same) >= self._limits.of_an_address:
@@ -246,7 +246,7 @@ class Board:
             return True
 
     def lets_wait(self, connection: Connection, first: bytes) -> bool:
-        """Hears the first line of a connection, unless too many of its user wait: then it must be closed, and does not count any more."""
+        """Takes the first line of a connection, or removes it and returns False if too many of its user wait: then it must be closed."""
         account = self._limits.account_of(first)
         with self._lock:
             same = [each for each in self._open if account and each.account == account and each.state in WAITING]
@@ -259,12 +259,12 @@ class Board:
             return True
 
     def turns_away(self, connection: Connection) -> None:
-        """Notes that a connection is closed for the number of those of its user, or of all."""
+        """Notes that a connection is closed since there are too many of its user, or of all."""
         with self._lock:
             self._closings.add(Whose(user=connection.user) if connection.user else Whose(host=connection.host))
 
     def note_passed(self) -> None:
-        """Notes that the server has a connection more."""
+        """Notes that the server has a further connection."""
         with self._lock:
             self._passed += 1
 
@@ -274,7 +274,7 @@ class Board:
             self.say(connection.text())
 
     def leaves_out(self, connection: Connection) -> None:
-        """Has a connection counted no more, and nothing told of its end."""
+        """Removes a connection, without a line for its end."""
         with self._lock:
             self._open.remove(connection)
 
@@ -295,7 +295,7 @@ class Board:
             self._log.note(event, **known)
 
     def draw_on(self) -> None:
-        """Tells how many connections were closed, and draws the screen again, for as long as the program runs."""
+        """Reports how many connections were closed, and redraws the screen, for as long as the program runs."""
         while True:
             self.tell_closed()
             if self._is_screen:
@@ -304,7 +304,7 @@ class Board:
             time.sleep(SECONDS_OF_A_SCREEN)
 
     def tell_closed(self) -> None:
-        """Tells of whom how many connections were closed within the ten seconds that are over."""
+        """Reports the counts of closed connections whose ten seconds are over."""
         with self._lock:
             ended = self._closings.take_ended()
         for each in ended:
@@ -312,12 +312,12 @@ class Board:
             self.notes("closed", **{"user": each.whose.user, "from": each.whose.host}, count=each.count, seconds=each.seconds)
 
     def _erased(self) -> str:
-        """What takes the lines of open connections away."""
+        """The codes that erase the lines of open connections."""
         up, self._drawn = self._drawn, 0
         return f"\033[{up}A\r\033[J" if up else "" if self._typed is None else "\r\033[J"
 
     def _table(self) -> str:
-        """The lines of open connections in place of those that were drawn before: as many as the terminal has room for."""
+        """The lines of open connections, which replace those drawn before: as many as the terminal has room for."""
         width, height = shutil.get_terminal_size()
         erased = self._erased()
         closed = [each.text() for each in self._closings.counts()]
@@ -329,7 +329,7 @@ class Board:
         return erased + "".join(row[: width - 1] + "\n" for row in rows) + typed
 
     def _write(self, text: str) -> None:
-        """Writes a text. Where nobody reads it, connections are passed on all the same."""
+        """Writes a text. If nobody reads it, connections are still passed on."""
         if self._out is None:
             return
         with contextlib.suppress(OSError, ValueError):
@@ -338,8 +338,8 @@ class Board:
 
 
 def serve(client: socket.socket, connection: Connection, server: Address, board: Board) -> None:
-    """Passes on what a connection carries, from its first line on. One whose first line does not come in time, or of whose user too
-    many wait, is closed without a byte, and the server never sees it."""
+    """Passes on the data of a connection, from its first line on. If that does not come in time, or too many of its user wait, the
+    connection is closed without a byte, and the server never sees it."""
     first = b""
     try:
         first = first_bytes(client)
@@ -355,7 +355,7 @@ def serve(client: socket.socket, connection: Connection, server: Address, board:
 
 
 def carry(client: socket.socket, server: Address, connection: Connection, board: Board, first: bytes) -> None:
-    """Passes on what a connection carries, the first bytes of its client and the rest, until both directions have ended, or one of
+    """Passes on the data of a connection, the first bytes of its client and the rest, until both directions have ended, or one of
     them is broken."""
     try:
         with client, socket.create_connection(server, SECONDS_TO_CONNECT) as there:
@@ -378,8 +378,8 @@ def carry(client: socket.socket, server: Address, connection: Connection, board:
 
 
 def carry_up(client: socket.socket, there: socket.socket, connection: Connection, data: bytes) -> None:
-    """Passes on what a client has sent and sends. After a server that takes no more, the rest is dropped, so that the client still
-    gets the replies; a client that is gone is told to the server. If it waited, it is waited for until the server lets go of it."""
+    """Passes on the data of a client. If the server takes no more, the rest is dropped, so that the client still gets the replies. If
+    the client is gone, both directions to the server are shut. If it waited, only one is, until the server closes the connection."""
     try:
         while data:
             if not sent(there, data):
@@ -394,7 +394,7 @@ def carry_up(client: socket.socket, there: socket.socket, connection: Connection
 
 
 def carry_down(there: socket.socket, client: socket.socket, connection: Connection, board: Board) -> None:
-    """Passes on what the server sends, and then that it has ended. A client that is gone is told to the server."""
+    """Passes on the data of the server, and then its end. If the client is gone, both connections are shut."""
     with contextlib.suppress(OSError):
         while data := there.recv(PIECE):
             if connection.hear_server(data):
@@ -406,7 +406,7 @@ def carry_down(there: socket.socket, client: socket.socket, connection: Connecti
 
 
 def sent(stream: socket.socket, data: bytes) -> bool:
-    """Sends all of some bytes, for as long as that takes. Returns whether it could be done."""
+    """Sends all of some bytes, however long that takes. Returns whether it succeeded."""
     try:
         stream.sendall(data)
     except OSError:
@@ -421,7 +421,7 @@ def shut(stream: socket.socket, how: int) -> None:
 
 
 def pass_on(listener: socket.socket, server: Address, board: Board, has_header: bool = False) -> None:
-    """Passes all connections on to a server, for as long as the program runs. With a header each begins with one of PROXY."""
+    """Passes all connections on to a server, for as long as the program runs. With `has_header` each begins with a PROXY header."""
     threading.Thread(target=board.draw_on, daemon=True).start()
     accept = accept_behind_header if has_header else accept_at_once
     while True:
@@ -438,7 +438,7 @@ def pass_on(listener: socket.socket, server: Address, board: Board, has_header: 
 
 
 def accept_at_once(client: socket.socket, connection: Connection, server: Address, board: Board) -> None:
-    """Has a thread serve a connection, if it is admitted: one that is closed costs none. Raises RuntimeError if there is no thread."""
+    """Serves a connection in a thread, if it is admitted. One that is closed needs none. Raises RuntimeError if there is no thread."""
     if not board.admits(connection):
         close_unanswered(client)
         return
@@ -450,7 +450,7 @@ def accept_at_once(client: socket.socket, connection: Connection, server: Addres
 
 
 def accept_behind_header(client: socket.socket, connection: Connection, server: Address, board: Board) -> None:
-    """The same of a connection whose address stands in its header, for which the thread waits."""
+    """The same for a connection whose address is in its header. The thread waits for the header."""
 
     def serve_if_admitted() -> None:
         if not takes_header(client, connection, board):
@@ -464,7 +464,7 @@ def accept_behind_header(client: socket.socket, connection: Connection, server: 
 
 
 def takes_header(client: socket.socket, connection: Connection, board: Board) -> bool:
-    """Takes the header of PROXY off, with the client's address. Returns whether there was one; else the connection is closed."""
+    """Reads the PROXY header, with the client's address. Returns whether there was one; else the connection is closed."""
     try:
         connection.origin = source_of(client) or connection.origin
     except (OSError, ValueError) as error:
@@ -477,7 +477,7 @@ def takes_header(client: socket.socket, connection: Connection, board: Board) ->
 
 
 def prepare(client: socket.socket) -> None:
-    """Has bytes sent at once, and a client noticed that is gone without a word."""
+    """Makes a socket send bytes at once, and notice a client that vanishes."""
     client.setsockopt(socket.IPPROTO_TCP, socket.TCP_NODELAY, 1)
     client.setsockopt(socket.SOL_SOCKET, socket.SO_KEEPALIVE, 1)
     for name, number in SILENCE.items():
@@ -492,7 +492,7 @@ def written(address: Sequence[object]) -> str:
 
 
 def address_of(word: str) -> Address:
-    """The address that a word says. Raises ValueError where it says none."""
+    """The address in a word. Raises ValueError if there is none."""
     host, _, port = word.rpartition(":")
     if not host or not re.fullmatch("[0-9]{1,5}", port) or int(port) > 65535:
         raise ValueError(f"an address must be HOST:PORT, got {word}")
@@ -509,12 +509,12 @@ def listener_at(address: Address) -> socket.socket:
 
 
 def cause_of(error: OSError) -> str:
-    """Why an address cannot be listened on, without the address once more."""
+    """Why an address cannot be listened on, without repeating the address."""
     return (error.strerror or str(error)).partition(" (while")[0]
 
 
 def make_room() -> None:
-    """Lets there be as many connections as the system allows: each has two ends, and threads that need little memory."""
+    """Allows as many connections as the system does: each has two sockets, and threads that need little memory."""
     threading.stack_size(STACK)
     most = resource.getrlimit(resource.RLIMIT_NOFILE)[1]
     with contextlib.suppress(OSError, ValueError):

@@ -1,4 +1,4 @@
-"""Symbols in place of those of a session, whose own may be names of species, such as A and B, that name no element."""
+"""Replacements for the symbols of a session, which may be names of species, such as A and B, that are not elements."""
 from __future__ import annotations
 
 from typing import Iterable, List, Mapping, Optional, Sequence
@@ -6,7 +6,7 @@ from typing import Iterable, List, Mapping, Optional, Sequence
 from .names import checked_symbol, shortened
 from .reading import Frame
 
-# The symbol that is to stand in place of each one of a session.
+# The replacement for each symbol of a session.
 Replacements = Mapping[str, str]
 # The symbols of all elements, by their numbers.
 ELEMENTS = frozenset(
@@ -17,13 +17,13 @@ ELEMENTS = frozenset(
 
 
 def wanted(symbols: Iterable[str]) -> str:
-    """How the replacements of these symbols are said, with argon for the first as an example."""
+    """The argument that gives replacements for these symbols, with argon for the first as an example."""
     first, *others = sorted(set(symbols))
     return "symbols={" + ", ".join([f"{first!r}: 'Ar'", *(f"{symbol!r}: .." for symbol in others)]) + "}"
 
 
 def replaced(symbols: Sequence[str], replacements: Replacements) -> List[str]:
-    """What stands in place of each of these symbols. Raises ValueError if one is left out, or if something is no symbol."""
+    """The replacement for each of these symbols. Raises ValueError if one is missing, or if something is not a symbol."""
     if not isinstance(replacements, Mapping):
         raise ValueError(f"symbols must give a symbol for each one of the session, got {shortened(replacements)}; use {wanted(symbols)}")
     for symbol in symbols:

@@ -13,7 +13,7 @@ _signal = importlib.import_module("_signal")
 
 @contextlib.contextmanager
 def held() -> Iterator[None]:
-    """Has an interrupt from the keyboard wait until the end. Other threads than the main one get none."""
+    """Holds back an interrupt from the keyboard until the end. Threads other than the main thread get none."""
     before = _signal.getsignal(signal.SIGINT)
     if before is None or threading.current_thread() is not threading.main_thread():
         yield

@@ -46,5 +46,5 @@ TEXTS: Dict[str, Dict[str, str]] = {
 
 
 def said(language: str, name: str, **parts: object) -> str:
-    """A text in a language, in English if it has none."""
+    """A text in a language, or in English if the language has none."""
     return TEXTS.get(language, TEXTS["en"])[name].format(**parts)

@@ -6,7 +6,7 @@ import os
 
 
 class RecordTarget:
-    """A file that a record is written to. What it had before stays until the record begins."""
+    """A file that a record is written to. Its old content stays until the record begins."""
 
     def __init__(self, target: str, name: str):
         self.target = target
@@ -39,7 +39,7 @@ class RecordTarget:
 
 
 def _lock(descriptor: int) -> None:
-    """Has no other record be written to a file. BlockingIOError if one is; file systems without locks have none."""
+    """Locks a file for one record. BlockingIOError if another one has locked it; no effect on file systems without locks."""
     try:
         import fcntl
     except ImportError:

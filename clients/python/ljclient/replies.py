@@ -1,4 +1,4 @@
-"""Words of replies, the numbers that they are, and the rows of two lists: sessions, and what is saved in one."""
+"""Words of replies, the numbers in them, and the rows of two lists: sessions, and the branches of a session."""
 from __future__ import annotations
 
 import re
@@ -8,14 +8,14 @@ from .errors import BadReply
 
 
 class Saved(NamedTuple):
-    """What is saved in a session.
+    """A branch of a session.
 
     Attributes
     ----------
     name : str
         Its name.
     step : int
-        The step that it was saved at.
+        The step at which it was saved.
     """
 
     name: str
@@ -44,7 +44,7 @@ class Row(NamedTuple):
 
 
 def fields(line: str, count: int) -> List[str]:
-    """The words of a line of a reply, which are so many."""
+    """The words of a line of a reply, which must be `count` words."""
     words = line.split(" ")
     if len(words) != count:
         raise BadReply(f"{line!r} is not {count} words")
@@ -52,21 +52,21 @@ def fields(line: str, count: int) -> List[str]:
 
 
 def whole_number(word: str) -> int:
-    """The number that a word of a reply is."""
+    """A word of a reply as a number."""
     if not re.fullmatch(r"-?[0-9]{1,60}", word):
         raise BadReply(f"{word[:80]!r} is not a number")
     return int(word)
 
 
 def whole_numbers(words: Sequence[str], count: int) -> List[int]:
-    """The numbers that the words of a reply are, which are so many."""
+    """The words of a reply, which must be `count` words, as numbers."""
     if len(words) != count:
         raise BadReply(f"{' '.join(words)[:80]!r} are not {count} numbers")
     return [whole_number(word) for word in words]
 
 
 def of_session(line: str, words: List[str]) -> List[str]:
-    """The words of the reply to a command, which is of the session that was asked for."""
+    """The words of the reply to a command, which must name the session of the command."""
     name = line.split(" ")[1]
     if words[1:2] != [name]:
         raise BadReply(f"session {name} was asked for, and the reply is {' '.join(words)!r}")
@@ -74,7 +74,7 @@ def of_session(line: str, words: List[str]) -> List[str]:
 
 
 def number_after(line: str, words: List[str], index: int) -> int:
-    """The number that stands last in the reply to a command of a session, at this index of its words."""
+    """The number at this index, the last word of the reply to a command of a session."""
     if len(of_session(line, words)) != index + 1:
         raise BadReply(f"{line} was answered {' '.join(words)!r}")
     return whole_number(words[index])

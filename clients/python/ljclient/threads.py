@@ -1,4 +1,4 @@
-"""Several threads that use one user: what each of them asks for is whole, and one comes after the other."""
+"""Several threads that use one user: each call is completed before the next one begins."""
 from __future__ import annotations
 
 import functools
@@ -8,7 +8,7 @@ Method = TypeVar("Method", bound=Callable[..., Any])
 
 
 def whole(method: Method) -> Method:
-    """A method of a user or a session during which other threads wait that use the same user."""
+    """A method of a user or a session, during which other threads that use the same user wait."""
 
     @functools.wraps(method)
     def alone(self: Any, *arguments: Any, **named: Any) -> Any:

@@ -19,13 +19,13 @@ Accounts = Dict[str, Account]
 
 
 def accounts_at(path: pathlib.Path, most: int = MAX_USERS) -> Accounts:
-    """The users of a file, so many at most. Raises Fault if it cannot be read or something is wrong with it."""
+    """The users of a file, at most `most`. Raises Fault if the file cannot be read or is faulty."""
     return {row[0].decode(): Account(row[1], b" ".join(row[2:]).decode()) for row in rows_of(str(path), most)}
 
 
 class Changes(NamedTuple):
-    """What has changed of the users of a store up to a change of this number: who is one, who is not one any more, and of whom
-    something is to be put aside, who may be one again."""
+    """The changes of a store's users up to change `number`: new and changed users, removed users, and users with data to put
+    aside, who may have been added again."""
 
     number: int
     accounts: Accounts
@@ -34,7 +34,7 @@ class Changes(NamedTuple):
 
 
 def changes_behind(base: Base, number: int) -> Changes:
-    """What has changed of the users of a store behind a change. One that has none has no change."""
+    """The changes of a store's users after change `number`. A store that never had users has none."""
     rows = base.rows("select name, token, quota, removed, changed from account where changed > ? order by changed", (number,))
     gone, aside = [row[0] for row in rows if not row[1]], [row[0] for row in rows if row[3]]
     return Changes(rows[-1][4] if rows else number, accounts_of(rows), gone, aside)
@@ -55,7 +55,7 @@ def is_one(base: Base, name: str, account: Account) -> bool:
 
 
 def user_of(line: bytes, accounts: Accounts) -> Optional[str]:
-    """The user whose name and token a first line has, without its line feed."""
+    """The user named by a first line without line feed, if its token fits."""
     words = words_of(line)
     if len(line) > MAX_LINE or len(words) != 3 or words[0] != b"HELLO":
         return None

@@ -20,7 +20,7 @@ if TYPE_CHECKING:
 SECONDS_FOR_HELLO = 30.0
 SECONDS_AFTER_END = 1.0
 SECONDS_TO_READ = 10.0
-# What a check of the front sends, which is denied, or closed without a byte where no server answers.
+# Sent by a check of the front, which is denied, or closed without a byte if no server answers.
 CHECK = (b"HELLO", b"-", b"-")
 MAX_BYTES_WAITING = MAX_BODY + MAX_LINE + 1
 
@@ -41,7 +41,7 @@ class Client(Receiver):
         self.passed: Optional[Passed] = None
         self.is_full = False
 
-    # What happens.
+    # Events.
 
     def connection_made(self, transport: asyncio.BaseTransport) -> None:
         assert isinstance(transport, asyncio.Transport)
@@ -64,13 +64,13 @@ class Client(Receiver):
             self.user.go_on()
 
     def _hear(self, data: bytes) -> None:
-        """Takes bytes. If there is more than an item among those that wait, no more are read."""
+        """Takes bytes. Reading pauses when more bytes wait than an item may have."""
         if self._reader.feed(data) > MAX_BYTES_WAITING and not self._is_paused:
             self._is_paused = True
             self._transport.pause_reading()
 
     def _hear_first(self) -> None:
-        """Takes the header of PROXY and the first line, when they are whole."""
+        """Takes the PROXY header and the first line, when they are whole."""
         if self._has_header and not self._takes_header():
             return
         line, end, _ = self._first.partition(b"\n")
@@ -88,7 +88,7 @@ class Client(Receiver):
             self.deny()
 
     def enter(self, user: User) -> None:
-        """Has it be with its user."""
+        """Assigns it to its user."""
         self.user = user
         rest, self._first = self._first.partition(b"\n")[2], b""
         self.read_on()
@@ -103,7 +103,7 @@ class Client(Receiver):
         self._transport.resume_reading()
 
     async def pass_on(self, owner: Owner, seconds: float) -> None:
-        """Has another front have it. Raises OSError or `asyncio.TimeoutError` if that is not reached."""
+        """Passes it to another front. Raises OSError or `asyncio.TimeoutError` if the front is not reached."""
         header = (self._header or b"PROXY UNKNOWN\r\n") if owner.has_header else b""
         passed = Passed(self, header + self._first)
         await asyncio.wait_for(asyncio.get_running_loop().create_connection(lambda: passed, *address_of(owner.address)), seconds)
@@ -115,7 +115,7 @@ class Client(Receiver):
             self._front.leaves_out(self)
 
     def _takes_header(self) -> bool:
-        """Takes the header off if it is whole. A connection without one is closed."""
+        """Removes the header if it is whole. A connection without one is closed."""
         try:
             source, rest = source_of_bytes(self._first)
         except NotWhole:
@@ -130,7 +130,7 @@ class Client(Receiver):
         return True
 
     def eof_received(self) -> bool:
-        """The client sends no more. Who waits and has sent nothing behind its first line is taken as gone."""
+        """Notes that the client sends no more. If it waits and sent only its first line, it is closed."""
         self._has_sent_all = self.seen.is_gone = True
         if self.passed is not None:
             self.passed.transport.write_eof()
@@ -140,7 +140,7 @@ class Client(Receiver):
             self._close()
         else:
             self.user.go_on()
-        # In TLS no side ends alone.
+        # TLS has no half-close.
         return self._transport.can_write_eof()
 
     def connection_lost(self, error: Optional[Exception]) -> None:
@@ -168,7 +168,7 @@ class Client(Receiver):
         if self.user is not None:
             self.user.go_on()
 
-    # What its user does with it.
+    # Called by its user.
 
     def next_item(self) -> Optional[Item]:
         """The next item, if it is whole."""
@@ -183,12 +183,12 @@ class Client(Receiver):
         return self._reader.taken + self._reader.held
 
     def has_item_before(self, position: int) -> bool:
-        """Whether the next item was whole when so many bytes had come."""
+        """Whether the next item ends within the first `position` bytes."""
         self._next = self._next or self._reader.next()
         return self._next is not None and self._reader.taken <= position
 
     def take_no_more(self) -> None:
-        """Takes no more items, so that the connection ends behind the last reply."""
+        """Takes no more items, so that the connection ends after the last reply."""
         self._reader.end()
 
     def has_ended(self) -> bool:
@@ -213,8 +213,8 @@ class Client(Receiver):
         self.finish()
 
     def finish(self) -> None:
-        """Ends the connection behind what was told, or without what is not read in ten seconds. What is still sent is read for a
-        second, so that the last reply is not lost."""
+        """Ends the connection after its replies, without those that are not read in ten seconds. Bytes that still come are read for
+        a second, so that the last reply is not lost."""
         if self.is_lost or self._is_over:
             return
         self._is_over = True
@@ -229,7 +229,7 @@ class Client(Receiver):
         asyncio.get_running_loop().call_later(SECONDS_AFTER_END, self._close)
 
     def _close(self) -> None:
-        """Closes it once: a transport of TLS that is closed twice cannot be aborted."""
+        """Closes it once: a TLS transport that is closed twice cannot be aborted."""
         if not self._transport.is_closing():
             self._transport.close()
 
@@ -245,7 +245,7 @@ class Client(Receiver):
 
 
 class Passed(Receiver):
-    """The connection of a client to the front that has its user. What comes passes as it is."""
+    """The connection of a client to the front that has its user. All bytes pass unchanged."""
 
     def __init__(self, client: Client, first: bytes):
         self._client, self._first = client, first
@@ -275,8 +275,8 @@ class Passed(Receiver):
 
 
 class Link(Receiver):
-    """The connection of a user to the server, from its first line on. `left` is how many items it still may have: with the last one
-    of those that a connection may have the server would end it."""
+    """The connection of a user to the server, from its first line on. `left` is how many items it may still send, one less than
+    the server allows: the server would end it at the last one."""
 
     most_items = MAX_ITEMS - 1
 
@@ -320,7 +320,7 @@ class Link(Receiver):
         self._transport.write(items)
 
     def hold(self, is_held: bool) -> None:
-        """Reads no replies for as long as they cannot be told."""
+        """Reads no replies while they cannot be sent on."""
         if is_held != self.is_held and not self._is_closed:
             self.is_held = is_held
             (self._transport.pause_reading if is_held else self._transport.resume_reading)()

@@ -27,19 +27,19 @@ SECONDS_BETWEEN_TRIES = 0.01
 SECONDS_TO_SETTLE = 10.0
 SECONDS_OF_A_STATUS = 1.0
 SECONDS_BETWEEN_LOOKS = 1.0
-# A place that others share is asked so often whether this front may go on, and for so long when it does not answer.
+# Seconds between calls of `hold` at a shared place, and seconds of failed calls after which this front ends.
 SECONDS_BETWEEN_HOLDS, SECONDS_TO_HOLD = 0.5, 60.0
-# So long it is tried to reach the front that has a user.
+# Time limits to find a user's front, and to connect to it.
 SECONDS_TO_FIND, SECONDS_TO_PASS_ON = 60.0, 2.0
 VERSION, TRIAL = "version", "trial"
-# The status of a server whose words or users are none.
+# Exit status of a server with invalid words or users.
 BAD_WORDS = 2
 HAS_BAD_WORDS = how_it_ended(BAD_WORDS)
 NOBODY = Account(b"", "0 0 0")
 
 
 class Options(NamedTuple):
-    """What the command line says."""
+    """Command-line options."""
 
     listener: socket.socket
     place: Place
@@ -51,7 +51,7 @@ class Options(NamedTuple):
 
 
 class Listening(Protocol):
-    """What lets clients come in until it is closed."""
+    """Accepts clients until it is closed."""
 
     def close(self) -> None:
         ...
@@ -63,7 +63,7 @@ class Front:
     seconds_for_hello: Optional[float] = None
 
     def __init__(self, options: Options, board: Board):
-        """Has one be at its place, which has begun."""
+        """The place in `options` must have begun."""
         self.has_header = options.has_header
         self._options, self._board, self._place = options, board, options.place
         self._store = Store(self._place.base)
@@ -87,7 +87,7 @@ class Front:
     # Users.
 
     async def _take_stored(self) -> bool:
-        """Has the users be those of the store, if something has changed of these. Returns whether the store has any."""
+        """Updates the users from the store if they have changed there. Returns whether the store has or had any."""
         number, changed, gone, aside = await asyncio.to_thread(changes_behind, self._store.base, self._change)
         if number > self._change:
             accounts = {**(self._accounts if self._change else {}), **changed}
@@ -98,7 +98,7 @@ class Front:
         return bool(number)
 
     async def _take_users(self, accounts: Accounts, aside: Sequence[str] = ()) -> None:
-        """Has these users in place of those there were. Who was stopped is tried again, and what is kept of some is put aside."""
+        """Replaces the users by these. Users who were stopped are tried again, and the data of those in `aside` is put aside."""
         before, self._accounts = self._accounts, accounts
         again = [*self._refused, *(name for name, user in self._users.items() if user.stopped)]
         self._refused = {}
@@ -116,27 +116,27 @@ class Front:
         await self._claim_all(again)
 
     async def _claim_all(self, names: Sequence[str]) -> None:
-        """Has users here before they come."""
+        """Claims users before they connect."""
         for name in names:
             if name in self._accounts and name not in self._refused:
                 await self._claimed(name)
 
     def _give_up(self, user: User, is_aside: bool) -> None:
-        """Lets go of a user that was removed, or was stopped, unless something of it is being written."""
+        """Stops a removed user, and forgets a stopped one unless a write of its data is under way."""
         if (user.name not in self._accounts or is_aside) and not user.stopped:
             user.stop("the user was removed")
         if user.stopped and not user.is_busy():
             self.forget(user)
 
     def forget(self, user: User) -> None:
-        """Knows a user no more, who is read again when it comes."""
+        """Forgets a user, who is read again at the next claim."""
         if user.stopped and user.seat is not None:
             self._hosts.give_back(user)
         del self._users[user.name]
         self._store.forget(user.name)
 
     async def _put_aside(self, name: str) -> None:
-        """Has what is kept of a user who was removed be out of the way, unless another front has it, and does so."""
+        """Puts the data of a removed user aside, unless another front has the user and does so."""
         if name in self._claims:
             await asyncio.wait([self._claims[name]])
         while name in self._users:
@@ -158,7 +158,7 @@ class Front:
         return self._claims[name]
 
     async def _claim(self, name: str) -> Optional[Owner]:
-        """Has a user here, unless another front has it, and returns that. What is damaged stops that user alone."""
+        """Claims and reads a user, or returns the front that has it. Damaged data stops this user only."""
         account = self._accounts.get(name, NOBODY)
         if name in self._users:
             return None
@@ -182,7 +182,7 @@ class Front:
         return None
 
     def listener_of(self, user: User) -> Optional[Hear]:
-        """Who is told each command of a user with its reply, if somebody is."""
+        """The callback for each command of a user with its reply, if any."""
         return None
 
     def begin_task(self, work: Coroutine[object, object, None]) -> "asyncio.Task[None]":
@@ -212,7 +212,7 @@ class Front:
             self._board.ends(client.seen)
 
     def leaves_out(self, client: Client) -> None:
-        """Counts a client no more that another front has, or that is a check."""
+        """Stops counting a client that another front has or that is a check."""
         client.is_left_out = True
         self._board.leaves_out(client.seen)
 
@@ -220,7 +220,7 @@ class Front:
         return user_of(line, self._accounts)
 
     def find(self, name: str, client: Client) -> None:
-        """Has a client be with its user, here or at another front."""
+        """Connects a client to its user, here or at another front."""
         if self._is_ending.is_set() or not self.may_tell():
             client.abort()
         elif name in self._users:
@@ -260,17 +260,17 @@ class Front:
     # The server.
 
     def heed_signals(self) -> None:
-        """Has signals begin it again, or end it, in the loop that runs now."""
+        """Handles the signals for restart and end, in the running loop."""
         loop = asyncio.get_running_loop()
         loop.add_signal_handler(signal.SIGHUP, self._begin_anew)
         loop.add_signal_handler(signal.SIGTERM, self._end)
         loop.add_signal_handler(signal.SIGINT, self._end)
 
     async def run(self) -> int:
-        """Serves until it is told to end, and returns the exit status."""
+        """Serves until it is ended, and returns the exit status."""
         if not await self._take_stored():
             await self._take_users(accounts_at(pathlib.Path(self._options.words.users)))
-        # What they did since their snapshots takes its time, so it is computed before they come.
+        # Replay of the commands since the snapshots takes time: it begins before clients connect.
         await self._claim_all([] if self._place.is_shared else await asyncio.to_thread(self._store.names_with_records))
         if not self._users:
             self._hosts.add(next(iter(self._accounts.values()), NOBODY).quota)
@@ -281,7 +281,7 @@ class Front:
         await self._is_ending.wait()
         if not self._status:
             await self._settle()
-        # Where nobody listens no more is told, so that another front takes over at once.
+        # No replies are sent once nobody listens, so another front takes over at once.
         listening.close()
         tasks += self._tasks
         for task in tasks:
@@ -291,12 +291,12 @@ class Front:
         return self._status
 
     async def listen(self) -> Listening:
-        """Has clients come in from now on."""
+        """Starts to accept clients."""
         loop = asyncio.get_running_loop()
         return await loop.create_server(lambda: Client(self), sock=self._options.listener, backlog=128)
 
     async def _settle(self) -> None:
-        """Has what was taken answered, and snapshots of all users, so that they are soon put back. Not all may come to it in time."""
+        """Finishes the items that users took, and takes snapshots, so that users are soon put back. Some may not finish in time."""
         for user in [*self._users.values()]:
             user.settle()
         end = time.monotonic() + SECONDS_TO_SETTLE
@@ -317,7 +317,7 @@ class Front:
             await self._hold()
 
     async def _hold(self) -> None:
-        """Asks whether this front may go on, and does what waited for that."""
+        """Renews the lease of this front, and does what waited for it."""
         asked, might_tell = time.monotonic(), self.may_tell()
         try:
             if await asyncio.to_thread(self._place.hold):
@@ -333,7 +333,7 @@ class Front:
                 user.go_on()
 
     def may_tell(self) -> bool:
-        """Whether nobody can have taken over yet, so that what needs no record may be told."""
+        """Whether no other front can have taken over, so unrecorded replies may be sent."""
         return time.monotonic() < self._held + self._place.seconds_of_lease
 
     def is_well(self) -> bool:
@@ -341,12 +341,12 @@ class Front:
         return self._hosts.is_well() and self.may_tell() and not self._is_ending.is_set()
 
     def note_server_end(self, ended: str, begun: int) -> None:
-        """A server has ended, where so many were begun."""
+        """Notes the end of a server, after `begun` starts."""
         if ended == HAS_BAD_WORDS and begun == 1:
             self._fail(f"cannot start the server: {ended}", BAD_WORDS)
 
     async def note_version(self) -> None:
-        """Has a file name the version of the program, and notes if that is another."""
+        """Stores the version of the program at the place, and notes a change of it."""
         version = await version_of(self._options.words.program)
         before = await asyncio.to_thread(self._place.text, VERSION)
         if before != version:
@@ -361,13 +361,13 @@ class Front:
             why = "it computes differently from the last program; use the last one, or another folder"
             raise Fault(f"cannot go on by {self._options.words.program}: {why}")
 
-    # What it is told from outside.
+    # Requests from outside.
 
     def _begin_anew(self) -> None:
         self._anew = asyncio.get_running_loop().create_task(self._begin_another())
 
     async def _begin_another(self) -> None:
-        """Reads the users again, and ends all servers when users have settled, so that others are begun. Their program may be new."""
+        """Reads the users again, and restarts all servers when users have settled. The new ones may run a new program."""
         try:
             await self.try_program()
             await self._take_users(self._accounts if self._change else accounts_at(pathlib.Path(self._options.words.users)))
@@ -379,7 +379,7 @@ class Front:
         self._hosts.end_all()
 
     async def _take_changes(self) -> None:
-        """Has the users be those of the store soon after something was changed there."""
+        """Updates the users soon after a change in the store."""
         while True:
             await asyncio.sleep(SECONDS_BETWEEN_LOOKS)
             with contextlib.suppress(StoreFault):
@@ -390,7 +390,7 @@ class Front:
         self._is_ending.set()
 
     def fail(self, why: str) -> None:
-        """Ends all, since something cannot be written: nobody is told what is not kept."""
+        """Ends the front after a failed write: no reply is sent for what is not kept."""
         self._fail(why, 1)
 
     def _fail(self, why: str, status: int) -> None:
@@ -403,13 +403,13 @@ class Front:
             client.abort()
 
     def note(self, event: str, **known: object) -> None:
-        """Says what happens to users and servers, and has it in the log and in the status."""
+        """Prints and logs an event of users or servers, and updates the status."""
         self._board.notes(event, **known)
         self._board.say(" ".join([event, *(f"{name} {value}" for name, value in known.items())]))
         self._put_status()
 
     def known(self) -> Known:
-        """What is told of all."""
+        """The front's status."""
         users = {name: each.known() for name, each in self._users.items() if name in self._accounts}
         users |= {name: {"state": "stopped", "why": why} for name, why in self._refused.items() if name in self._accounts}
         syncs = {"syncs": self._writer.syncs, "sync_seconds": round(self._writer.seconds, 3)}
@@ -419,7 +419,7 @@ class Front:
         self._place.tell(json.dumps(self.known()))
 
     async def _look_after(self) -> None:
-        """Ends connections that are to be ended, and tells the status as it is."""
+        """Ends kicked connections, and updates the status."""
         while True:
             await asyncio.sleep(SECONDS_OF_A_STATUS)
             self._end_kicked()

@@ -15,17 +15,17 @@ STATES = {"ready": "ready", "put_back": "is put back", "stopped": "stopped"}
 
 
 class Front(Protocol):
-    """What is asked of a front."""
+    """The methods of a front used here."""
 
     def is_well(self) -> bool:
         """Whether there is a server that answers."""
 
     def known(self) -> Known:
-        """What is told of all, as it stands in the status."""
+        """The contents of the status."""
 
 
 def pages_of(front: Front, board: Board) -> Dict[str, Page]:
-    """The pages of a front, each made in the loop that runs now. Threads may ask for them."""
+    """The pages of a front, each made in the running loop. Threads may ask for them."""
 
     def health() -> Tuple[int, str]:
         return (200, "ok\n") if front.is_well() else (503, "no server answers\n")
@@ -39,7 +39,7 @@ def pages_of(front: Front, board: Board) -> Dict[str, Page]:
 
 
 def in_loop(page: Page, loop: asyncio.AbstractEventLoop) -> Page:
-    """A page that a loop makes. One that does not come to it is not well."""
+    """A page that a loop makes. If the loop does not make it, its status is 503."""
 
     def made() -> Tuple[int, str]:
         future: "concurrent.futures.Future[Tuple[int, str]]" = concurrent.futures.Future()
@@ -53,7 +53,7 @@ def in_loop(page: Page, loop: asyncio.AbstractEventLoop) -> Page:
 
 
 def of_front(known: Known, is_well: bool, users_in: int) -> Iterator[Metric]:
-    """What a front has of its server, of users and of its store."""
+    """The metrics of a front's server, users and store."""
     users = [*known["users"].values()]
     states = Counter(user["state"] for user in users)
     yield "ljserve_up", "gauge", "Whether the server answers.", [({}, int(is_well))]

@@ -1,8 +1,8 @@
 """The servers of a front: one for each quota in use, and another when all its names are taken.
 
-A server has users of the front's own, whose names it lends to users. A name is lent again when all sessions that it had were
-dropped, and who leaves with steps pending keeps it until they are done. A server has 64 places, of which two are left for who asks
-whether it answers and for a link that is renewed.
+A server has a fixed set of names, which the front lends to users. A name is lent again when all of its sessions were dropped. A user
+who leaves with pending steps keeps the name until they are done. A server has 64 places: two are left for the check that it answers
+and for a link that is renewed.
 """
 from __future__ import annotations
 
@@ -24,9 +24,9 @@ if TYPE_CHECKING:
 
 SECONDS_BETWEEN_TRIES = 0.01
 SECONDS_OF_A_START = 1.0
-# A server is asked once a second, is not well without an answer for so long, and then is ended.
+# Time between checks of a server, and without an answer until it is unwell and until it is killed.
 SECONDS_BETWEEN_QUESTIONS, SECONDS_TO_ANSWER, SECONDS_TO_END = 1.0, 3.0, 10.0
-# Where a name is wanted, it is waited for one that is soon free for so long, and for pending steps of who is away for so long.
+# Longest wait for a name that is soon free, time between looks, and time away before a user's pending steps are waited for.
 SECONDS_TO_WAIT, SECONDS_BETWEEN_LOOKS, SECONDS_AWAY = 2.0, 0.1, 600.0
 
 
@@ -38,7 +38,7 @@ class Seat(NamedTuple):
 
 
 class Host:
-    """A server of a quota, which is begun again when it has ended, and its names: those that are free, and who has the others."""
+    """A server of a quota, which is restarted when it ends, and its names: the free ones, and the users who have the others."""
 
     def __init__(self, quota: str, hosts: Hosts):
         self.quota, self._hosts = quota, hosts
@@ -48,7 +48,7 @@ class Host:
         self._answered, self._begun = 0.0, 0
 
     async def run(self) -> None:
-        """Begins a server, and another one when it has ended, for as long as it is wanted."""
+        """Begins a server, and restarts it when it ends, while it is in `Hosts.all`."""
         while self in self._hosts.all:
             begun = time.monotonic()
             try:
@@ -60,7 +60,7 @@ class Host:
                 await asyncio.sleep(SECONDS_OF_A_START)
 
     async def _own_server(self) -> str:
-        """Begins a server, connects all users to it who have a name of it, and returns how it has ended."""
+        """Begins a server, connects all users who have its names, and returns how it ended."""
         ends = self._hosts.ends
         await self._hosts.front.try_program()
         self.server = server = await begin(self._hosts.words, self.quota)
@@ -77,13 +77,13 @@ class Host:
             for user in self.users.values():
                 user.lose_link()
         finally:
-            server.kill()  # else `_watch`, whose cancellation may be lost at a reply that comes just then, would go on
+            server.kill()  # else `_watch` would continue if its cancellation is lost at a reply that comes just then
             others.cancel()
             await asyncio.gather(others, return_exceptions=True)
         return ended
 
     async def _watch(self, server: Server) -> None:
-        """Asks the server again and again, as a user of its own, and ends one that does not answer."""
+        """Checks the server repeatedly as the user WATCHER, and kills it if it does not answer."""
         self._answered = time.monotonic()
         while server.is_there():
             with contextlib.suppress(OSError, asyncio.TimeoutError):
@@ -106,11 +106,11 @@ class Host:
         return is_there and time.monotonic() < self._answered + SECONDS_TO_ANSWER
 
     def known(self) -> Known:
-        """What the status has of it."""
+        """Its entry in the status."""
         return {"process": self.server and self.server.process.pid, "quota": self.quota, "users": len(self.users)}
 
     def is_soon_free(self) -> bool:
-        """Whether one of the names that are not free may soon be: its sessions are dropped, or its user is leaving."""
+        """Whether a name may soon be free: its sessions are being dropped, or its user is leaving."""
         return len(self.users) + len(self.free) < len(NAMES) or any(user.is_leaving() for user in self.users.values())
 
     async def connect(self, user: User, is_new: bool) -> None:
@@ -125,8 +125,8 @@ class Host:
                 await asyncio.sleep(SECONDS_BETWEEN_TRIES)
 
     def link_is_lost(self, link: Link, had_no_place: bool) -> None:
-        """A server that has closed a connection may have done what it did not reply, so it is ended, and all is told again. One that
-        had no place for it has done nothing."""
+        """Ends the server: it may have done commands without a reply, so all is put back at a new one. One that had no place for the
+        link has done nothing."""
         if had_no_place:
             self._hosts.front.begin_task(self._connect_again(link))
         else:
@@ -138,7 +138,7 @@ class Host:
             await self.connect(link.user, link.is_new)
 
     async def clean(self, name: str) -> None:
-        """Has a name be free when its sessions were dropped, each after its pending steps. A new server has none of it."""
+        """Frees a name after its sessions were dropped, each after its pending steps. A new server has none of them."""
         server = self.server
         while server is not None and server is self.server and server.is_there():
             with contextlib.suppress(OSError, ValueError, IndexError):
@@ -156,8 +156,8 @@ class Host:
 
 
 class Hosts:
-    """The servers of a front. `ends` is how often all were ended, `begun` how many were begun, and `restarts` how many of these in
-    the place of another one."""
+    """The servers of a front. `ends` is how often all were ended, `begun` the number of starts, and `restarts` the number of these
+    in place of an ended one."""
 
     def __init__(self, front: Front, words: Words):
         self.front, self.words = front, words
@@ -172,8 +172,8 @@ class Hosts:
         return host
 
     async def lend(self, user: User) -> None:
-        """Has a user have a name at a server of its quota: a free one, that of who is away for the longest time, or one of a
-        further server."""
+        """Lends a user a name at a server of its quota: a free one, the name of the user who is away for the longest time, or one of
+        a new server."""
         begun = time.monotonic()
         while not user.stopped and user.seat is None:
             hosts = [host for host in self.all if host.quota == user.quota]
@@ -197,7 +197,7 @@ class Hosts:
             await host.connect(user, True)
 
     def give_back(self, user: User) -> "asyncio.Task[None]":
-        """Has a user have its name no more. The task has ended when that is free."""
+        """Takes its name from a user. The returned task ends when the name is free."""
         assert user.seat is not None
         (host, name), user.seat = user.seat, None
         user.lose_link()
@@ -205,7 +205,7 @@ class Hosts:
         return self.front.begin_task(host.clean(name))
 
     def move(self, user: User, quota: str) -> None:
-        """Has a user have another quota, where all is put back."""
+        """Moves a user to another quota, and puts all back there."""
         user.quota = quota
         if user.seat is not None:
             self.give_back(user)
@@ -217,7 +217,7 @@ class Hosts:
             self.front.begin_task(user.seat.host.connect(user, False))
 
     def note_end(self, host: Host, ended: str) -> None:
-        """Takes it that a server has ended. One without users is begun again only if there is no other."""
+        """Notes the end of a server. One without users is restarted only if there is no other."""
         self._last_end = ended
         self.front.note("server ended", why=ended)
         self.front.note_server_end(ended, self.begun)
@@ -240,11 +240,11 @@ class Hosts:
                 host.server = None
 
     def is_well(self) -> bool:
-        """Whether some server answers: who is at another one is put back when that is begun again."""
+        """Whether some server answers: users of another one are put back when it is restarted."""
         return any(host.is_well() for host in self.all)
 
     def known(self) -> Known:
-        """What the status has of them."""
+        """Their entries in the status."""
         servers = [host.known() for host in self.all]
         first = next((each["process"] for each in servers if each["process"]), None)
         known = {"begun": self.begun, "restarts": self.restarts, "last_end": self._last_end}

@@ -13,8 +13,8 @@ OK_BYE, BODY, LONG, ENOUGH = b"OK BYE\n", b"ERR 04 BODY\n", b"ERR 05 LONG\n", b"
 
 
 class Item(NamedTuple):
-    """An item as it was sent, and the words of its line, none if it is too long. One that ends its connection has the reply to it:
-    it does not go to the server, whose connection goes on."""
+    """An item as it was sent, and the words of its line, none if it is too long. An item that ends its connection has a
+    `last_reply`, and does not go to the server, whose connection stays."""
 
     raw: bytes
     words: Words
@@ -35,7 +35,7 @@ def words_of(line: bytes) -> Words:
 
 
 def body_of(words: Words) -> Optional[int]:
-    """How many bytes follow a line, or None if it is that of a load without a count."""
+    """How many bytes follow a line, or None for a load without a valid count."""
     if not words or words[0] not in LOADS:
         return 0
     count = words[-1]
@@ -45,7 +45,7 @@ def body_of(words: Words) -> Optional[int]:
 
 
 class ItemReader:
-    """Cuts a stream into items, up to the one that ends it. `held` is how many bytes are not cut yet, and `taken` how many are."""
+    """Cuts a stream into items, up to the one that ends it. `held` bytes are not cut yet, and `taken` bytes are."""
 
     def __init__(self, most: int = MAX_ITEMS) -> None:
         self._held = bytearray()
@@ -58,13 +58,13 @@ class ItemReader:
         return len(self._held)
 
     def feed(self, data: bytes) -> int:
-        """Takes some bytes, and returns how many are held. Those behind the end are dropped."""
+        """Takes bytes, and returns how many are held. Bytes after the end are dropped."""
         if not self.has_ended:
             self._held += data
         return len(self._held)
 
     def next(self) -> Optional[Item]:
-        """The next item, if it is whole. Behind the last one that a connection may have stands what ends it."""
+        """The next item, if it is whole. After the last one that a connection may have comes an item that ends it."""
         if self.has_ended or self._left and not self._held:
             return None
         item = self._first() if self._left else Item(b"", (), ENOUGH)
@@ -78,12 +78,12 @@ class ItemReader:
         return item
 
     def end(self) -> None:
-        """Drops what was not cut, and all that comes."""
+        """Drops the held bytes, and all that come later."""
         self.has_ended = True
         self._held.clear()
 
     def _first(self) -> Optional[Item]:
-        """The item that begins what is held, if it is whole."""
+        """The first item of the held bytes, if it is whole."""
         end = self._held.find(b"\n", 0, MAX_UNENDED) + 1
         if not end:
             return Item(b"", (), LONG) if len(self._held) >= MAX_UNENDED else None

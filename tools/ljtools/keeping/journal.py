@@ -1,12 +1,12 @@
 """The journals of earlier versions, a file NAME.journal for each user, which are taken over into the store.
 
-It begins with a line that has the number of the format and the name of the user. A record is
+A journal begins with a line that has the format number and the user's name. A record is
 
     LENGTH CHECK           7 digits, and 8 of the SHA-256 of all text up to them
-    REPLY ITEM             so many bytes: the reply, and then the item as it was sent
+    REPLY ITEM             LENGTH bytes: the reply, and then the item as it was sent
     CHECK                  on a line of its own: 16 digits of the SHA-256 of all text up to them
 
-with all line feeds included, and the checks themselves left out. A record at the end that is not whole was told to nobody.
+with all line feeds included, and the checks themselves left out. No reply was sent for an incomplete record at the end.
 """
 import hashlib
 import pathlib
@@ -24,8 +24,8 @@ BYTES_OF_TAIL = 18
 
 
 def whole_records(data: bytes, name: str) -> Iterator[Told]:
-    """The records of a journal that are whole. Raises `Damaged` at one that was changed. Zeros at the end are what a power cut may
-    leave of a record: a whole one ends with a line feed."""
+    """The whole records of a journal. Raises `Damaged` at a changed one. Zeros at the end may be left by a power cut: a whole record
+    ends with a line feed."""
     data = data.rstrip(b"\0")
     head = HEAD.format(name).encode()
     if not data.startswith(head):
@@ -60,13 +60,13 @@ def names_in(folder: pathlib.Path) -> List[str]:
 
 
 def take_over(folder: pathlib.Path, name: str, store: Store) -> None:
-    """Has the records of a journal in a store. Raises `Damaged`, OSError or `StoreFault`, and leaves it where it is."""
+    """Puts a journal's records into a store. Raises `Damaged`, OSError or `StoreFault`, and then leaves the journal."""
     put_in(folder, name, store, [*whole_records(path_of(folder, name).read_bytes(), name)])
 
 
 def put_in(folder: pathlib.Path, name: str, store: Store, records: List[Told]) -> None:
-    """Has these records of a journal in a store, and then the journal in the folder of those that were taken over. Where that was
-    broken off in between, they are there already."""
+    """Writes the records of a journal to a store, and then moves the journal to the folder BEFORE. After an interruption in between,
+    the store has them already."""
     found = store.read(name)
     if not found.seq and not found.records:
         store.write([Change(name, records)])
@@ -80,7 +80,7 @@ def put_in(folder: pathlib.Path, name: str, store: Store, records: List[Told]) -
 
 
 def take_over_all(folder: pathlib.Path, store: Store, refuse: Callable[[str, str], None]) -> List[str]:
-    """Takes over all journals of a folder, but for those that cannot be, which is told. Returns whose were taken over."""
+    """Takes over all journals of a folder. Calls `refuse` for damaged or unusable ones, and returns the other names."""
     taken = []
     for name in names_in(folder):
         try:

@@ -12,7 +12,7 @@ SECONDS_TO_WAIT = 5.0
 
 
 def kick(place: str, name: str) -> None:
-    """Has the front of a user end that one's connections, and waits until it has. Raises Fault if there is none, or no such user."""
+    """Asks a user's front to end the user's connections, and waits for that. Raises Fault without such a front or user."""
     (kick_in_database if is_address(place) else kick_in_folder)(place, name)
     print(f"{name}: all connections are ended")
 
@@ -22,7 +22,7 @@ def kick_in_folder(place: str, name: str) -> None:
     try:
         if name not in json.loads(pathlib.Path(place, STATUS).read_text())["users"]:
             raise Fault(f"cannot end the connections of {name}: {place} has no such user")
-        # Also where root asks for it, no link of the folder's owner is followed.
+        # Even for root, this follows no link that the folder's owner made.
         with contextlib.suppress(FileExistsError):
             asked.touch(0o600, exist_ok=False)
     except (OSError, ValueError, KeyError) as error:
@@ -42,7 +42,7 @@ def kick_in_database(place: str, name: str) -> None:
 
 
 def comes_to_end(is_asked: Callable[[], bool]) -> bool:
-    """Waits until something is asked for no more. Returns whether it came to that."""
+    """Waits until `is_asked` returns False. Returns whether it did so in time."""
     end = time.monotonic() + SECONDS_TO_WAIT
     while is_asked():
         if time.monotonic() > end:

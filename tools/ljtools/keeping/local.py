@@ -1,7 +1,7 @@
 """A client within this process, which shares its user with the client that is in over the network.
 
-Its commands go in transactions: each is done between two commands of the other client, and what it changes is written as one, so that
-after any end either all of it is kept or nothing. A thread of its own speaks the protocol over a pair of sockets, without a HELLO.
+Its commands form transactions: each is done between two commands of the other client, and its changes are written together, so that
+after any end either all or none are kept. A thread of its own speaks the protocol over a pair of sockets, without a HELLO.
 """
 from __future__ import annotations
 
@@ -17,14 +17,14 @@ if TYPE_CHECKING:
     from .ends import Client
     from .user import User
 
-# The server's limit of a connection is kept to by the front's own one.
+# The front's own connection keeps to the server's limit.
 NO_LIMIT = 1 << 62
 
 
 class LocalClient(Receiver):
-    """Such a client. `behind` is the client that was in when its transaction was asked for, and up to where that had sent its items:
-    these are done before. `has_changed` is whether others have changed something since its last transaction, and `is_typed` whether
-    what it sends was typed."""
+    """A client within this process. `behind` is the client that was in when the transaction was asked for, and how many bytes of
+    items it had sent: these are done first. `has_changed` is whether others have changed something since the last transaction, and
+    `is_typed` whether its commands were typed."""
 
     def __init__(self, user: User):
         self._user, self._loop = user, asyncio.get_running_loop()
@@ -39,19 +39,19 @@ class LocalClient(Receiver):
 
     @classmethod
     async def begun(cls, user: User) -> Tuple[LocalClient, socket.socket]:
-        """A client of a user, and the socket by which it is spoken to."""
+        """A client of a user, and the socket that its thread uses."""
         here, there = socket.socketpair()
         client = cls(user)
         await client._loop.create_connection(lambda: client, sock=here)
         user.locals.add(client)
         return client, there
 
-    # What its thread does.
+    # Called by its thread.
 
     @contextlib.contextmanager
     def transaction(self) -> Iterator[bool]:
-        """What is asked within is a transaction. It begins when its turn has come, and has ended when all is written. Yields whether
-        others have changed something since the last one. Raises ConnectionError if the user is let in no more."""
+        """Makes a transaction of the commands within. It begins at its turn, and ends when all is written. Yields whether others
+        have changed something since the last one. Raises ConnectionError if the user is no longer let in."""
         self._wait(self._begin())
         try:
             yield self.has_changed
@@ -61,7 +61,7 @@ class LocalClient(Receiver):
     def _wait(self, work: Coroutine[Any, Any, None]) -> None:
         asyncio.run_coroutine_threadsafe(work, self._loop).result()
 
-    # What its loop does.
+    # Called in its loop.
 
     async def _begin(self) -> None:
         self._turn = turn = self._loop.create_future()
@@ -84,7 +84,7 @@ class LocalClient(Receiver):
         return self._turn is not None
 
     def begin(self, number: int) -> None:
-        """Has its transaction begin, when its user has so many records."""
+        """Begins its transaction, after record `number` of its user."""
         assert self._turn is not None
         self.has_changed, self.is_over = number != self.number, False
         turn, self._turn = self._turn, None
@@ -92,16 +92,16 @@ class LocalClient(Receiver):
             turn.set_result(None)
 
     def has_ended(self) -> bool:
-        """Whether all of its transaction was taken."""
+        """Whether all items of its transaction were taken."""
         self._next = self._next or self._reader.next()
         return self.is_lost or self.is_over and self._next is None
 
     def end(self, number: int) -> None:
-        """Has its transaction have ended, behind so many records."""
+        """Ends its transaction, after record `number` of its user."""
         self.number = number
 
     def note_written(self) -> None:
-        """All of its transaction is kept."""
+        """Notes that its transaction is kept."""
         if self._end is not None and not self._end.done():
             self._end.set_result(None)
 
@@ -115,14 +115,14 @@ class LocalClient(Receiver):
             self._transport.write(replies)
 
     def abort(self, why: str) -> None:
-        """Ends it, since its user is let in no more."""
+        """Ends it, since its user is no longer let in."""
         self.is_lost = True
         for future in (self._turn, self._end):
             if future is not None and not future.done():
                 future.set_exception(ConnectionError(why))
         self._transport.abort()
 
-    # What happens.
+    # Events.
 
     def connection_made(self, transport: asyncio.BaseTransport) -> None:
         assert isinstance(transport, asyncio.Transport)
@@ -133,7 +133,7 @@ class LocalClient(Receiver):
         if self._user.local is self:
             self._user.go_on()
         elif (item := self._reader.next()) is not None:
-            # Its thread takes leave.
+            # Its thread says BYE.
             self.tell(item.last_reply)
             self._transport.close()
 

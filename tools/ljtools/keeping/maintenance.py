@@ -23,7 +23,7 @@ MOST_SHOWN = 20
 
 @contextlib.contextmanager
 def opened(place: str, is_made: bool = False) -> Iterator[Store]:
-    """The store of a place, which a front may have at the same time. Raises Fault if there is none, unless it is made then."""
+    """The store of a place, which a front may use at the same time. If there is none, makes it or raises Fault."""
     if is_address(place):
         with contextlib.closing(database_at(place)) as base:
             if is_made:
@@ -34,7 +34,7 @@ def opened(place: str, is_made: bool = False) -> Iterator[Store]:
     if not file.exists() and not is_made:
         raise Fault(f"cannot use {place}: it has no store; use `tools/users NAME.. --store {place}` or start `tools/keep` to make one")
     if not file.exists():
-        # Also where root makes it, it is of the folder's owner.
+        # The folder's owner owns it, even if root makes it.
         with contextlib.closing(Folder(file.parent)):
             os.chown(file, file.parent.stat().st_uid, file.parent.stat().st_gid)
     with contextlib.closing(Sqlite(file)) as one:
@@ -43,7 +43,7 @@ def opened(place: str, is_made: bool = False) -> Iterator[Store]:
 
 @contextlib.contextmanager
 def alone(place: str, name: str) -> Iterator[Store]:
-    """The store of a place where no front has a user meanwhile. It is made if it is not there."""
+    """The store of a place, where no front has the user meanwhile. It is made if it is missing."""
     with contextlib.closing(place_of(place, True)) as own:
         own.begin(f"{socket.gethostname()}, process {os.getpid()}", False)
         if owner := own.claim(name):
@@ -52,7 +52,7 @@ def alone(place: str, name: str) -> Iterator[Store]:
 
 
 def check_users(place: str, file: str) -> None:
-    """Raises Fault if something is wrong with a file of users, or if there is none and a store has no users."""
+    """Raises Fault if a file of users is faulty, or if there is no file and the store has no users."""
     if file:
         accounts_at(pathlib.Path(file))
         return
@@ -64,7 +64,7 @@ def check_users(place: str, file: str) -> None:
 
 
 def back_up(place: str, to: str) -> None:
-    """Writes a copy of a store to a file, which is there when it is whole. A front may go on meanwhile."""
+    """Writes a copy of a store to a file, which appears when it is whole. A front may run meanwhile."""
     copy = pathlib.Path(f"{to}.new")
     if pathlib.Path(to).exists():
         raise Fault(f"cannot write {to}: it exists already; use another name")
@@ -78,7 +78,7 @@ def back_up(place: str, to: str) -> None:
 
 
 def repair(place: str, name: str) -> None:
-    """Cuts what is kept of a user at the last whole record, also in a journal of before. What goes is told first."""
+    """Cuts the data of a user after the last whole record, also in an old journal. First prints what is lost."""
     path = pathlib.Path(place)
     with alone(place, name) as store:
         if name in names_in(path):
@@ -90,7 +90,7 @@ def repair(place: str, name: str) -> None:
         rows, (parts, gone) = store.rows(name), store.whole_parts(name)
         is_changed = bool(gone) or fault == SNAPSHOT_FAULT
         if is_changed:
-            # What was done since a snapshot means nothing without it.
+            # Records since a snapshot are useless without it.
             whole, fault = [], fault or "nothing else is damaged"
             print(f"{name}: {len(parts)} sessions and branches stay, and {len(gone)} are removed: those of records {gone}")
         tell_loss(name, whole, fault, [Told(item, reply) for _, item, reply, _ in rows[len(whole) :]])
@@ -101,7 +101,7 @@ def repair(place: str, name: str) -> None:
 
 
 def whole_of(records: Iterable[Told]) -> Tuple[List[Told], str]:
-    """The records before one that is damaged, and what is wrong with that."""
+    """The records before the first damaged one, and its fault."""
     whole: List[Told] = []
     try:
         whole.extend(records)
@@ -111,7 +111,7 @@ def whole_of(records: Iterable[Told]) -> Tuple[List[Told], str]:
 
 
 def tell_loss(name: str, whole: List[Told], fault: str, lost: List[Told]) -> None:
-    """Says what of a user stays, and what goes."""
+    """Prints what a user keeps and loses."""
     print(f"{name}: {fault or 'nothing is damaged'}. What stays: {len(whole)} records")
     for record in lost[:MOST_SHOWN]:
         print(f"  goes: {shown(record.item)}: {shown(record.reply)}")
@@ -121,7 +121,7 @@ def tell_loss(name: str, whole: List[Told], fault: str, lost: List[Told]) -> Non
 
 
 def export(place: str, name: str) -> None:
-    """Prints what is kept of a user as JSON, each byte of items and replies as a character. A front may go on meanwhile."""
+    """Prints the data of a user as JSON, each byte of items and replies as a character. A front may run meanwhile."""
     with opened(place) as store:
         try:
             kept = store.read_whole(name)
@@ -149,7 +149,7 @@ def texted(value: object) -> object:
 
 
 def import_user(place: str, file: str) -> None:
-    """Puts a user that was printed by `export` into a store, which has nothing of that user."""
+    """Adds a user printed by `export` to a store, which must have nothing of this user."""
     try:
         told = json.loads(pathlib.Path(file).read_text())
         name, format, seq = str(told["name"]), told["format"], int(told["seq"])

@@ -24,35 +24,35 @@ SECONDS_TO_ANSWER = 3.0
 
 
 class Owner(NamedTuple):
-    """A front that has a user, by what others know of it."""
+    """A front that has a user, as other fronts know it."""
 
     address: str
     has_header: bool
 
 
 class Place:
-    """A place, where all users are of one front. What may take long, and may raise `StoreFault`, is not for its loop."""
+    """A place whose users all belong to one front. Slow calls, which may raise `StoreFault`, are not for its loop."""
 
     is_shared = False
     seconds_of_lease = math.inf
     base: Base
 
     def begin(self, address: str, has_header: bool) -> None:
-        """Has a front be there that others reach at an address."""
+        """Registers a front that others reach at an address."""
 
     def hold(self) -> bool:
-        """Whether the front may go on for the time of the lease, from before this was asked. Raises `Fenced` if it is to end."""
+        """Whether the front may continue for the time of the lease, from before this call. Raises `Fenced` if it must end."""
         return True
 
     def claim(self, name: str) -> Optional[Owner]:
-        """Has a user be this front's. Returns whose it is if that is another front, which is there."""
+        """Assigns a user to this front. Returns the owner if another running front has the user."""
         return None
 
     def release(self, name: str) -> None:
-        """Has a user be nobody's."""
+        """Releases a user."""
 
     def take_over(self, store: Store, refuse: Callable[[str, str], None]) -> List[str]:
-        """Takes over what is kept in a form of before. Returns whose that is."""
+        """Takes over data in an old format. Returns the names of its users."""
         return []
 
     def text(self, name: str) -> str:
@@ -60,32 +60,32 @@ class Place:
         raise NotImplementedError
 
     def put(self, name: str, text: str) -> None:
-        """Has a name have a text."""
+        """Sets the text of a name."""
         raise NotImplementedError
 
     def first(self, name: str, text: str) -> str:
-        """The text of a name, which is this one if it had none."""
+        """The text of a name, set to this one if it had none."""
         if not (found := self.text(name)):
             self.put(name, text)
         return found or text
 
     def tell(self, status: str) -> None:
-        """Has a status seen, soon."""
+        """Shows a status, soon."""
         raise NotImplementedError
 
     def told(self) -> List[str]:
-        """The statuses that other fronts have told, also those that have ended."""
+        """The statuses of other fronts, also of ended ones."""
         return []
 
     def kicked(self) -> List[str]:
-        """The users whose connections are to be ended, each of whom is told once."""
+        """The users whose connections must be ended. Each is returned once."""
         return []
 
     def give_up(self) -> None:
-        """Tries nothing again from now on, since the front ends."""
+        """Stops all retries, since the front ends."""
 
     def close(self) -> None:
-        """Lets other fronts have all that this one has."""
+        """Releases all that this front has."""
         raise NotImplementedError
 
 
@@ -118,7 +118,7 @@ class Folder(Place):
         return ""
 
     def put(self, name: str, text: str) -> None:
-        # A disk that is full stops nothing here: what was told is in the store.
+        # A full disk is ignored here: what was replied is in the store.
         path = self.path / f"{name}.new"
         with contextlib.suppress(OSError):
             if self._put.get(name) != text:
@@ -145,8 +145,8 @@ class Folder(Place):
 
 
 def answer_of(at: str, has_header: bool, has_tls: bool = False) -> Optional[bytes]:
-    """What a front replies to a check, or None where none listens. It is DENIED where its server answers. Raises OSError if nothing
-    comes, not even an end."""
+    """The reply of a front to a check, or None if none listens. It is DENIED if its server answers. Raises OSError if neither a
+    reply nor an end comes."""
     try:
         with socket.create_connection(address_of(at), SECONDS_TO_ANSWER) as plain:
             plain.settimeout(SECONDS_TO_ANSWER)
@@ -158,24 +158,24 @@ def answer_of(at: str, has_header: bool, has_tls: bool = False) -> Optional[byte
 
 
 def encrypted(plain: socket.socket) -> socket.socket:
-    """A connection over TLS to a front of this machine, whose certificate needs no look."""
+    """A TLS connection to a front on this machine, whose certificate is not checked."""
     context = ssl.SSLContext(ssl.PROTOCOL_TLS_CLIENT)
     context.check_hostname, context.verify_mode = False, ssl.CERT_NONE
     return context.wrap_socket(plain)
 
 
 def is_address(place: str) -> bool:
-    """Whether a place is a database, by its address."""
+    """Whether a place is the address of a database."""
     return place.startswith(("postgresql://", "postgres://"))
 
 
 def shown_place(place: str) -> str:
-    """A place as it may be seen: without a password."""
+    """A place without a password, for display."""
     return re.sub(r"(?<=//)[^/]*@", "", place)
 
 
 def database_at(address: str, sync_each: bool = True) -> "Postgres":
-    """A database. Raises Fault if nothing is installed that reaches it, or `StoreFault` if that is no address."""
+    """The database at an address. Raises Fault if psycopg2 is not installed, or `StoreFault` if it is no address."""
     try:
         from .postgres import Postgres
     except ImportError as error:
@@ -184,7 +184,7 @@ def database_at(address: str, sync_each: bool = True) -> "Postgres":
 
 
 def place_of(word: str, sync_each: bool) -> Place:
-    """The place that a word says."""
+    """The place named by a word."""
     if is_address(word):
         return database_at(word, sync_each)
     return Folder(pathlib.Path(word), sync_each)

@@ -1,8 +1,8 @@
 """A database of PostgreSQL that several fronts share: the store, the front of each user, and the state of each front.
 
-A front has a row, and as long as it is connected the advisory lock of its number. It writes for as long as its row does not say that it
-is dead, which each of its transactions sees to. Whoever takes a user from a front that has its lock no more, and does not answer, says
-that it is dead: this waits for what the other is writing, and what it would write later is refused.
+A front has a row, and while it is connected the advisory lock of its number. It may write until its row is marked dead, which each of
+its transactions checks. Whoever takes a user from a front that has lost its lock, and does not answer, marks it dead. This waits for
+the writes of the dead front that are under way, and its later writes are refused.
 """
 import contextlib
 import math
@@ -18,19 +18,19 @@ from .place import KICK, STATUS, Owner, Place, answer_of
 from .store import SCHEMA, Base, Fenced, Row, Statement, StoreFault
 
 FORMAT = 3
-# The class of the advisory locks of fronts. That of number 0 is for who makes the tables.
+# The class of the fronts' advisory locks. Number 0 locks the creation of the tables.
 LOCKS = 19_710_722
 SECONDS_TO_TRY = 60.0
-# States after which statements are said again: the connection is lost, transactions stand in each other's way, the database ends.
+# States after which statements are repeated: the connection is lost, transactions conflict, the database ends.
 PASSING = ("08", "40", "57P")
 SECONDS_BETWEEN_TRIES = 0.1
-# A front that hears nothing from the database may tell for so long what it writes no record of.
+# Time for which a front without answer from the database may send replies that need no record.
 SECONDS_OF_LEASE = 3.0
 WAYS = {
     "connect_timeout": 2, "target_session_attrs": "read-write", "application_name": "ljserve-keep", "keepalives_idle": 2,
     "keepalives_interval": 2, "keepalives_count": 3, "tcp_user_timeout": 8000,
 }  # fmt: skip
-# The database sees as soon that a front is gone, and cancels no write, which might have been done.
+# The database detects a lost front as fast, and cancels no write, since it might have been done.
 SETTINGS = {
     "tcp_keepalives_idle": "2", "tcp_keepalives_interval": "2", "tcp_keepalives_count": "3", "client_min_messages": "warning",
     "statement_timeout": "0", "lock_timeout": "0", "idle_in_transaction_session_timeout": "0",
@@ -48,9 +48,9 @@ create table if not exists note (front integer not null, name text not null, tex
 delete from front where dead and id not in (select front from owner);
 delete from note where front > 0 and front not in (select id from front);
 """
-# Rows come and go, so that their room is to be used again soon.
+# Rows are short-lived, so their space must be reused soon.
 VACUUM = " with (autovacuum_vacuum_scale_factor = 0, autovacuum_vacuum_threshold = 20000)"
-# For a front that is dead this divides by zero, which ends the transaction. Who says that it is dead waits until that is over.
+# For a dead front this divides by zero, which ends the transaction. Marking a front dead waits for its transactions.
 FENCE = "select 1 / count(*) from (select from front where id = %s and not dead for share) as alive"
 OWNER = f"""
 select front.id, address, has_header, dead, exists (
@@ -63,7 +63,7 @@ BYTES = extensions.new_type(psycopg2.BINARY.values, "BYTES", lambda value, curso
 
 
 class Line:
-    """A connection to a database, which is made again when it was lost. Threads have it one at a time."""
+    """A connection to a database, which is made again after a loss. Threads use it one at a time."""
 
     def __init__(self, url: str, settings: Mapping[str, str] = {}):
         try:
@@ -76,8 +76,8 @@ class Line:
         self.is_over = self._is_in_view = False
 
     def ask(self, words: str, values: Sequence[Any] = (), seconds: float = SECONDS_TO_TRY) -> List[Row]:
-        """What the last one of some statements finds, which are one transaction. If the connection is lost they are said again for so
-        long, and may have been done before. Raises `StoreFault`."""
+        """The rows of the last of some statements, which are one transaction. If the connection is lost they are repeated for
+        `seconds`, and may have been done before. Raises `StoreFault`."""
         end = time.monotonic() + seconds
         while True:
             try:
@@ -86,7 +86,7 @@ class Line:
             except errors.DivisionByZero as error:
                 raise Fenced("another front has taken over") from error
             except psycopg2.Error as error:
-                # What the database has not said itself is that it is not reached.
+                # An error without a code means that the database is not reached.
                 state = error.pgcode or ""
                 if not state and self._connection is not None:
                     self._connection.close()
@@ -110,15 +110,15 @@ class Line:
             cursor.execute(words, values or None)
             found: List[Row] = cursor.fetchall() if cursor.description else []
         if self._connection.notices:
-            # Such as that a wait for a standby was cancelled: what was written may be on this machine alone.
+            # For example a cancelled wait for a standby: the data may be on this machine only.
             raise StoreFault(f"the database warns: {self._connection.notices[-1].strip()}")
         return found
 
     @contextlib.contextmanager
     def view(self) -> Iterator[None]:
-        """Within it all that is found is of one moment."""
+        """Within it all reads see the same state."""
         with self._lock:
-            # While it is not reached, nobody waits for who has the lock.
+            # No retries here: other threads would wait for the lock.
             self.ask("begin isolation level repeatable read, read only", seconds=0)
             self._is_in_view = True
             try:
@@ -129,20 +129,20 @@ class Line:
                     self._connection.cursor().execute("commit")
 
     def close(self) -> None:
-        """Ends the connection, and all tries."""
+        """Closes the connection, and ends retries."""
         self.is_over = True
         if self._connection is not None:
             self._connection.close()
 
 
 class Postgres(Place):
-    """A database that fronts share. It is the place of one that has begun."""
+    """A database that fronts share, and after `begin` the place of one."""
 
     is_shared = True
     seconds_of_lease = SECONDS_OF_LEASE
 
     def __init__(self, url: str, sync_each: bool = True):
-        """With `sync_each` each transaction is on the disk when it is written, else within a second. Raises `StoreFault`."""
+        """With `sync_each` each write is on the disk when it returns, else within a second. Raises `StoreFault`."""
         self.base: Base = self
         self._url, self._front, self._address = url, 0, ""
         self._status = self._told = ""
@@ -154,7 +154,7 @@ class Postgres(Place):
         self._lines = (self._reading, self._owning, self._writing, self._holding)
 
     def make(self) -> None:
-        """Makes what is not there yet."""
+        """Creates missing tables."""
         schema = TABLES + SCHEMA.replace(" blob", " bytea").replace(" without rowid", VACUUM)
         ((format,),) = self._owning.ask(f"{schema} select number from format", seconds=0)
         if format != FORMAT:
@@ -162,13 +162,13 @@ class Postgres(Place):
 
     def begin(self, address: str, has_header: bool) -> None:
         self.make()
-        # Who was there at this address has ended.
+        # An earlier front at this address has ended.
         words = "update front set dead = true where address = %s; insert into front (address, has_header) values (%s, %s) returning id"
         ((self._front,),) = self._owning.ask(words, (address, address, has_header))
         self._address = address
         self.hold()
 
-    # What is kept.
+    # The store.
 
     def rows(self, words: str, values: Row = ()) -> List[Row]:
         return self._reading.ask(said(words), values)
@@ -177,13 +177,13 @@ class Postgres(Place):
         return self._reading.view()
 
     def write(self, statements: Sequence[Statement]) -> None:
-        # What is said again may have been done.
+        # A repeated insert may have been done.
         again = {True: " on conflict do nothing", False: ""}
         is_insert = [words.startswith("insert") and " on conflict" not in words for words, _ in statements]
         self._do(self._writing, [(said(words) + again[is_one], values) for is_one, (words, values) in zip(is_insert, statements)])
 
     def _do(self, line: Line, statements: Sequence[Statement], seconds: float = SECONDS_TO_TRY) -> None:
-        """Has statements done in one transaction, unless this front is dead. What is no front changes users, alone."""
+        """Executes statements in one transaction, unless this front is dead. Without a front, locks the accounts."""
         fence: Statement = (FENCE, (self._front,)) if self._front else ("lock table account in exclusive mode", ())
         words, values = zip(fence, *statements)
         line.ask("; ".join(words), [value for row in values for value in row], seconds)
@@ -191,10 +191,10 @@ class Postgres(Place):
     def sync(self) -> None:
         pass
 
-    # Whose each user is.
+    # Owners of users.
 
     def hold(self) -> bool:
-        # The lock is had as often as it is asked for, and given back with the connection.
+        # The lock may be taken repeatedly, and is released with the connection.
         words = "select pg_try_advisory_lock(%s, id) from front where id = %s and not dead"
         found = self._holding.ask(words, (LOCKS, self._front), seconds=0)
         if not found:
@@ -220,18 +220,18 @@ class Postgres(Place):
         return self.claim(name)
 
     def _take_if_over(self, name: str, front: int, owner: Owner) -> bool:
-        """Takes a user from a front which has its lock no more, unless it is there. Nobody else does so meanwhile, nor does it."""
+        """Takes a user from a front without a lock, unless it still runs. This holds the lock meanwhile, so nobody else can."""
         with contextlib.closing(Line(self._url)) as line:
             ((is_free,),) = line.ask("select pg_try_advisory_lock(%s, %s)", (LOCKS, front))
             is_over = is_free and (owner.address == self._address or self._has_ended(front, owner))
             if is_over:
-                # Where the connection is lost, so is the lock.
+                # No retries: a lost connection loses the lock.
                 self._take(name, front, line, 0)
             return bool(is_over)
 
     def _has_ended(self, front: int, owner: Owner) -> bool:
-        """Whether a front without its lock is not there, or tells nothing more when this returns. One that says that it is not well has
-        time to have its lock again, as where the database was begun again."""
+        """Whether a front without its lock has ended, or sends no more replies when this returns. One that answers that it is not well
+        gets time to take its lock again, as after a restart of the database."""
         try:
             answer = answer_of(*owner)
         except (OSError, ValueError):
@@ -254,7 +254,7 @@ class Postgres(Place):
     def release(self, name: str) -> None:
         self._do(self._owning, [("delete from owner where name = %s and front = %s", (name, self._front))])
 
-    # What is known.
+    # Notes.
 
     def text(self, name: str) -> str:
         return "".join(text for (text,) in self._reading.ask("select text from note where front = 0 and name = %s", (name,)))
@@ -275,7 +275,7 @@ class Postgres(Place):
             self._told = status
 
     def told(self) -> List[str]:
-        # A front that has ended is known for as long as it is said to have users.
+        # The status of an ended front stays while users are assigned to it.
         return [text for (text,) in self._owning.ask("select text from note where front > 0 and name = %s", (STATUS,))]
 
     def statuses(self) -> List[str]:
@@ -287,17 +287,17 @@ class Postgres(Place):
         return [self._kicked.popleft() for _ in range(len(self._kicked))]
 
     def ask_to_kick(self, name: str) -> bool:
-        """Asks the front that has a user to end the connections of that. Returns whether one has it."""
+        """Asks a user's front to end the user's connections. Returns whether there is one."""
         owner = "select front.id, %s, owner.name from owner join front on front.id = owner.front where owner.name = %s and not dead"
         words = f"insert into note {owner} on conflict (front, name) do update set text = excluded.text returning front"
         return bool(self._owning.ask(words, (f"{name}{KICK}", name), seconds=0))
 
     def is_to_kick(self, name: str) -> bool:
-        """Whether that is still asked for."""
+        """Whether a kick is still pending."""
         return bool(self._owning.ask("select name from note where name = %s", (f"{name}{KICK}",), seconds=0))
 
     def take_back_kick(self, name: str) -> None:
-        """Asks for it no more."""
+        """Cancels the kick."""
         self._owning.ask("delete from note where name = %s", (f"{name}{KICK}",), seconds=0)
 
     def give_up(self) -> None:
@@ -314,5 +314,5 @@ class Postgres(Place):
 
 
 def said(words: str) -> str:
-    """Some words of SQLite as PostgreSQL says them."""
+    """SQL of SQLite translated for PostgreSQL."""
     return words.replace("?", "%s").replace(" blob", " bytea")

@@ -5,10 +5,10 @@ BYTES_AT_ONCE = 1 << 16
 
 
 class Receiver(asyncio.BufferedProtocol):
-    """A protocol whose `data_received` gets what has arrived, read into one buffer for all connections of the process' one loop.
+    """A protocol whose `data_received` gets the bytes that arrived, read into one buffer for all connections of the process' only loop.
 
-    Where a protocol has no buffer, asyncio allocates 256 KiB for each read, which the C library may take from the system and give
-    back each time: then a command takes twice as long.
+    Without a buffer, asyncio allocates 256 KiB for each read. The C library may take these from the system and give them back
+    each time: then a command takes twice as long.
     """
 
     _buffer = memoryview(bytearray(BYTES_AT_ONCE))

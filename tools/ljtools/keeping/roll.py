@@ -13,7 +13,7 @@ from .place import is_address, shown_place
 from .store import Row, Store, StoreFault
 
 ROWS_OF_A_STATEMENT = 500
-# A user of the name is put in its place. Who was removed has a date until what is kept is put aside, also who is a user anew.
+# Replaces a user of the same name. A removed user keeps its date until its data are put aside, even if it is added again.
 IN_PLACE = """on conflict (name) do update set token = excluded.token, quota = excluded.quota, changed = excluded.changed,
 removed = case account.removed when '' then excluded.removed else account.removed end"""
 ROW = "(?, ?, ?, (select coalesce(max(changed), 0) + 1 from account), ?)"
@@ -21,7 +21,7 @@ ROW = "(?, ?, ?, (select coalesce(max(changed), 0) + 1 from account), ?)"
 
 @contextlib.contextmanager
 def opened_roll(place: str, is_made: bool) -> "Iterator[Roll]":
-    """The users of a place, which a front may have at the same time. Raises Fault, and then nothing is changed."""
+    """The users of a place, which a front may use at the same time. If it raises Fault, nothing is changed."""
     os.umask(0o077)
     try:
         with opened(place, is_made or is_address(place)) as store:
@@ -47,7 +47,7 @@ class Roll:
         return [*(f"{name} {each.quota}" for name, each in self._there.items()), *aside] or [f"{self._place} has no users"]
 
     def make(self, names: Sequence[str], quota: Optional[Sequence[int]], way: Way, files: Files) -> None:
-        """Adds users of a quota, or without one gives users new tokens. Their slips are written or printed."""
+        """Adds users with a quota, or without one gives users new tokens. Writes or prints their slips."""
         accounts = self._new(names, quota)
         slips = "\n".join(slip_of(user, way) for user in users_of(accounts))
         write_secrets({files.slips: slips} if files.slips else {}, files.may_replace, lambda: self._put(accounts))
@@ -69,7 +69,7 @@ class Roll:
         return users_of(self._there)
 
     def put(self, file: str) -> None:
-        """Adds the users of a file, or puts them in the place of those of the same names."""
+        """Adds the users of a file, which replace users of the same names."""
         self._put(accounts_at(pathlib.Path(file), MAX_STORED))
 
     def change(self, names: Sequence[str], quota: Sequence[int]) -> None:
@@ -78,12 +78,12 @@ class Roll:
         self._put({name: self._there[name]._replace(quota=" ".join(map(str, quota))) for name in names})
 
     def remove(self, names: Sequence[str]) -> None:
-        """Takes users away. Who has what is kept of them puts it aside."""
+        """Removes users. The fronts that have them put their data aside."""
         self._check(names, True)
         self._write([(name, "", "", f"{datetime.now(timezone.utc):%Y-%m-%dT%H:%M:%S.%f}") for name in names])
 
     def _check(self, names: Sequence[str], are_there: bool) -> None:
-        """Raises Fault if some user is not there that is to be, or is there that is not to be."""
+        """Raises Fault unless all users exist, or unless none does if `are_there` is False."""
         for name in names:
             if (name in self._there) != are_there:
                 raise Fault(f"{self._place} has {'no user' if are_there else 'a user'} {name}{'' if are_there else ' already'}")

@@ -15,19 +15,19 @@ from ..user_files import Fault
 
 MAX_CONNECTIONS = 1_000_000
 SECONDS_FOR_VERSION = 30.0
-# The program of a repository is built first.
+# Enough to build a repository's program first.
 SECONDS_FOR_TRIAL = 7200.0
 OWN = ("--listen", "--connections")
-# Names that a server lends, and that of who asks whether it answers.
+# Names that a server lends, and the name for checks that it answers.
 NAMES = [f"user{number}" for number in range(1, 63)]
 WATCHER = "watcher"
 
 
 class Words:
-    """The command line of a server: its program, and the file of users, which is not handed on."""
+    """The command line of a server: its program, and the file of users, which is not passed to it."""
 
     def __init__(self, words: Sequence[str]):
-        """Raises ValueError if they are not those of a server."""
+        """Raises ValueError if the words are not for a server."""
         if len(words) < 2 or words[1] != "serve":
             raise ValueError("the server must follow --; use -- bin/ljserve serve --users FILE --workers 4 --pool queue")
         for option in OWN:
@@ -42,13 +42,13 @@ class Words:
         self._before, self._behind = list(words[:at]), list(words[at + 2 :])
 
     def command(self, port: int, users: int) -> List[str]:
-        """What begins a server on a port, which reads its users from an open file."""
+        """The command for a server on a port, which reads its users from an open file."""
         own = ["--listen", f"127.0.0.1:{port}", "--connections", str(MAX_CONNECTIONS), "--users", f"/proc/self/fd/{users}"]
         return [*self._before, *own, *self._behind]
 
 
 class Server:
-    """A server that was begun. `token` is that of all of its users, which nobody else knows."""
+    """A server that was started. All of its users have `token`, which nobody else knows."""
 
     def __init__(self, process: asyncio.subprocess.Process, port: int, token: str):
         self.process, self.port, self._token = process, port, token
@@ -61,7 +61,7 @@ class Server:
         return self.process.returncode is None
 
     def kill(self) -> None:
-        """Kills it, with what it has begun."""
+        """Kills it and the processes that it started."""
         kill_group(self.process)
 
     async def ended(self) -> str:
@@ -74,17 +74,17 @@ def how_it_ended(status: int) -> str:
 
 
 async def begun(words: Sequence[str], **streams: Any) -> asyncio.subprocess.Process:
-    """A program that was begun, which leads a group and ends with this process. Raises OSError."""
+    """A started program that leads a process group and ends with this process. Raises OSError."""
     return await asyncio.create_subprocess_exec(*ending_with_parent(words), env=environment(), start_new_session=True, **streams)
 
 
 def users_text(quota: str, token: str) -> bytes:
-    """The file of users that a server is handed."""
+    """The text of the file of users for a server."""
     return "".join(f"{name} {token} {'0 0 0' if name == WATCHER else quota}\n" for name in (*NAMES, WATCHER)).encode()
 
 
 async def begin(words: Words, quota: str) -> Server:
-    """Begins a server of a quota on a port that is free. Raises Fault if there is no such program."""
+    """Starts a server of a quota on a free port. Raises Fault if the program cannot be started."""
     with socket.create_server(("127.0.0.1", 0)) as free:
         port = free.getsockname()[1]
     token = secrets.token_hex(16)
@@ -100,7 +100,7 @@ async def begin(words: Words, quota: str) -> Server:
 
 
 async def output_of(program: str, word: str, sent: bytes, seconds: float) -> bytes:
-    """What a program prints that is called with a word, or nothing if it does not end in time. It has ended in any case."""
+    """The output of a program called with a word, or nothing if it does not end in time. It has ended in any case."""
     with open(os.memfd_create("sent"), "w+b") as source, open(os.memfd_create("printed"), "w+b") as printed:
         source.write(sent)
         source.seek(0)
@@ -120,13 +120,13 @@ async def output_of(program: str, word: str, sent: bytes, seconds: float) -> byt
 
 
 async def version_of(program: str) -> str:
-    """The lines in which a program tells its version."""
+    """The lines that a program prints as its version."""
     told = await output_of(program, "--version", b"", SECONDS_FOR_VERSION)
     return "\n".join(told.decode(errors="replace").splitlines()) or "unknown"
 
 
 async def trial_of(program: str) -> str:
-    """The hash of what a program replies in a short run. Raises Fault if it has no such run."""
+    """The hash of a program's replies in a short run. Raises Fault if it does not do the run."""
     told = await output_of(program, "run", trial_run(), SECONDS_FOR_TRIAL)
     if b"OK ADVANCE t 200\n" not in told:
         raise Fault(f"{program} does not do a trial run")
@@ -134,7 +134,7 @@ async def trial_of(program: str) -> str:
 
 
 def trial_run() -> bytes:
-    """200 steps of atoms of two species, at whose end another arithmetic has led elsewhere."""
+    """200 steps of atoms of two species, enough for another arithmetic to give another result."""
     rows = [f"{'XY'[n % 2]} {n % 3 * 1100 + n * 13}e-3 {n // 3 % 3 * 1100 - n * 7}e-3 {n // 9 * 1100}e-3\n" for n in range(27)]
     body = "27\nc\n" + "".join(rows)
     load = f"LOADMIX t 6 X Y 1 70000 256 0.9 60000 300 1.1 50000 200 rest {len(body)}\n{body}"
@@ -142,7 +142,7 @@ def trial_run() -> bytes:
 
 
 def kill_group(process: asyncio.subprocess.Process) -> None:
-    """Kills a process that leads a group, with all of that. One that nobody has waited for keeps its number."""
+    """Kills a process and the group that it leads. A process that was not waited for keeps its number."""
     if process.returncode is None:
         with contextlib.suppress(ProcessLookupError):
             os.killpg(process.pid, signal.SIGKILL)

@@ -1,9 +1,9 @@
 """A user's sessions: the state of each, and the commands that read one and load it exactly at another server.
 
-A LOAD begins at step 0, so a session that was put back has an offset, and each of its branches one of its own: how far its step is
-beyond the server's. By it the steps in replies are changed, so that each is as if no server had ended.
+A LOAD begins at step 0, so a session that was put back has an offset, and so has each of its branches: its step minus the server's.
+The offset is added to the steps in replies, as if no server had ended.
 
-What asks a server is a generator (`Task`): it yields some items at a time, and is sent their replies.
+A generator (`Task`) asks a server: it yields some items at a time, and receives their replies.
 """
 import re
 from array import array
@@ -17,15 +17,15 @@ from .store import Part
 RING, HALF = 2**32, 2**31
 MAX_STEP = 10**12
 MAX_STEPS = 1_000_000
-# Between two looks at it no session comes so far.
+# No session gets from here to MAX_STEP between two checks.
 NEAR_MAX_STEP = MAX_STEP - 10**11
 BURST = 500
-# How many steps of how many atoms are done at once at first, and how many steps at most.
+# Sizes of pieces of an ADVANCE: the first in steps times atoms, the largest in steps.
 FIRST_PIECE = 100_000
 MAX_PIECE = MAX_STEPS
 MAX_ATOMS = 4096
 KEPT = frozenset((*LOADS, *b"ADVANCE START REVERSE BRANCH RESTORE FORGET TUG DROP".split()))
-# Which word of the reply is a step. All but START are answered when the session has no pending steps any more.
+# Index of the word of a reply that is a step. All but START are answered when the session has no pending steps.
 STEP_AT = dict.fromkeys(b"ADVANCE START REVERSE MEASURE SHOW DUMP".split(), 3) | dict.fromkeys(b"BRANCH RESTORE TUG".split(), 4)
 NO_MEMORY = b"ERR 90 MEMORY\n"
 LOADED = re.compile(rb"OK (?:LOAD|LOADMIX) (\S{1,16}) 0 ([0-9]{1,4})\n")
@@ -35,7 +35,7 @@ Task = Generator[List[bytes], List[bytes], Told_T]
 
 
 class Otherwise(Exception):
-    """A program replied something else than follows from the commands."""
+    """A program's reply does not follow from the commands."""
 
 
 class NoMemory(Otherwise):
@@ -43,13 +43,13 @@ class NoMemory(Otherwise):
 
 
 def shown(reply: bytes) -> str:
-    """The first line of a reply, whose bytes that are no printing characters are shown: it is for a terminal and a log."""
+    """The first line of a reply for a terminal and a log, with escapes for bytes that are not printable."""
     return re.sub(rb"[^ -~]", lambda other: b"\\x%02x" % other[0][0], reply.partition(b"\n")[0]).decode("ascii")
 
 
 @dataclass
 class Place:
-    """Where a simulation is: its step, its direction, and how far the step is beyond the server's."""
+    """The step and direction of a simulation, and the offset of its step from the server's."""
 
     step: int = 0
     direction: int = 1
@@ -61,7 +61,7 @@ class Place:
 
 @dataclass
 class Branch:
-    """What BRANCH saved, by the record of this number."""
+    """A branch that was saved by record `id`."""
 
     id: int
     place: Place
@@ -69,7 +69,7 @@ class Branch:
 
 @dataclass
 class Session:
-    """A session that was loaded by the record of this number, by a line that says the same as `text`."""
+    """A session that was loaded by record `id`, with a line equivalent to `text`."""
 
     id: int
     name: bytes
@@ -79,13 +79,13 @@ class Session:
     branches: Dict[bytes, Branch] = field(default_factory=dict)
     has_pending: bool = False
     is_moved: bool = True
-    most_steps: int = 0  # so many are done in about a second
+    most_steps: int = 0  # steps in about a second
 
     def __post_init__(self) -> None:
         self.most_steps = most_at_first(self.atoms)
 
     def hear(self, words: Words, reply: bytes, number: int) -> bytes:
-        """Does what a command did that was replied OK. Returns the reply with its true step. Raises `Otherwise`."""
+        """Applies a command whose reply is OK. Returns the reply with its true step. Raises `Otherwise`."""
         verb, at = words[0], STEP_AT.get(words[0])
         if at and verb != b"START":
             self.has_pending = False
@@ -127,7 +127,7 @@ class Session:
 
 
 def with_step(reply: bytes, at: int, offset: int) -> bytes:
-    """A reply with another step as its word `at`, and in the third line of a DUMP."""
+    """A reply with `offset` added to its step: word `at`, and line 3 of a DUMP."""
     words = reply.split(b" ", at + 1)
     step = int(words[at]) + offset
     words[at] = b"%d" % step if len(words) > at + 1 else b"%d\n" % step
@@ -139,7 +139,7 @@ def with_step(reply: bytes, at: int, offset: int) -> bytes:
 
 
 def with_steps(reply: bytes, places: Dict[bytes, Place]) -> bytes:
-    """The reply to a LIST with another step as the second word of each line behind the first."""
+    """The reply to a LIST with the true step as the second word of each line after the first."""
     if not any(place.offset for place in places.values()):
         return reply
     first, *lines = reply[:-1].split(b"\n")
@@ -154,7 +154,7 @@ class Sessions:
     """A user's sessions by their names, in the order of loading."""
 
     def __init__(self, parts: Iterable[Part] = ()):
-        """Those of some parts, by number, which are not at a server yet."""
+        """Sessions of parts, sorted by number, which no server has yet."""
         self.by_name: Dict[bytes, Session] = {}
         by_id: Dict[int, Session] = {}
         for part in parts:
@@ -166,8 +166,8 @@ class Sessions:
                 by_id[part.id] = self.by_name[name] = Session(part.id, name, part.text, atoms, place, is_moved=False)
 
     def hear(self, words: Words, reply: bytes, number: int) -> bytes:
-        """Does what a command did, which is the record of this number if it is kept, and returns the reply with its true steps.
-        Raises `Otherwise` if that cannot be the reply."""
+        """Applies a command, which is record `number` if it is kept. Returns the reply with its true steps. Raises `Otherwise` if it
+        cannot be the reply."""
         if not words or reply[:3] != b"OK ":
             return reply
         if len(words) > 1 and (session := self.by_name.get(words[1])) is not None:
@@ -197,11 +197,11 @@ class Sessions:
         return any(session.has_pending for session in self.by_name.values())
 
     def are_near_an_end(self) -> bool:
-        """Whether some step comes near the end of the range of steps, which the server would see elsewhere."""
+        """Whether some step is near an end of the range of steps, which the server would find at another step."""
         return any(place.is_near_an_end() for session in self.by_name.values() for place in session.places())
 
     def refusal(self, words: Words) -> bytes:
-        """What is replied to a command that would pass the range of steps, where the server does not see that."""
+        """The reply to a command that would leave the range of steps, which the server does not detect."""
         session = self.by_name.get(words[1]) if len(words) == 3 and words[0] in (b"ADVANCE", b"START") else None
         if session is None or not words[2].isdigit() or not 0 < len(words[2]) < 20:
             return b""
@@ -215,7 +215,7 @@ def most_at_first(atoms: int) -> int:
 
 @dataclass
 class Long:
-    """An ADVANCE that is done in pieces, so many steps of which are left, and were so at the snapshot."""
+    """An ADVANCE that is done in pieces, with the steps left now and the steps left at the snapshot."""
 
     name: bytes
     left: int
@@ -225,7 +225,7 @@ class Long:
 
     @classmethod
     def of(cls, item: Item, sessions: Sessions) -> "Optional[Long]":
-        """That of an item which takes long, if it is one."""
+        """The `Long` of an item that takes long, else None."""
         if len(item.words) != 3 or not 1 < len(item.words[2]) < 20 or not item.words[2].isdigit():
             return None
         session, steps = sessions.by_name.get(item.words[1]), int(item.words[2])
@@ -242,7 +242,7 @@ class Long:
         return self.piece
 
     def hear(self, session: Session, now: float) -> bool:
-        """Takes it that a piece is done. Returns whether that was the last one."""
+        """Notes that a piece is done. Returns whether it was the last one."""
         steps = int(self.piece.words[2])
         session.most_steps = max(1, min(8 * steps, int(steps / max(now - self.since, 1e-6)), MAX_PIECE))
         self.left -= steps
@@ -253,7 +253,7 @@ class Long:
 
 
 def nano_of(word: bytes) -> int:
-    """The billionths that a decimal number says, which the server has taken: halves away from zero."""
+    """A decimal number that the server accepted, in billionths. Halves are rounded away from zero."""
     found = DECIMAL.fullmatch(word)
     assert found is not None
     sign, whole, fraction, power = found.groups()
@@ -265,7 +265,7 @@ def nano_of(word: bytes) -> int:
 
 
 def text_of(words: Words) -> bytes:
-    """The line of a load of two frames with the same numbers, each spelled in few bytes, without its count."""
+    """The line of a load of two frames with the same numbers, in a short spelling, without its count."""
     verb, name, edge, *others = words[:-2]
     symbols = others[: 2 * (verb == b"LOADMIX")]
     numbers = others[len(symbols) :]
@@ -274,11 +274,11 @@ def text_of(words: Words) -> bytes:
     return b" ".join([verb, name, b"%de-9" % nano_of(edge), *symbols, *spelled, b"pair"])
 
 
-# What is asked of a server.
+# Requests to a server.
 
 
 class Frames(NamedTuple):
-    """Both frames of a simulation, as three places of each atom, and its direction."""
+    """Both frames of a simulation, as three coordinates per atom, and its direction."""
 
     before: "array[int]"
     now: "array[int]"
@@ -291,7 +291,7 @@ class Frames(NamedTuple):
 
 
 def asked(items: List[bytes]) -> Task[List[bytes]]:
-    """The replies to some items, of which none may be refused."""
+    """The replies to items that must not be refused."""
     replies = yield items
     for item, reply in zip(items, replies):
         if not reply.startswith(b"OK "):
@@ -300,7 +300,7 @@ def asked(items: List[bytes]) -> Task[List[bytes]]:
 
 
 def done(items: Iterable[bytes]) -> Task[None]:
-    """Asks some items at a time."""
+    """Sends items in bursts."""
     rest = iter(items)
     while burst := [*islice(rest, BURST)]:
         yield from asked(burst)
@@ -319,7 +319,7 @@ def places_of(session: Session) -> Task["array[int]"]:
 
 
 def frames_of(session: Session, direction: int) -> Task[Frames]:
-    """Both frames as the server has them, to which it comes back."""
+    """Both frames at the server, which are the same afterwards."""
     now = yield from places_of(session)
     yield from asked([b"REVERSE %s\n" % session.name])
     before = yield from places_of(session)
@@ -328,7 +328,7 @@ def frames_of(session: Session, direction: int) -> Task[Frames]:
 
 
 def measured(session: Session) -> Task[bytes]:
-    """What MEASURE tells behind the step, by which the offset is set: a server that has loaded the session again counts from 0."""
+    """The words of MEASURE after the step. The step sets the offset: a server that loaded the session again counts from 0."""
     (reply,) = yield from asked([b"MEASURE %s\n" % session.name])
     _, _, _, step, *others = reply.split()
     session.place.offset = session.place.step - int(step)
@@ -336,14 +336,14 @@ def measured(session: Session) -> Task[bytes]:
 
 
 def unless_measured(session: Session, told: bytes) -> Task[None]:
-    """Raises `Otherwise` if MEASURE tells something else."""
+    """Raises `Otherwise` unless MEASURE replies `told`."""
     found = yield from measured(session)
     if found != told:
         raise Otherwise(f"MEASURE {shown(session.name)} {shown(found)} in place of {shown(told)}")
 
 
 def tugs(name: bytes, have: "array[int]", want: "array[int]") -> Iterator[bytes]:
-    """What has the frame before become another one."""
+    """The TUGs that change the previous frame to `want`."""
     for at in range(0, len(have), 3):
         if have[at : at + 3] != want[at : at + 3]:
             x, y, z = ((one - other + HALF) % RING - HALF for one, other in zip(have[at : at + 3], want[at : at + 3]))
@@ -351,7 +351,7 @@ def tugs(name: bytes, have: "array[int]", want: "array[int]") -> Iterator[bytes]
 
 
 def moves(name: bytes, have: Frames, want: Frames) -> Iterator[bytes]:
-    """What leads from a simulation to another one. REVERSE exchanges the frames, and TUG moves the one before."""
+    """The commands that change frames `have` to `want`. REVERSE swaps both frames, and TUG changes the previous one."""
     turn = b"REVERSE %s\n" % name
     if have.direction != want.direction:
         yield from tugs(name, have.before, want.now)
@@ -366,7 +366,7 @@ def moves(name: bytes, have: Frames, want: Frames) -> Iterator[bytes]:
 
 
 def load_of(part: Part, want: Frames) -> "tuple[bytes, Frames]":
-    """A load whose frames are these, and what they are then: in a small box places are near, since a billionth is more than one."""
+    """A load of these frames, and the frames it gives: approximate in a small box, where a billionth exceeds a ring unit."""
     edge = int(part.text.split()[2][: -len(b"e-9")])
     symbols = part.symbols.split()
     texts, landed = [], []
@@ -381,7 +381,7 @@ def load_of(part: Part, want: Frames) -> "tuple[bytes, Frames]":
 
 
 def put_back(session: Session, part_of: Callable[[int], Part]) -> Task[None]:
-    """Has a new server have a session and its branches as they were."""
+    """Puts a session and its branches back at a new server, as they were."""
     part = part_of(session.id)
     present = Frames.of_part(part)
     branches = [*session.branches.items()]
@@ -399,13 +399,13 @@ def put_back(session: Session, part_of: Callable[[int], Part]) -> Task[None]:
 
 
 def drop_all() -> Task[None]:
-    """Drops what a server has of the user."""
+    """Drops all sessions of the user at a server."""
     (listed,) = yield from asked([b"LIST\n"])
     yield from done(b"DROP %s\n" % row.partition(b" ")[0] for row in listed.split(b"\n")[1:-1])
 
 
 def read(session: Session, stored: int) -> Task[List[Part]]:
-    """A session, and those of its branches that were saved by records behind the one of this number: they change no more."""
+    """A session, and its branches that were saved after record `stored`: a branch does not change once it is saved."""
     (dump,) = yield from asked([b"DUMP %s\n" % session.name])
     symbols = b" ".join(row.partition(b" ")[0] for row in dump.split(b"\n")[3:-1])
     told = yield from measured(session)
@@ -428,7 +428,7 @@ def part_at(id: int, session: int, text: bytes, place: Place, frames: Frames) ->
 
 
 def read_all(sessions: Sessions, stored: int) -> Task[List[Part]]:
-    """All that has changed since the record of this number."""
+    """All that has changed since record `stored`."""
     parts: List[Part] = []
     for session in sessions.by_name.values():
         if session.is_moved or any(branch.id > stored for branch in session.branches.values()):
@@ -438,8 +438,8 @@ def read_all(sessions: Sessions, stored: int) -> Task[List[Part]]:
 
 
 def tell_again(sessions: Sessions, records: Sequence[Told], number: int) -> Task[None]:
-    """Tells a server the records behind the one of this number. ADVANCE is told as START, so that all sessions go on at once, and
-    then waited for."""
+    """Sends a server the records after record `number`. ADVANCE is sent as START, so that all sessions advance at once, and is then
+    waited for."""
     is_waited_for: Dict[bytes, bool] = {}
     for first in range(0, len(records), BURST):
         told = [as_start(record) for record in records[first : first + BURST]]
@@ -456,7 +456,7 @@ def tell_again(sessions: Sessions, records: Sequence[Told], number: int) -> Task
 
 
 def wait_for(sessions: Iterable[Session]) -> Task[None]:
-    """Waits until no steps of some sessions are pending."""
+    """Waits until sessions have no pending steps."""
     for session in sessions:
         if session.has_pending:
             yield from asked([b"MEASURE %s\n" % session.name])

@@ -10,7 +10,7 @@ from .store import SCHEMA, Row, Statement, StoreFault
 
 FORMAT = 3
 BYTES_OF_PAGE = 1024
-# Another process has the database for itself for a moment at most, as while it is opened.
+# Another process locks the database only for a moment, as while it opens it.
 SECONDS_TO_WAIT = 10.0
 
 
@@ -18,13 +18,13 @@ class Sqlite:
     """A database in a file. One process may write it at a time."""
 
     def __init__(self, path: pathlib.Path, sync_each: bool = True):
-        """Opens or begins it. With `sync_each` each transaction is on the disk when it is written. Raises `StoreFault`."""
+        """Opens or creates it. With `sync_each` each write is on the disk when it returns. Raises `StoreFault`."""
         self._path = path
         self._lock = threading.RLock()
         self._wal: Optional[int] = None
         with self._use("use"):
             self._base = self._connected()
-            # A record takes one page, so pages are small: each is written whole. A database that is there keeps its own.
+            # A record takes one page, written whole, so pages are small. An existing database keeps its page size.
             self._base.execute(f"pragma page_size={BYTES_OF_PAGE}")
             self._base.execute("pragma journal_mode=wal")
             self._base.execute("pragma synchronous=full")
@@ -35,7 +35,7 @@ class Sqlite:
                 self._base.executescript(f"begin immediate; {SCHEMA} pragma user_version={FORMAT}; commit")
                 sync_folder(path.parent)
             if not sync_each:
-                # It is left to `sync` to have what was written on the disk, and to put pages into the file of the database.
+                # Only `sync` flushes writes to the disk, and moves pages into the database file.
                 self._base.executescript("pragma synchronous=normal; pragma wal_autocheckpoint=0")
                 self._syncing = self._connected()
                 self._wal = os.open(f"{path}-wal", os.O_RDONLY | os.O_CLOEXEC)
@@ -45,7 +45,7 @@ class Sqlite:
 
     @contextlib.contextmanager
     def _use(self, what: str, begin: str = "") -> Iterator[None]:
-        """Has the database for itself, in a transaction if it is said how that begins."""
+        """Locks the database. If `begin` is given, it starts a transaction."""
         with self._lock:
             try:
                 if begin:
@@ -72,7 +72,7 @@ class Sqlite:
 
     def write(self, statements: Sequence[Statement]) -> None:
         if len(statements) == 1:
-            # A transaction of one statement needs no words about it.
+            # A single statement is a transaction by itself.
             try:
                 with self._lock:
                     self._base.execute(*statements[0])
@@ -99,7 +99,7 @@ class Sqlite:
 
 
 def sync_folder(folder: pathlib.Path) -> None:
-    """Has the names of a folder on the disk."""
+    """Flushes a folder's names to the disk."""
     descriptor = os.open(folder, os.O_RDONLY | os.O_DIRECTORY | os.O_CLOEXEC)
     try:
         os.fsync(descriptor)

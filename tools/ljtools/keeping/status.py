@@ -26,7 +26,7 @@ def statuses_of(place: str) -> List[Known]:
 
 
 def tell_status(place: str) -> int:
-    """Prints the status of a place. Returns 0 if a front has it whose server answers, and each user may come in, else 1."""
+    """Prints the status of a place. Returns 0 if it has fronts, all their servers answer and no user is stopped, else 1."""
     statuses = statuses_of(place)
     is_fine = bool(statuses)
     if not statuses:
@@ -42,7 +42,7 @@ def tell_status(place: str) -> int:
 
 
 def lines_of(known: Known, answer: Optional[bytes]) -> Iterator[str]:
-    """What is told of the status of a folder."""
+    """The lines that show a front's status."""
     since = time.strftime("%Y-%m-%d %H:%M:%S", time.localtime(known["since"]))
     runs = f"runs since {since}, process {known['process']}, at {known['at']}"
     yield runs if answer is not None else f"does not run: {known['end'] or 'it was killed'}"
@@ -57,7 +57,7 @@ def lines_of(known: Known, answer: Optional[bytes]) -> Iterator[str]:
 
 
 def figures_of(user: Known) -> str:
-    """What is told of a user who is not stopped."""
+    """The figures of a user who is not stopped."""
     left = f", about {user['left']:.0f} s left" if user.get("left") else ""
     used_up = ", no steps left today" if user.get("today", {}).get("is_used_up") else ""
     return f", {user['records']} records{left}{used_up}"

@@ -1,8 +1,8 @@
 """The store in a database: for each user a snapshot, and the records of the commands since.
 
 A snapshot has a part for each session and each branch, with the number of the record that made it. Records are numbered from 1. The
-hash of each is over the one before it too, and that of the snapshot over all of its parts, so a row that was changed or is missing is
-found, and stops its user alone. The words of SQL are those of SQLite; another database (`Base`) says them in its own way.
+hash of a record includes the hash before it, and the hash of a snapshot includes the hashes of its parts. So a changed or missing row
+is detected, and stops only its user. The SQL is written for SQLite; another database (`Base`) translates it.
 """
 import hashlib
 from typing import Any, ContextManager, Dict, Iterable, Iterator, List, NamedTuple, Optional, Protocol, Sequence, Tuple
@@ -28,7 +28,7 @@ create table if not exists account (
 );
 create index if not exists account_changed on account (changed);
 """
-# What inserts a row into each table.
+# Insert statements, by table.
 INSERTS = {
     table: f"insert into {table} values ({', '.join('?' * columns)})" for table, columns in (("record", 5), ("snapshot", 4), ("part", 10))
 }
@@ -38,7 +38,7 @@ Statement = Tuple[str, Row]
 
 
 class Damaged(Exception):
-    """What is kept of a user is not what was written."""
+    """The stored data of a user was changed."""
 
 
 class StoreFault(Exception):
@@ -53,26 +53,26 @@ class Part(NamedTuple):
     """A session or a branch as it was at a snapshot."""
 
     id: int  # the number of the record that made it
-    session: int  # the id of the session whose branch it is, or 0
-    text: bytes  # the line by which it is loaded, without a count, or the name of a branch
+    session: int  # for a branch, the id of its session, else 0
+    text: bytes  # the line that loads it, without the count, or the name of a branch
     step: int
     direction: int
-    measured: bytes = b""  # what MEASURE told of a session, from the number of atoms on
-    symbols: bytes = b""  # those of a session's atoms, with blanks between
-    frames: bytes = b""  # the places before and now, as unsigned numbers of 32 bits
+    measured: bytes = b""  # a session's reply to MEASURE, from the number of atoms on
+    symbols: bytes = b""  # symbols of a session's atoms, with blanks between
+    frames: bytes = b""  # previous and present places, as 32-bit unsigned integers
 
 
 class Snapshot(NamedTuple):
-    """What is written for a snapshot, which counts for all records up to one."""
+    """The data of a snapshot, which replaces all records up to `seq`."""
 
     seq: int
-    parts: Sequence[Part]  # those that are new or have changed
+    parts: Sequence[Part]  # the new and the changed ones
     ids: Sequence[int]  # of all parts
-    running: bytes = b""  # the steps that are left of an ADVANCE, which is the next record
+    running: bytes = b""  # an ADVANCE by the remaining steps, which is the next record
 
 
 class Kept(NamedTuple):
-    """What is kept of a user: the parts have no symbols and no frames, and the records are those behind `seq`."""
+    """The stored data of a user: parts without symbols and frames, and the records after `seq`."""
 
     seq: int
     parts: List[Part]
@@ -81,7 +81,7 @@ class Kept(NamedTuple):
 
 
 class Change(NamedTuple):
-    """What is to be written of a user: a snapshot, and records behind all that there are."""
+    """A write for a user: a snapshot, and records after all stored ones."""
 
     name: str
     records: Sequence[Told] = ()
@@ -92,23 +92,23 @@ class Base(Protocol):
     """A database. Threads may call it at the same time, and each call may raise `StoreFault`."""
 
     def rows(self, words: str, values: Row = ()) -> List[Row]:
-        """What is found."""
+        """The found rows."""
 
     def write(self, statements: Sequence[Statement]) -> None:
-        """Has all of that done in order, or none of it."""
+        """Executes all statements in order, or none."""
 
     def view(self) -> ContextManager[None]:
-        """Within it all that is found is of one moment."""
+        """Within it all reads see the same state."""
 
     def sync(self) -> None:
-        """Has what was written on the disk."""
+        """Flushes all writes to the disk."""
 
     def close(self) -> None:
-        """Ends the use of it."""
+        """Closes the database."""
 
 
 class End(NamedTuple):
-    """Where the records of a user end, or those of a snapshot: the last number, its hash, and those of all parts."""
+    """The end of a user's records or of a snapshot: the last number, its hash, and the hashes of all parts."""
 
     seq: int
     chain: bytes
@@ -116,7 +116,7 @@ class End(NamedTuple):
 
 
 def first_chain(name: str) -> bytes:
-    """What stands in place of a hash before the first record of a user. It is the same for what was put aside as NAME.DATE."""
+    """The hash before the first record of a user. It is the same for data that was put aside as NAME.DATE."""
     return hashlib.sha256(b"ljserve user %s" % name.partition(".")[0].encode()).digest()[:BYTES_OF_CHAIN]
 
 
@@ -132,12 +132,12 @@ def hash_of(part: Part) -> bytes:
 
 
 def snapshot_chain(name: str, seq: int, running: bytes, hashes: Iterable[bytes]) -> bytes:
-    """What stands in place of a hash before the first record behind a snapshot."""
+    """The hash before the first record after a snapshot."""
     return hashlib.sha256(b"%s%d %s %s" % (first_chain(name), seq, running, b"".join(hashes))).digest()[:BYTES_OF_CHAIN]
 
 
 def check_of(name: str, kept: Kept) -> bytes:
-    """The hash of the last record of a user, all of whose parts are whole."""
+    """The hash of a user's last record. All parts must be whole."""
     chain = snapshot_chain(name, kept.seq, kept.running, map(hash_of, kept.parts)) if kept.seq else first_chain(name)
     for record in kept.records:
         chain = next_chain(chain, record)
@@ -145,32 +145,32 @@ def check_of(name: str, kept: Kept) -> bytes:
 
 
 class Store:
-    """What is kept in a database. One process may write what is kept of a user at a time."""
+    """The users' data in a database. Only one process at a time may write a user's data."""
 
     def __init__(self, base: Base):
         self.base = base
         self._ends: Dict[str, End] = {}
 
     def names(self) -> List[str]:
-        """The users of whom there is something."""
+        """The users with stored data."""
         words = " union ".join(f"select name from {table}" for table in INSERTS)
         return [name for (name,) in self.base.rows(f"{words} order by name")]
 
     def names_with_records(self) -> List[str]:
-        """The users of whom something was done since their snapshots."""
+        """The users with records since their snapshots."""
         return [name for (name,) in self.base.rows("select distinct name from record order by name")]
 
     def forget(self, name: str) -> None:
-        """Knows no more where the records of a user end, who is read again before anything is written."""
+        """Forgets where a user's records end. The user must be read again before a write."""
         self._ends.pop(name, None)
 
     def rows(self, name: str) -> List[Row]:
-        """Number, item, reply and hash of each record of a user, as they stand."""
+        """Number, item, reply and hash of each record of a user, unchecked."""
         words = "select seq, cast(item as blob), cast(reply as blob), cast(chain as blob) from record where name = ? order by seq"
         return self.base.rows(words, (name,))
 
     def records(self, name: str) -> Iterator[Told]:
-        """The records of a user up to the first one that is not what was written. Raises `Damaged` there."""
+        """The records of a user up to the first changed or missing one. Raises `Damaged` there."""
         (seq, chain, hashes), _ = self._begin_of(name)
         for number, item, reply, found in self.rows(name):
             record = Told(item, reply)
@@ -181,7 +181,7 @@ class Store:
         self._ends[name] = End(seq, chain, hashes)
 
     def _begin_of(self, name: str) -> Tuple[End, bytes]:
-        """What is before the first record, and what runs then. Raises `Damaged` if the parts are others than there were."""
+        """The end before the first record, and the running item. Raises `Damaged` if the snapshot was changed."""
         words = "select seq, cast(running as blob), cast(chain as blob) from snapshot where name = ?"
         found, hashes = self.base.rows(words, (name,)), self._hashes(name)
         seq, running, chain = found[0] if found else (0, b"", first_chain(name))
@@ -194,7 +194,7 @@ class Store:
         return {id: found for id, found in self.base.rows(words, (name,))}
 
     def read(self, name: str) -> Kept:
-        """What is kept of a user, which is read before anything is written. Raises `Damaged` if it was changed."""
+        """The data of a user, which must be read before a write. Raises `Damaged` if it was changed."""
         with self.base.view():
             return self._read(name)
 
@@ -205,7 +205,7 @@ class Store:
         return Kept(end.seq, parts, records, running if not records else b"")
 
     def read_whole(self, name: str) -> Kept:
-        """The same, with whole parts."""
+        """As `read`, with whole parts."""
         with self.base.view():
             kept = self._read(name)
             return kept._replace(parts=[self.part(name, part.id) for part in kept.parts])
@@ -219,7 +219,7 @@ class Store:
         raise Damaged(f"what record {id} made was changed")
 
     def whole_parts(self, name: str) -> Tuple[List[Part], List[int]]:
-        """The parts that were not changed, but for branches of sessions that were, and the ids of all others."""
+        """The unchanged parts, except branches of changed sessions, and the ids of all others."""
         parts, lost = [], []
         for id in self._hashes(name):
             try:
@@ -230,14 +230,14 @@ class Store:
         return left, lost + [part.id for part in parts if part not in left]
 
     def write(self, changes: Sequence[Change]) -> None:
-        """Writes changes, of each user one at most, all or none."""
+        """Writes changes, at most one per user, all or none."""
         statements: List[Statement] = []
         ends = {change.name: self._written(change, statements) for change in changes}
         self.base.write(statements)
         self._ends.update(ends)
 
     def _written(self, change: Change, statements: List[Statement]) -> End:
-        """Adds what writes a change, and returns where that ends."""
+        """Adds the statements of a change, and returns its end."""
         name = change.name
         end = self._put(name, change.snapshot, statements) if change.snapshot is not None else self._ends[name]
         seq, chain, hashes = end
@@ -247,7 +247,7 @@ class Store:
         return End(seq, chain, hashes)
 
     def _put(self, name: str, snapshot: Snapshot, statements: List[Statement]) -> End:
-        """Adds what puts a snapshot in place of the one before it and of the records that it counts for."""
+        """Adds the statements that write a snapshot and delete the one before and the records up to it."""
         seq, running = snapshot.seq, snapshot.running
         anew = {part.id: hash_of(part) for part in snapshot.parts}
         hashes = {**(self._ends[name].hashes if name in self._ends else {}), **anew}
@@ -264,11 +264,11 @@ class Store:
         return End(seq, chain, hashes)
 
     def cut(self, name: str, seq: int) -> None:
-        """Takes away the records of a user behind one."""
+        """Deletes a user's records after number `seq`."""
         self.base.write([("delete from record where name = ? and seq > ?", (name, seq))])
 
     def put_aside(self, name: str) -> str:
-        """Has what is kept of a user who was removed be that of NAME.DATE. Returns that name, or nothing if none was removed."""
+        """Renames the data of a removed user to NAME.DATE. Returns that name, or nothing if the user was not removed."""
         ((removed,),) = self.base.rows("select removed from account where name = ?", (name,)) or [("",)]
         if not removed:
             return ""
@@ -278,7 +278,7 @@ class Store:
         return aside
 
     def copy_into(self, other: Base) -> None:
-        """Writes all that is there now, as it stands, into a database that has nothing."""
+        """Copies all rows, as they are now, into an empty database."""
         with self.base.view():
             accounts = self.base.rows("select * from account")
             other.write([("insert into account values (?, ?, ?, ?, ?)", row) for row in accounts])

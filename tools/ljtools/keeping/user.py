@@ -1,7 +1,7 @@
-"""One user: whose turn it is, which items are on their way, which replies wait until they are written, and when a snapshot of the
-sessions is taken.
+"""One user: the turns of its clients, the items that are unanswered, the replies that wait until they are written, and the times of
+snapshots.
 
-It does no reading and writing of its own, and knows ends (`ends`), the store and its writer by the methods that it calls.
+It does no I/O of its own: it only calls methods of connections (`ends`), of the store and of its writer.
 """
 import asyncio
 import time
@@ -20,27 +20,27 @@ from .writer import Writer
 if TYPE_CHECKING:
     from .hosts import Seat
 
-# As many connections of a user wait, and the next one is closed without a byte.
+# Maximum of waiting connections of a user. The next one is closed without a byte.
 MAX_WAITING = 8
-# What may be on its way: so much is answered within a few milliseconds.
+# Limits of what is sent ahead of replies: a few milliseconds of work.
 MAX_SENT = 150
 MAX_BYTES = 1 << 20
-# A snapshot is taken when so many seconds, records or bytes have come since the last one.
+# A snapshot is due after so many seconds, records or bytes since the last one.
 SECONDS_OF_BUDGET = 10.0
 MAX_RECORDS = 4000
 MAX_RECORD_BYTES = 2 << 20
-# It waits for pending steps until there are so many budgets.
+# While steps are pending, it is due at so many times these limits.
 BUDGETS_TO_WAIT = 4
-# What found no memory is put back again after so long.
+# Putting back is retried so long after a lack of memory.
 SECONDS_BETWEEN_TRIES = 1.0
 Note = Callable[..., None]
 Hear = Callable[[Item, bytes], None]
 
 
 class User:
-    """A user, with what is kept of it: a snapshot, and the records since."""
+    """A user and its kept state: a snapshot, and the records since."""
 
-    # Attributes of an object that has more than 30 are read more slowly without slots, and these are read at each command.
+    # Without slots, an object with more than 30 attributes is slower to read, and these are read at each command.
     __slots__ = (
         "allowance away_since client is_ready is_settling link local locals name number on_reply quota records seat sessions stopped "
         "waiting _again _asking _burst _burst_sent _bytes _bytes_held _bytes_sent _ended _heard _held _is_near_an_end _is_over "
@@ -54,7 +54,7 @@ class User:
         self.seat: Optional[Seat] = None
         self.away_since = time.monotonic()
         self.allowance: Optional[Allowance] = None
-        # Is told each command with its reply, if somebody wants to know.
+        # Called with each command and its reply, if it is set.
         self.on_reply: Optional[Hear] = None
         self.waiting: Deque[Client] = deque()
         self.client: Optional[Client] = None
@@ -84,16 +84,16 @@ class User:
         self._snapshot: Optional[Snapshot] = None
         self._is_writing = self._is_near_an_end = self._is_over = self._is_to_try_again = False
         self._timer: Optional[asyncio.TimerHandle] = None
-        # What was computed since a snapshot is not known here, so there soon is another one.
+        # The computing time since the snapshot is unknown here, so another one is soon taken.
         self._is_wanted = bool(kept.records)
         self._since = self._put_back_since = 0.0
         self._seconds = SECONDS_OF_BUDGET if kept.records else 0.0
         self._bytes = sum(len(record.item) for record in kept.records)
 
-    # What happens.
+    # Events.
 
     def enter(self, client: Client) -> None:
-        """A client has said who it is."""
+        """Takes a client that has identified itself."""
         if self.stopped:
             client.deny()
         elif len(self.waiting) >= MAX_WAITING:
@@ -103,24 +103,24 @@ class User:
             self.go_on()
 
     def leave(self, client: Client) -> None:
-        """A client is gone. What was sent of it is still done."""
+        """Notes that a client is gone. Its items at the server are still done."""
         if client in self.waiting:
             self.waiting.remove(client)
         self.go_on()
 
     def ask_for_turn(self, local: LocalClient) -> None:
-        """A client within this process asks for a transaction, which is done behind all that has come."""
+        """Queues a transaction of a client within this process, after all items that have come."""
         local.behind = (self.client, self.client.position() if self.client is not None else 0)
         self._asking.append(local)
         self.go_on()
 
     def read(self, task: Task[None]) -> None:
-        """Has a task that changes nothing be done between two commands, where no steps are pending, in place of one that still waits."""
+        """Schedules a read-only task between two commands, when no steps are pending. It replaces one that still waits."""
         self._reading = task
         self.go_on()
 
     def begin(self, link: Link, is_new: bool) -> None:
-        """There is a connection to the server: to a new one, where all is put back, or to the same."""
+        """Takes a connection to the server: to a new one, where all is put back, or to the same."""
         self.link = link
         if is_new:
             self.is_ready = self.is_settling = False
@@ -128,7 +128,7 @@ class User:
         self.go_on()
 
     def lose_link(self) -> None:
-        """The connection to the server has ended. What was not replied is sent again."""
+        """Drops the connection to the server. Items without a reply are sent again."""
         if self.link is not None:
             self.link.close()
         self.link, self.is_ready, self._task = None, False, None
@@ -145,7 +145,7 @@ class User:
             self._timer = None
 
     def hear(self, replies: List[bytes]) -> None:
-        """The server has replied."""
+        """Takes replies of the server."""
         try:
             if self._task is not None:
                 self._heard += replies
@@ -164,7 +164,7 @@ class User:
             self.go_on()
 
     def stop(self, why: str) -> None:
-        """Lets the user in no more, nor any of its connections."""
+        """Stops the user: ends its connections, and lets in no more."""
         self.lose_link()
         self.stopped = why
         self._again.clear()
@@ -176,7 +176,7 @@ class User:
         self._note("stopped", user=self.name, why=why)
 
     def abort_clients(self, has_right: bool = False) -> None:
-        """Ends the user's connections. Those that wait are denied, unless they have the right to be there."""
+        """Ends the user's connections. Those that wait are denied, or only aborted if `has_right`."""
         for client in self.waiting:
             (client.abort if has_right else client.deny)()
         self.waiting.clear()
@@ -185,7 +185,7 @@ class User:
             if self.stopped:
                 self.client = None
 
-    # What follows.
+    # Actions.
 
     def go_on(self) -> None:
         """Does all that can be done now."""
@@ -203,7 +203,7 @@ class User:
                 self.link.hold(is_held)
 
     def _send(self) -> None:
-        """Sends items, as many as may be on their way."""
+        """Sends as many items as may be unanswered."""
         link, sent = self.link, self._sent
         if link is None or self._task is not None:
             if link is not None:
@@ -241,12 +241,12 @@ class User:
         return item
 
     def _is_next(self) -> bool:
-        """Whether the transaction that was asked for first is what comes next: no item of the client that came before it is left."""
+        """Whether the first queued transaction is next: no earlier item of the client is left."""
         client, position = self._asking[0].behind
         return client is None or client is not self.client or not client.has_item_before(position)
 
     def _change_turn(self) -> bool:
-        """Has a transaction begin or end, if it is its turn or all of it is done. Both are where nothing is on its way."""
+        """Begins a transaction at its turn, or ends one that is done. Both happen only while nothing is unanswered."""
         if self.local is not None:
             if self._again or self._long is not None or not self.local.has_ended():
                 return False
@@ -263,7 +263,7 @@ class User:
         return True
 
     def _of_client(self) -> Optional[Item]:
-        """The next item of the client, whose connection ends in its place if it asks for more steps than are left today."""
+        """The next item of the client. If it asks for more steps than are left today, the connection ends instead."""
         item = self.client.next_item() if self.client is not None else None
         if item is None or self.client is None or self.allowance is None or self.allowance.takes(item.words):
             return item
@@ -273,7 +273,7 @@ class User:
         return None
 
     def _take(self, reply: bytes) -> None:
-        """Takes the reply to the first item that is on its way. Raises `Otherwise` if it cannot be that."""
+        """Takes the reply to the first unanswered item. Raises `Otherwise` if it cannot be that reply."""
         if not self._sent:
             raise Otherwise(f"{shown(reply)} to nothing")
         item = self._sent.popleft()
@@ -308,7 +308,7 @@ class User:
             self._hold(self._sent.popleft().last_reply)
 
     def _keep(self) -> None:
-        """Has what was replied written, and tells it then. Within a transaction it is told at once, and written at its end."""
+        """Writes records, then sends their replies. Within a transaction it sends replies at once, and writes at the end."""
         has_change = self.local is None and bool(self._written or self._snapshot)
         is_told = bool(self._held or self._ended) and (self.local is not None or self._writer.may_tell())
         if self._is_writing or not (has_change or is_told):
@@ -328,7 +328,7 @@ class User:
         self.go_on()
 
     def _tell(self, held: List[bytes], ended: List[LocalClient]) -> None:
-        """Tells replies, and that transactions have ended, before which all is written that they are about."""
+        """Sends replies, and reports the end of transactions that are completely written."""
         self._is_writing = False
         replies = b"".join(held)
         self._bytes_held -= len(replies)
@@ -339,15 +339,15 @@ class User:
             local.note_written()
 
     def _is_quiet(self) -> bool:
-        """Whether nothing is on its way, nothing is being written, and nothing waits to be told."""
+        """Whether nothing is unanswered, being written, or waiting to be sent."""
         return not (self._sent or self._task or self._is_writing or self._written or self._held or self._ended or self._snapshot)
 
     def _is_idle(self) -> bool:
-        """Whether nothing more is to be done of what was taken."""
+        """Whether all work that was taken is done."""
         return self._is_quiet() and not self._again and self._long is None and self.local is None
 
     def _change_client(self) -> bool:
-        """Ends the connection of a client that has no more items, whereupon a snapshot is wanted, or lets the next client in."""
+        """Ends the connection of a client without more items, and requests a snapshot; or lets the next client in."""
         if self.client is not None:
             if not self.client.has_ended() or not self.is_ready or not self._is_idle():
                 return False
@@ -362,16 +362,16 @@ class User:
         return True
 
     def _renew_link(self) -> None:
-        """Asks for another connection to the server, since this one has had as many items as it may."""
+        """Replaces the connection to the server, which has had its maximum number of items."""
         if self.link is not None:
             self.link.close()
             self.link = None
             self._renew(self)
 
-    # What is put back, and snapshots.
+    # Putting back, and snapshots.
 
     def _begin_task(self) -> bool:
-        """Begins to put all back, or to take a snapshot or to read, if that is due and nothing is on its way."""
+        """Begins to put all back, to take a snapshot or to read, if that is due and nothing is unanswered."""
         if self._task is not None or self.is_ready and not self._has_task():
             return False
         if not self.is_ready:
@@ -386,7 +386,7 @@ class User:
         return False
 
     def _step(self, replies: Optional[List[bytes]]) -> None:
-        """Has the task go on to what it asks next, or to its end."""
+        """Runs the task until it yields items or ends."""
         assert self._task is not None
         self._burst, self._heard, self._burst_sent = [], [], 0
         try:
@@ -405,7 +405,7 @@ class User:
             self.stop(f"the program replied {fault}")
 
     def _send_burst(self, link: Link) -> None:
-        """Sends what the task asks, or as much of it as this connection may have."""
+        """Sends the items of the task, or as many as this connection may have."""
         items = self._burst[self._burst_sent : self._burst_sent + link.left]
         if items:
             link.send(b"".join(items))
@@ -423,7 +423,7 @@ class User:
         self.go_on()
 
     def _put_back(self) -> Task[None]:
-        """Has a new server have all sessions as they are."""
+        """Puts all sessions back at a new server."""
         if self._is_to_try_again:
             yield from drop_all()
             self._is_to_try_again = False
@@ -436,11 +436,11 @@ class User:
         self._note("ready", user=self.name)
 
     def _has_task(self) -> bool:
-        """Whether a task is to begin as soon as nothing is on its way."""
+        """Whether a task is to begin as soon as nothing is unanswered."""
         return (self._is_over or self._is_wanted) and self._is_due() or self._reading is not None and self._is_to_read()
 
     def _is_due(self) -> bool:
-        """Whether a snapshot is to be taken as soon as nothing is on its way. Within a transaction none is."""
+        """Whether a snapshot is to be taken as soon as nothing is unanswered. Within a transaction none is."""
         if self.local is not None or not (self._is_over or self._is_wanted):
             return False
         if self.number == self._seq and (self._long is None or self._long.left == self._long.left_at_snapshot):
@@ -451,13 +451,13 @@ class User:
         return most > BUDGETS_TO_WAIT
 
     def _is_to_read(self) -> bool:
-        """Whether something is to be read as soon as nothing is on its way. Within a transaction nothing is."""
+        """Whether a reading task is to begin as soon as nothing is unanswered. Within a transaction none is."""
         if self._reading is None or self.local is not None or self._long is not None or self._again or self.is_settling:
             return False
         return not self.sessions.have_pending()
 
     def _take_snapshot(self) -> Task[None]:
-        """Reads what has changed, and has it written in place of the records since the snapshot before."""
+        """Reads what has changed, to be written in place of the records since the last snapshot."""
         changed = yield from read_all(self.sessions, self._seq)
         ids = self.sessions.ids()
         self._parts.update((part.id, part._replace(symbols=b"", frames=b"")) for part in changed)
@@ -471,33 +471,33 @@ class User:
         self._is_near_an_end = self.sessions.are_near_an_end()
 
     def settle(self) -> None:
-        """Takes no more items, and a snapshot as soon as nothing is on its way."""
+        """Stops taking items, and takes a snapshot once nothing is unanswered."""
         self.is_settling = self._is_wanted = True
         self.go_on()
 
     def is_settled(self) -> bool:
-        """Whether a server may end without that anything is lost but time."""
+        """Whether the end of a server would lose nothing but time."""
         return bool(self.stopped) or self.link is None or self.local is None and self._is_quiet() and not self._is_due()
 
     def known(self) -> Dict[str, object]:
-        """What the status has of it."""
+        """Its entry in the status."""
         state = "stopped" if self.stopped else "ready" if self.is_ready else "is put back"
         known = {"state": state, "why": self.stopped or None, "records": len(self.records), "bytes": self._bytes}
         return {**known, "left": round(self._seconds_left(), 1), "today": self.allowance.known() if self.allowance else {}}
 
     def _seconds_left(self) -> float:
-        """About how long it is still put back: what was computed since its snapshot is computed again."""
+        """About how many seconds putting back still takes: steps since the snapshot are computed again."""
         if self.stopped or self.is_ready:
             return 0.0
         gone = time.monotonic() - self._put_back_since if self.link is not None else 0.0
         return max(self._seconds - gone, 0.0)
 
     def is_away(self) -> bool:
-        """Whether it has no connection, and nothing is on its way."""
+        """Whether it has no client, and nothing is unanswered."""
         return self.client is None and not (self.waiting or self.locals) and self.link is not None and self.is_ready and self._is_idle()
 
     def is_leaving(self) -> bool:
-        """Whether it is away, or will be when a snapshot is taken, or was stopped."""
+        """Whether it is away, will be after a snapshot, or was stopped."""
         return self.client is None and not (self.waiting or self.locals) and not self.sessions.have_pending()
 
     def is_kept(self) -> bool:
@@ -505,7 +505,7 @@ class User:
         return self.number == self._seq and not self.sessions.have_pending()
 
     def wait_for_pending(self) -> None:
-        """Has pending steps be waited for while it is away, and then a snapshot taken."""
+        """Begins to wait for pending steps while it is away. A snapshot follows."""
         if self._task is None and self.sessions.have_pending():
             self._task, self._is_wanted = wait_for(self.sessions.by_name.values()), True
             self._step(None)

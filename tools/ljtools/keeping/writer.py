@@ -1,4 +1,4 @@
-"""Writes changes, and has them on the disk before the replies are sent, or within a second."""
+"""Writes changes, and syncs them to the disk before the replies are sent, or within a second."""
 import asyncio
 import contextlib
 import queue
@@ -14,22 +14,22 @@ Then = Callable[[], None]
 
 
 class Work(NamedTuple):
-    """A change to be written, and what is done then."""
+    """A change to write, and a function to call then."""
 
     change: Change
     then: Then
 
 
 class Writer:
-    """Writes changes of all users. A fault of it is told once, and nothing is done after it.
+    """Writes changes of all users. Its first fault is reported, and nothing is done after it.
 
-    For `group` a thread writes all that came since its last transaction in the next one. For `second` each change is written at
-    once, where a transaction waits for no disk, and a thread has them on the disk each second. `syncs` is how often it was waited for
-    the disk, and `seconds` how long in all.
+    For `group`, a thread writes all changes since its last transaction in the next one. For `second`, each change is written at once,
+    in a transaction that does not wait for the disk, and a thread syncs each second. `syncs` is the number of waits for the disk, and
+    `seconds` their total time.
     """
 
     def __init__(self, store: Store, sync: str, fail: Callable[[str], None], may_tell: Callable[[], bool]):
-        """`may_tell` says whether what needs no write may be told."""
+        """`may_tell` returns whether replies that need no write may be sent."""
         self._store, self._sync, self._fail, self.may_tell = store, sync, fail, may_tell
         self._has_failed = self._is_dirty = False
         self.syncs, self.seconds = 0, 0.0
@@ -38,7 +38,7 @@ class Writer:
         self._thread: Optional[threading.Thread] = None
 
     def write(self, change: Change, then: Then) -> bool:
-        """Writes a change. Returns True if that is done; else something is done when it is."""
+        """Writes a change. Returns True if it is written; else `then` is called when it is."""
         if self._sync == "group":
             self._begin()
             self._queue.put(Work(change, then))
@@ -58,7 +58,7 @@ class Writer:
             self._thread.start()
 
     def _write_on(self) -> None:
-        """Writes what comes, up to the end."""
+        """Writes queued changes, up to the end."""
         while (first := self._queue.get()) is not None:
             works: List[Optional[Work]] = [first]
             while works[-1] is not None and not self._queue.empty():
@@ -68,7 +68,7 @@ class Writer:
                 break
 
     def _write_all(self, works: List[Work]) -> None:
-        """Writes changes in one transaction, and has the loop do what follows."""
+        """Writes changes in one transaction, then calls `_are_done` in the loop."""
         try:
             self._timed(lambda: self._store.write([work.change for work in works]))
         except Exception as error:
@@ -77,13 +77,13 @@ class Writer:
         self._loop.call_soon_threadsafe(self._are_done, works)
 
     def _timed(self, sync: Callable[[], None]) -> None:
-        """Does what waits for the disk."""
+        """Times a wait for the disk."""
         begun = time.monotonic()
         sync()
         self.syncs, self.seconds = self.syncs + 1, self.seconds + time.monotonic() - begun
 
     def _are_done(self, works: List[Work]) -> None:
-        """Does what follows. A fault there is that of one user."""
+        """Calls the function of each change. An error there concerns one user."""
         for work in works:
             try:
                 if not self._has_failed:
@@ -97,7 +97,7 @@ class Writer:
             self._fail(why)
 
     async def sync_on(self) -> None:
-        """Has what was written in a second on the disk, if nothing else has."""
+        """For `second`, syncs what was written to the disk each second."""
         while self._sync == "second":
             await asyncio.sleep(SECONDS_BETWEEN_SYNCS)
             if self._is_dirty:
@@ -108,7 +108,7 @@ class Writer:
                     self._note_failure(str(fault))
 
     def close(self) -> None:
-        """Waits until what was begun is written and on the disk."""
+        """Waits until all changes are written and on the disk."""
         if self._thread is not None:
             self._queue.put(None)
             self._thread.join()

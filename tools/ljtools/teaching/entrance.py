@@ -1,5 +1,5 @@
-"""Who may have the pages of a class: students by the tokens of their slips, and who has the token of the wall. A browser that has said
-one has a cookie in its place, which only this class makes, and which is worth nothing when the token has changed."""
+"""Access to the pages of a class: for students by the tokens of their slips, and for the wall by its token. A browser that has sent a
+token gets a cookie in its place. Only this class makes such cookies, and they are invalid once the token has changed."""
 import base64
 import hashlib
 import hmac
@@ -11,7 +11,7 @@ from ..keeping.accounts import Account
 from ..user_files import Fault, write_secrets
 
 KEY, KEY_BYTES, WALL_BYTES = "page.key", 32, 18
-# The prefix has a browser take it only from this address, over TLS.
+# Browsers accept this prefix only from this address, over TLS.
 STUDENT, WALL = "__Host-ljserve", "__Host-ljserve-wall"
 ATTRIBUTES = "Path=/; Secure; HttpOnly; SameSite=Strict"
 NOBODY = Account(b"", "0 0 0")
@@ -31,7 +31,7 @@ def key_in(folder: pathlib.Path) -> bytes:
 
 
 class Entrance:
-    """What is let in."""
+    """Checks tokens, and makes and checks cookies."""
 
     def __init__(self, key: bytes, accounts: Callable[[], Mapping[str, Account]]):
         self._key, self._accounts = key, accounts
@@ -50,20 +50,20 @@ class Entrance:
         return hmac.compare_digest(self.wall_token.encode(), str(token).encode("utf-8", "replace"))
 
     def cookie_of(self, name: str) -> str:
-        """What a student's browser is given."""
+        """The cookie for a student's browser."""
         return f"{STUDENT}={self._value_of(name)}; {ATTRIBUTES}"
 
     def wall_cookie(self) -> str:
-        """What the browser of the wall is given."""
+        """The cookie for the browser of the wall."""
         return f"{WALL}={self._sealed('wall').hex()}; {ATTRIBUTES}"
 
     @staticmethod
     def no_cookie() -> str:
-        """What has a browser have a student's cookie no more."""
+        """The cookie that removes a student's cookie."""
         return f"{STUDENT}=; Max-Age=0; {ATTRIBUTES}"
 
     def student_of(self, cookies: Mapping[str, str]) -> Optional[str]:
-        """The student whose cookie this is, if it is one of now."""
+        """The student to whom the cookie belongs, if it is valid."""
         value = cookies.get(STUDENT, "")
         name = value.partition(".")[0]
         if name not in self._accounts() or not hmac.compare_digest(value.encode("utf-8", "replace"), self._value_of(name).encode()):
@@ -71,7 +71,7 @@ class Entrance:
         return name
 
     def has_wall(self, cookies: Mapping[str, str]) -> bool:
-        """Whether this is the cookie of the wall."""
+        """Whether the cookie of the wall is valid."""
         return hmac.compare_digest(cookies.get(WALL, "").encode("utf-8", "replace"), self._sealed("wall").hex().encode())
 
     def _value_of(self, name: str) -> str:

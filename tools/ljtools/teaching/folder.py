@@ -19,7 +19,7 @@ ANOTHER = "use another folder by --keep FOLDER"
 
 
 class Asked:
-    """The users that a command line asks for: by their names and a quota, or those of a file. Of these the hash tells others."""
+    """The users that a command line asks for: names and a quota, or a file. Files are compared by a hash of their users."""
 
     def __init__(self, names: Sequence[str], quota: Sequence[int], file: Optional[str]):
         """Raises Fault if the file cannot be read or something is wrong with it."""
@@ -49,7 +49,7 @@ class Kept:
         self._note = path / NOTE
 
     def note(self) -> Optional[Dict[str, Any]]:
-        """What the class was begun with, or None where there is none yet. Raises Fault if the folder is something else."""
+        """The users that the class was begun with, or None if it is new. Raises Fault if the folder has something else."""
         try:
             known = json.loads(self._note.read_text())
             if {"names", "quota", "file"} <= set(known):
@@ -70,7 +70,7 @@ class Kept:
         return Fault(f"cannot use {self.path}: it has {what}, and no class; {ANOTHER}")
 
     def check(self, asked: Asked) -> bool:
-        """Whether the class is a new one. Raises Fault, and changes nothing, if the folder has one of other users."""
+        """Whether the class is new. Changes nothing. Raises Fault if the folder has a class of other users."""
         known = self.note()
         if known is None and asked.is_none():
             raise Fault(f"cannot begin: {self.path} has no class yet; use COUNT, NAME.. or --users FILE")
@@ -87,7 +87,7 @@ class Kept:
         return False
 
     def begin(self, asked: Asked) -> Place:
-        """Has the folder be that of this class alone. Who asks for it was checked. Raises Fault if another one uses it."""
+        """Takes the folder for this class alone, after `check`. Raises Fault if another class uses it."""
         try:
             self.path.mkdir(mode=0o700, parents=True, exist_ok=True)
         except OSError as error:
@@ -113,7 +113,7 @@ class Kept:
             return list(roll.users())
 
     def put_users(self, asked: Asked) -> None:
-        """Has the users of a new class, unless it was ended when it had them."""
+        """Stores the users of a new class, unless there are users already."""
         if self.users():
             return
         with self._roll() as roll:
@@ -123,19 +123,19 @@ class Kept:
                 roll.add(asked.names, asked.quota)
 
     def add(self, name: str) -> None:
-        """Adds a user of the quota of the class. Raises Fault if there is one of the name."""
+        """Adds a user with the quota of the class. Raises Fault if the name is taken."""
         with self._roll() as roll:
             roll.add([name], (self.note() or {})["quota"])
 
     def renew(self, name: str) -> None:
-        """Gives a user a new token. Raises Fault if there is none of the name."""
+        """Gives a user a new token. Raises Fault if there is no such user."""
         with self._roll() as roll:
             roll.add([name], None)
 
     # Its certificate.
 
     def make_certificate(self, host: str) -> None:
-        """Makes a certificate, unless there is one, whose fingerprint is on the slips. Raises Fault."""
+        """Makes a certificate, whose fingerprint is on the slips, unless there is one. Raises Fault."""
         if not (self.path / CERTIFICATE).exists():
             try:
                 made = made_certificate([host])
@@ -151,7 +151,7 @@ class Kept:
             raise self._certificate_fault(error) from error
 
     def context(self) -> ssl.SSLContext:
-        """What has connections be encrypted. Raises Fault if the certificate cannot be used."""
+        """The TLS context of connections. Raises Fault if the certificate cannot be used."""
         context = ssl.SSLContext(ssl.PROTOCOL_TLS_SERVER)
         context.minimum_version = ssl.TLSVersion.TLSv1_2
         try:

@@ -1,4 +1,4 @@
-"""The scales of the sessions of a class, as prompts have noted them, each for as long as its session is not loaded again."""
+"""The scales of the sessions of a class, as prompts have noted them. Each is valid until its session is loaded again."""
 from __future__ import annotations
 
 import json
@@ -19,11 +19,11 @@ class KeptScales:
         self._folder = folder / FOLDER
 
     def of(self, name: str, sessions: Sessions) -> Dict[str, str]:
-        """The scales that are kept of these sessions, by their names."""
+        """The kept scales of these sessions, by session name."""
         return {session: text for session, (_, text) in self._kept(name, sessions).items()}
 
     def put(self, name: str, sessions: Sessions, session: str, text: str) -> bool:
-        """Keeps a scale. Returns whether there is a session of this name, and the scale is no longer than one can be."""
+        """Keeps a scale. Returns False if there is no session of this name, or the scale is longer than MAX_TEXT."""
         loaded = sessions.by_name.get(session.encode("utf-8", "replace"))
         if loaded is None or len(text) > MAX_TEXT:
             return False
@@ -35,7 +35,7 @@ class KeptScales:
         return True
 
     def _kept(self, name: str, sessions: Sessions) -> Dict[str, Tuple[int, str]]:
-        """What the file has of sessions that were loaded by the same records. Nothing where it cannot be read."""
+        """The entries of the file whose sessions have the same load records. Empty if it cannot be read."""
         loaded = {session.decode(): each.id for session, each in sessions.by_name.items()}
         try:
             told = json.loads((self._folder / f"{name}.json").read_text())

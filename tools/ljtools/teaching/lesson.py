@@ -46,8 +46,8 @@ NOT_TOLD = ("kicked", "program", "begins anew", "ready", "failed")
 
 
 class Lesson(NamedTuple):
-    """What a class has beside its front: its folder, its slips and what they say, how it is begun again, whether what is shown is a
-    terminal, where slips may be shown, the steps of a lesson that pages and the wall show, if there is one, and the file of its marks."""
+    """The parts of a class beside its front: its folder, its slips and what they say, the command line that continues it, whether
+    the output is a terminal, where slips may be shown, the lesson that pages and the wall show, if any, and the file of its marks."""
 
     kept: Kept
     slips: Slips
@@ -59,7 +59,7 @@ class Lesson(NamedTuple):
 
 
 class Handshakes:
-    """Lets clients come in: as many of an address as may be on their way, each over TLS if there is a certificate."""
+    """Accepts clients, over TLS if there is a certificate. Limits the clients of an address that are not in yet."""
 
     def __init__(self, front: "ClassFront", listener: socket.socket, tls: Optional[ssl.SSLContext]):
         self._front, self._listener, self._tls = front, listener, tls
@@ -83,7 +83,7 @@ class Handshakes:
                 self._front.begin_task(self._let_in(stream, seen))
 
     async def _let_in(self, stream: socket.socket, seen: Connection) -> None:
-        """Has a connection be one of a client of the front, when it is encrypted."""
+        """Makes a connection a client of the front, after the TLS handshake."""
         limit: Dict[str, Any] = {"ssl_handshake_timeout": SECONDS_FOR_FIRST_LINE} if self._tls else {}
         try:
             await asyncio.get_running_loop().connect_accepted_socket(lambda: Client(self._front), stream, ssl=self._tls, **limit)
@@ -95,7 +95,7 @@ class Handshakes:
                 self._front.note_not_let_in(seen)
 
     def take(self, origin: str) -> Optional[Connection]:
-        """What was seen of a connection, which is a client of the front from now on."""
+        """Removes and returns the record of a connection. None if it was taken before."""
         return self._seen.pop(origin, None)
 
     def close(self) -> None:
@@ -114,7 +114,7 @@ class ClassFront(Front):
     """A front whose users are a class."""
 
     seconds_for_hello = SECONDS_FOR_FIRST_LINE
-    # Has the pages be served from now on, if there are any.
+    # Starts to serve the pages, if there are any.
     begin_pages: Optional[Callable[["ClassFront"], ClassPages]] = None
 
     def __init__(self, options: Options, board: Board, lesson: Lesson, tls: Optional[ssl.SSLContext]):
@@ -126,7 +126,7 @@ class ClassFront(Front):
         self._marks, self._why_no_marks = lesson.marks, ""
         self.scales = KeptScales(lesson.kept.path)
         self.pages: Optional[ClassPages] = None
-        # Whether pages may ask for nothing any more.
+        # Whether pages may no longer ask for anything.
         self._is_over = False
         self._lines: "asyncio.Queue[str]" = asyncio.Queue()
         self.why = ""
@@ -134,7 +134,7 @@ class ClassFront(Front):
     # Who comes in.
 
     async def listen(self) -> Listening:
-        """Has students come in when the server answers."""
+        """Lets students in once the server answers."""
         while not self._hosts.is_well() and not self._is_ending.is_set():
             await asyncio.sleep(SECONDS_BETWEEN_TRIES)
         self._handshakes = Handshakes(self, self._options.listener, self._tls)
@@ -151,8 +151,8 @@ class ClassFront(Front):
         return self._handshakes
 
     def _begun_pages(self) -> Optional[str]:
-        """Has the pages be served, if there are any. Returns where they are, and where the wall is: that is for who is at the terminal
-        alone, or in a file."""
+        """Starts to serve the pages, if any. Returns a text with their address and the link of the wall or, if the output is no
+        terminal, the file with that link."""
         lesson = self._lesson
         if self.begin_pages is None:
             return None
@@ -163,7 +163,7 @@ class ClassFront(Front):
         return f"pages are at https://{lesson.way.page}/, and the wall for a projector is {where}"
 
     def admitted(self, origin: str) -> Optional[Connection]:
-        """What is seen of a connection from now on, or None if too many of its address are not in."""
+        """The record of a new connection, or None if too many of its address are not in."""
         seen = super().new_connection(origin)
         return seen if self._board.admits(seen) else None
 
@@ -171,7 +171,7 @@ class ClassFront(Front):
         self._board.ends(seen)
 
     def new_connection(self, origin: str) -> Connection:
-        """What is seen of a client: what was seen of it since it was accepted."""
+        """The record of a connection, begun when it was accepted."""
         seen = self._handshakes.take(origin) if self._handshakes else None
         if seen is None:
             return super().new_connection(origin)
@@ -179,11 +179,11 @@ class ClassFront(Front):
         return seen
 
     def turns_away(self, client: Client) -> None:
-        """Counts a client that is turned away, and tells no line of its own of it."""
+        """Counts a client that is turned away, without a line of its own."""
         super().turns_away(client)
         self.leaves_out(client)
 
-    # What its pages ask of it.
+    # For its pages.
 
     @property
     def is_ending(self) -> bool:
@@ -191,22 +191,22 @@ class ClassFront(Front):
 
     @property
     def accounts(self) -> Accounts:
-        """The users of now."""
+        """The current users."""
         return self._accounts
 
     async def user_of(self, name: str) -> Optional[User]:
-        """A user whom a page of this process shows, or None if it is not let in."""
+        """The user for a page of this process, or None if it is not let in."""
         if name in self._accounts and not self.is_ending:
             await self._claimed(name)
         return None if self._is_over else self.kept(name)
 
     def kept(self, name: str) -> Optional[User]:
-        """A user who is here, if it is one that is let in."""
+        """The user, if it is at this front and let in."""
         user = self._users.get(name)
         return None if user is None or user.stopped else user
 
     def end_locals(self) -> None:
-        """Has pages ask for nothing any more. What is asked is still done, and is told to nobody."""
+        """Refuses all further requests of pages. Those under way are still done, but not answered."""
         self._is_over = True
         for user in self._users.values():
             for local in [*user.locals]:
@@ -225,7 +225,7 @@ class ClassFront(Front):
         self._board.ends(seen)
 
     def deny_page(self, seen: Connection) -> None:
-        """Counts a wrong token, as that of a connection that was denied."""
+        """Counts a wrong token as a denied connection."""
         seen.state = "denied"
         self._board.begins(seen)
         self._board.ends(seen)
@@ -237,7 +237,7 @@ class ClassFront(Front):
         return lambda item, reply: self._hear(user, item, reply, user.local is None or user.local.is_typed)
 
     def _hear(self, user: User, item: Item, reply: bytes, is_typed: bool) -> None:
-        """Takes in what a student was replied. What a page looks at by itself is nothing of the lesson."""
+        """Takes in a command and its reply. Untyped commands of pages do not count for the lesson."""
         self.wall.hear(user, item, reply, is_typed)
         if self.lessons is not None and is_typed:
             try:
@@ -246,12 +246,12 @@ class ClassFront(Front):
                 self.fail(f"cannot keep the lesson of {user.name}: {error.strerror or error}")
 
     def rows(self, pages: Mapping[str, int]) -> List[Dict[str, Any]]:
-        """What the wall shows of each student."""
+        """The row of each student for the wall."""
         rows = self.wall.rows([*self._accounts], self._users, self._board.open(), pages)
         return [{**row, "steps": self.lessons and self.lessons.steps(row["name"])} for row in rows]
 
     def take_pictures(self, looked_at: Collection[str]) -> None:
-        """Has the wall have pictures of the students' sessions, of all sessions of those who are looked at."""
+        """Takes pictures of sessions for the wall: of all sessions for students who are looked at."""
         self.wall.pictures.ask(self._users, looked_at)
 
     async def _write_marks_on(self) -> None:
@@ -261,7 +261,7 @@ class ClassFront(Front):
             await asyncio.sleep(SECONDS_BETWEEN_MARKS)
 
     async def _write_marks(self) -> None:
-        """Writes the marks, if there is a file for them. That it cannot be written is told once."""
+        """Writes the marks, if there is a file for them. The same error is reported once."""
         marks, lessons = self._marks, self.lessons
         if marks is None or lessons is None:
             return
@@ -282,14 +282,14 @@ class ClassFront(Front):
         await super()._settle()
 
     def heed_signals(self) -> None:
-        """Has signals end it, but for those that are ignored, as HUP is under nohup."""
+        """Makes signals end the class, except ignored ones, such as HUP under nohup."""
         loop = asyncio.get_running_loop()
         for number, heed in ((signal.SIGINT, self._interrupt), (signal.SIGTERM, self._end), (signal.SIGHUP, self._end)):
             if signal.getsignal(number) is not signal.SIG_IGN:
                 loop.add_signal_handler(number, heed)
 
     def _interrupt(self) -> None:
-        """Ends the class, at once if nobody is in, else when it is asked for again."""
+        """Ends the class: at once if nobody is in, else at a second interrupt."""
         count = self._board.users_in()
         if not count or time.monotonic() < self._confirmed_until:
             self._end()
@@ -300,7 +300,7 @@ class ClassFront(Front):
         self._board.say(told)
 
     def note_server_end(self, ended: str, begun: int) -> None:
-        """A server has ended. If none was there yet, no other one is tried."""
+        """A server has ended. If none has answered yet, no other one is started."""
         if not self._was_well and not self._is_ending.is_set():
             self.fail(f"cannot start the server: {ended}")
 
@@ -309,7 +309,7 @@ class ClassFront(Front):
         super().fail(why)
 
     def note(self, event: str, **known: object) -> None:
-        """Says what a teacher has to know, and has all in the status."""
+        """Shows what a teacher has to know, and updates the status."""
         self._board.notes(event, **known)
         texts: Dict[str, str] = {
             "server begun": "the server was begun again, and goes on where it was" if self._was_well else "",
@@ -322,7 +322,7 @@ class ClassFront(Front):
         self._put_status()
 
     def known(self) -> Dict[str, Any]:
-        """What is told of all."""
+        """The status of the front."""
         return {**super().known(), "has_tls": self._tls is not None}
 
     # What is typed.
@@ -340,7 +340,7 @@ class ClassFront(Front):
                 self._board.say(str(fault))
 
     async def _heed(self, line: str) -> None:
-        """Does what a line asks for. Raises Fault, which says what to do, if that cannot be."""
+        """Does what a line asks for. Raises Fault, with advice, if that is impossible."""
         words = line.split()
         if not words:
             return
@@ -396,7 +396,7 @@ class ClassFront(Front):
             raise Fault(f"there is no user {name}; use `a {name}` to add one")
 
     async def _change_user(self, change: Callable[[str], None], name: str) -> None:
-        """Changes a user in the store, and waits until that counts here."""
+        """Changes a user in the store, and waits until the front has it."""
         before = self._accounts.get(name)
         await asyncio.to_thread(change, name)
         end = time.monotonic() + SECONDS_UNTIL_IN
@@ -409,13 +409,13 @@ class ClassFront(Front):
         return lesson.slips.write(lesson.kept.users(), lesson.way)
 
     def _tell_slip(self, name: str, files: List[str], what: str) -> None:
-        """Says what has become of a user, with the slip if nobody but who is at the terminal sees it."""
+        """Reports the change of a user, with the slip if the output is a terminal."""
         slips = [slip_of(user, self._lesson.way) for user in self._lesson.kept.users() if user.name == name]
         shown = [f"\n\n{slip}" for slip in slips if self._lesson.is_terminal]
         self._board.say("".join([f"{name} {what}: the slip is in {' and '.join(files)}", *shown]))
 
 
 def shown_line(line: str) -> str:
-    """What was typed, as it may be shown: it may be long, or a token that was pasted."""
+    """A typed line as it may be shown: shortened, and without a pasted token."""
     text = re.sub(r"[A-Za-z0-9]{32,}", "..", line.strip())
     return repr(text if len(text) <= 40 else f"{text[:37]}..")

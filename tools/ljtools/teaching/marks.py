@@ -8,12 +8,12 @@ from ..user_files import Fault, write_secrets
 from .progress import Lessons, Mark
 
 FIRST, LAST = "student", "total"
-# A table of numbers would take what begins so for a formula.
+# Spreadsheets take cells that begin so for formulas.
 OF_FORMULAS = ("=", "+", "-", "@")
 
 
 def shown(mark: Mark) -> str:
-    """What is told of a step: nothing until its replies have come."""
+    """The cell of a step: empty until its replies have come."""
     if not mark.is_seen:
         return ""
     if mark.step.question is None:
@@ -39,14 +39,14 @@ def text_of(lessons: Lessons, names: Iterable[str]) -> str:
 
 
 class MarksFile:
-    """The file, which is written whole when something has changed, for its owner alone."""
+    """The file of marks, rewritten as a whole at each change, for its owner alone."""
 
     def __init__(self, path: str):
         self.path = path
         self._written = ""
 
     def check(self, may_have_marks: bool) -> None:
-        """Raises Fault if there is another file. One with marks may be that of this class."""
+        """Raises Fault if the file is not empty. If `may_have_marks`, it may have marks."""
         try:
             with open(self.path, encoding="utf-8", errors="replace") as file:
                 first = file.readline(1 << 10)
@@ -58,7 +58,7 @@ class MarksFile:
             raise Fault(f"cannot write {self.path}: it exists, and has no marks of this class; use another file by --marks FILE")
 
     def write(self, text: str) -> None:
-        """Has the file have this text. Raises Fault."""
+        """Writes the text if it has changed. Raises Fault."""
         if text != self._written:
             write_secrets({os.path.abspath(self.path): text}, True)
             self._written = text

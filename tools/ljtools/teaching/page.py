@@ -1,7 +1,7 @@
-"""The HTTPS address of a class: the page of a student, which is the live view's with a box for commands, and the wall.
+"""The HTTPS pages of a class: the page of a student, which is the live view's with a box for commands, and the wall.
 
-A page is open for as long as its WebSocket is. The token of a link is in its fragment, which no browser sends: the page posts it once,
-and has a cookie in its place. Only pages of this address may post, or begin a WebSocket.
+A page is open for as long as its WebSocket is. The token of a link is in its fragment, which no browser sends. The page posts it once,
+and gets a cookie in its place. Only pages of this address may post, or open a WebSocket.
 """
 from __future__ import annotations
 
@@ -40,7 +40,7 @@ TOP = pathlib.Path(__file__).resolve().parents[3]
 SHARED, OWN = TOP / "packaging" / "page", pathlib.Path(__file__).resolve().parent / "files"
 OF_SHARED = ("commands.js", "examples.js", "panel.css", "typed.js")
 PARTS = ("parts.html", "lesson.html")
-# A part of the page, and the words of the view's page before which it stands.
+# A part of the page, and the text of the view's page before which it is inserted.
 PART = re.compile(r"^<!-- before (.*) -->\n", re.MULTILINE)
 MAX_MESSAGE = 3 << 20
 MAX_WORDS = 1 << 10
@@ -48,7 +48,7 @@ PAGES_OF_A_STUDENT, WALLS = 4, 8
 CONNECTIONS_OF_A_PLACE = 8
 SECONDS_BETWEEN_NEWS = 0.2
 SECONDS_TO_CLOSE, SECONDS_TO_TAKE = 3.0, 5.0
-# All pages together have so many answers a second, so that prompts are answered beside them.
+# Limit of answers a second to all pages together, so that prompts are answered too.
 ANSWERS_A_SECOND = 300
 GOING_AWAY = 1001
 ENDED = "The class has ended. Load this page again when it goes on."
@@ -65,7 +65,7 @@ class File(NamedTuple):
 
 
 def with_parts(page: str, parts: str) -> str:
-    """The page of the view, with what the page of a class has beside it."""
+    """The page of the view, with the additional parts of a class."""
     _, *found = PART.split(parts)
     for before, part in zip(found[::2], found[1::2]):
         assert page.count(before) == 1, before
@@ -74,7 +74,7 @@ def with_parts(page: str, parts: str) -> str:
 
 
 def files() -> Dict[str, File]:
-    """All files by their paths: those of the view, those that it shares with the static page, and the class' own."""
+    """All files by their paths: those of the view, those shared with the static page, and the class' own."""
     paths = [view.FOLDER / name for name, _ in view.FILES.values()]
     paths += [SHARED / name for name in OF_SHARED] + sorted(path for path in OWN.iterdir() if path.name not in PARTS)
     found = {path.name: File(view.TYPES[path.suffix], path.read_bytes()) for path in paths}
@@ -87,7 +87,7 @@ def files() -> Dict[str, File]:
 
 
 class Paced(view.Messages):
-    """The messages of a page whose student may come, no faster than all pages together may be answered."""
+    """The messages of a page while its cookie is valid. Their rate is limited over all pages together."""
 
     def __init__(self, page: Any, pages: ClassPages, seen: Connection, cookies: Any):
         super().__init__(page)
@@ -109,7 +109,7 @@ class Paced(view.Messages):
 
 
 class Open(NamedTuple):
-    """A page that is open: its WebSocket, its messages, the stream below, and whose it is: a student's or, if it is a wall, nobody's."""
+    """An open page: its WebSocket, its messages, its transport, and its student, or None if it is a wall."""
 
     page: Any
     messages: view.Messages
@@ -176,7 +176,7 @@ class ClassPages:
         return self._begun[host] + len([peer for peer in peers if peer is not None and peer[0] == host])
 
     async def _serve(self, stream: socket.socket, host: str) -> None:
-        """Has a connection be answered, when it is encrypted."""
+        """Serves a connection, after the TLS handshake."""
         self._begun[host] += 1
         try:
             prepare(stream)
@@ -192,7 +192,7 @@ class ClassPages:
     # Requests.
 
     async def _answer(self, request: Any) -> Any:
-        """A file of the page, a cookie, or the session of a page."""
+        """The answer: a file, a cookie, or the session of a page."""
         self._protocols.keep(request.protocol)
         host, origin, path = request.headers.get("Host", ""), request.headers.get("Origin"), request.path[1:]
         is_ours = origin == f"https://{host}"
@@ -212,7 +212,7 @@ class ClassPages:
         return view.told(200, file.kind, file.body, [f"'self' wss://{host}"])
 
     async def words_of(self, request: Any, most: int = MAX_WORDS) -> Dict[str, Any]:
-        """What a page posts: words, or none."""
+        """The JSON object that a page posts, else an empty one."""
         if not 0 < (request.content_length or 0) <= most:
             return {}
         try:
@@ -227,13 +227,13 @@ class ClassPages:
         return with_cookie(self.entrance.cookie_of(name)) if refused is None else refused
 
     def _named(self, request: Any, words: Dict[str, Any]) -> Tuple[str, Any]:
-        """The student whose name and token are posted, and the refusal if there is none."""
+        """The posted name of a student, and the refusal if name and token do not match."""
         name = str(words.get("name", ""))
         token = "".join(str(words.get("token", "")).split())
         return name, self._refused(request, name, lambda: self.entrance.is_student(name, token))
 
     def poster_of(self, request: Any, words: Dict[str, Any]) -> Tuple[str, Any]:
-        """The student who posts, by the cookie of a page or by name and token, and the refusal if there is none."""
+        """The student who posts, by the cookie of a page or by name and token, and the refusal if neither is valid."""
         name = self.entrance.student_of(request.cookies)
         return self._named(request, words) if name is None else (name, None)
 
@@ -246,7 +246,7 @@ class ClassPages:
         return with_cookie(self.entrance.no_cookie())
 
     def _refused(self, request: Any, name: str, is_right: Any) -> Any:
-        """The refusal of a token, or None if it is right. Of an address only so many wrong ones are looked at."""
+        """The refusal of a token, or None if it is right. The number of wrong ones of an address is limited."""
         host, seen = str(request.remote), Connection(origin_of(request))
         if self._denials.is_full(host):
             self._front.turn_page_away(seen)
@@ -261,7 +261,7 @@ class ClassPages:
     # Pages.
 
     async def _begun_session(self, request: Any, path: str) -> Any:
-        """Agrees to a WebSocket, and answers the page until it is gone."""
+        """Accepts a WebSocket, and answers the page until it is gone."""
         name = self.entrance.student_of(request.cookies) if path == "session" else None
         if name is None and not (path == "wall-session" and self.entrance.has_wall(request.cookies)):
             return said(403, "say the token first")
@@ -311,7 +311,7 @@ class ClassPages:
             await student.leave(talk)
 
     async def _show_wall(self, page: Any, transport: Any) -> None:
-        """Shows the wall what is known of all, until it is gone. It says whom it looks at."""
+        """Serves a wall until it is gone. Its messages say which student it looks at."""
         if len(self._walls) >= WALLS:
             await view.refuse(page, f"{WALLS} walls are open already")
             return
@@ -326,22 +326,22 @@ class ClassPages:
             self._walls.remove((opened, wall))
 
     def _rows(self) -> str:
-        """What walls show of all students."""
+        """The rows of all students for walls."""
         pages = Counter(each.student.name for each in self._open if each.student is not None)
         return json.dumps({"teacher": self._said, "students": self._front.rows(pages)})
 
     def _news_of_walls(self) -> List[Any]:
-        """What walls are told now."""
+        """The messages to walls, as coroutines."""
         if not self._walls:
             return []
         self._front.take_pictures([wall.looks_at for _, wall in self._walls])
         rows, now = self._rows(), time.monotonic()
         return [told_if_there(opened, text) for opened, wall in self._walls for text in wall.news(rows, now)]
 
-    # What pages are told unasked.
+    # Unrequested messages to pages.
 
     async def _tell_news(self) -> None:
-        """Tells pages what has changed at their students', and walls what has changed at all."""
+        """Sends pages the changes of their students, and walls all changes."""
         while True:
             await asyncio.sleep(SECONDS_BETWEEN_NEWS)
             found = {student.name: student.news() for student in self._students.values()}
@@ -350,7 +350,7 @@ class ClassPages:
             await asyncio.gather(*told, *self._news_of_walls())
 
     async def say(self, text: str) -> int:
-        """Shows all pages a text of the teacher, also those that are opened later. Returns how many are open."""
+        """Shows a text of the teacher on all pages, also later ones. Returns how many are open."""
         self._said = text
         self._of_students.say(text)
         pages = [each for each in self._open if each.student is not None]
@@ -370,7 +370,7 @@ class ClassPages:
         await opened.page.close(code=GOING_AWAY)
 
     async def close(self) -> None:
-        """Ends all pages, and gives up what was loaded and saved for them."""
+        """Ends all pages, and drops what was loaded and saved for them."""
         self._listener.close()
         self._of_students.say(self._said)
         ends = [asyncio.ensure_future(self._end(each, ENDED)) for each in [*self._open]]
@@ -378,7 +378,7 @@ class ClassPages:
         until = loop.time() + SECONDS_TO_CLOSE
         while (self._open or self._students) and loop.time() < until:
             await asyncio.sleep(SECONDS_BETWEEN_NEWS / 10)
-        # What a page has asked for may take long, and the page waits for it.
+        # A request of a page may take long, and the page waits for it.
         self._front.end_locals()
         for task in [*ends, *self._tasks]:
             task.cancel()
@@ -387,7 +387,7 @@ class ClassPages:
 
 
 async def told_if_there(opened: Open, text: str) -> None:
-    """Tells a page something unasked, unless it is gone. One that takes nothing is ended, so that others do not wait for it."""
+    """Sends an unrequested message to a page, unless it is gone. A page that takes nothing is ended, so that others need not wait."""
     try:
         await asyncio.wait_for(view.Messages.tell(opened.messages, text), SECONDS_TO_TAKE)
     except asyncio.TimeoutError:
@@ -403,12 +403,12 @@ def origin_of(request: Any) -> str:
 
 
 def news_of(**words: Any) -> str:
-    """What a page has not asked for."""
+    """An unrequested message."""
     return json.dumps({"news": words})
 
 
 def said(status: int, text: str) -> Any:
-    """A line of text."""
+    """An answer with a line of text."""
     return view.told(status, "text/plain", text.encode(), ())
 
 

@@ -1,7 +1,7 @@
-"""Small pictures of the sessions of a class: the frame of one session of a student at a time, which the front asks for by a DUMP between
-two commands of that student.
+"""Small pictures of the sessions of a class. The front gets the frame of one session of a student at a time, by a DUMP between two
+commands of that student.
 
-Where steps are pending it is not asked, nor while the session is looked at or changed as one unit. Of many atoms a part is shown.
+It sends no DUMP while steps are pending, or while the session is looked at or changed as one unit. Of many atoms a part is shown.
 """
 from __future__ import annotations
 
@@ -21,21 +21,21 @@ from ..keeping.user import User
 from .students import scale_of
 
 SECONDS_BETWEEN_PICTURES = 3.0
-# So many are asked for at once, so that those of a large class come one after the other.
+# Limit of pictures asked for at once, so that those of a large class are spread in time.
 MOST_AT_ONCE = 4
 MOST_ATOMS = 256
-# How finely places are told, and how finely where an atom was at first, by which it is coloured.
+# Resolution of places, and of the first place of an atom, which sets its colour.
 PLACES, SHADES = 1 << 16, 32
 LINES_BEFORE_ATOMS = 3
 GUARDS = {name.encode() for name in RESERVED}
-# Sessions that are not shown: of the client for itself, and second runs of pages.
+# Sessions that are not shown: the client's own ones, and second runs of pages.
 HIDDEN = re.compile(rf"ljclient-.*|{PREFIX}(?:[0-9]+-2|own-[0-9]+)".encode())
-# Which loaded session it is, and how often that was changed.
+# The number of a loaded session, and how often it was changed.
 Version = Tuple[int, int]
 
 
 class Picture(NamedTuple):
-    """A session as it was at a moment: where it was, and some of its atoms, three places and a shade of each."""
+    """A session at a moment: its step and direction, and some of its atoms, each by three places and a shade."""
 
     version: Version
     step: int
@@ -45,7 +45,7 @@ class Picture(NamedTuple):
     since: float
 
     def told(self, now: float) -> Dict[str, Any]:
-        """What a page draws. Its age is told, since clocks of machines differ."""
+        """The data for a page. It has an age, not a time, since clocks of machines differ."""
         drawn = base64.b64encode(self.atoms.tobytes()).decode()
         known = {"session": self.version[0], "step": self.step, "direction": self.direction, "edge": self.edge}
         return {**known, "age": round(now - self.since, 1), "drawn": drawn}
@@ -57,7 +57,7 @@ def is_shown(name: bytes) -> bool:
 
 
 def places_in(dump: bytes, edge: float) -> "array[int]":
-    """The places in the reply to a DUMP, of so many atoms as are shown. Raises ValueError if it is no such reply."""
+    """The places in the reply to a DUMP, of the atoms that are shown. Raises ValueError if it is no such reply."""
     rows = dump.split(b"\n")[LINES_BEFORE_ATOMS:-1]
     shown = rows[:: -(-len(rows) // MOST_ATOMS) or 1]
     words = [float(word) for row in shown for word in row.split()[1:]]
@@ -67,12 +67,12 @@ def places_in(dump: bytes, edge: float) -> "array[int]":
 
 
 class Album:
-    """The pictures of the sessions of one student, by the numbers of these."""
+    """The pictures of one student's sessions, by session number."""
 
     def __init__(self) -> None:
         self.pictures: Dict[int, Picture] = {}
         self.asked = 0.0
-        # How often each session was changed since the class was begun, the one that was changed last behind the others.
+        # How often each session was changed since the class was begun. The one that was changed last is at the end.
         self._changes: Dict[bytes, int] = {}
         self._shades: Dict[int, List[int]] = {}
 
@@ -80,13 +80,13 @@ class Album:
         self._changes[name] = self._changes.pop(name, 0) + 1
 
     def by_change(self, sessions: Mapping[bytes, Session]) -> List[Session]:
-        """The sessions of which there may be pictures: the one that was changed last before others."""
+        """The sessions that may have pictures, beginning with the one that was changed last."""
         unchanged = [name for name in sessions if name not in self._changes]
         names = [name for name in (*unchanged, *self._changes) if name in sessions and is_shown(name)]
         return [sessions[name] for name in reversed(names)]
 
     def due(self, sessions: Mapping[bytes, Session], is_looked_at: bool) -> Optional[Session]:
-        """The session of which there is to be another picture: the one that was changed last, and if the student is looked at each."""
+        """A session that needs a new picture, if any. If the student is not looked at, only the last changed one is checked."""
         shown = self.by_change(sessions)
         return next((each for each in (shown if is_looked_at else shown[:1]) if self._is_old(each)), None)
 
@@ -105,7 +105,7 @@ class Album:
         return picture is None or picture.version != self._version(session)
 
     def dumped(self, user: User, name: bytes) -> Task[None]:
-        """Takes a picture of a session, if that is there and whole when its turn comes."""
+        """Takes a picture of a session, if it exists when its turn comes, and no look or change is under way."""
         session = user.sessions.by_name.get(name)
         if session is None or not GUARDS.isdisjoint(session.branches):
             return
@@ -132,7 +132,7 @@ class Pictures:
         return self._albums.setdefault(name, Album())
 
     def ask(self, users: Mapping[str, User], looked_at: Collection[str]) -> None:
-        """Asks for some of those that are due, of whom was asked longest ago first."""
+        """Asks for some due pictures, first of students who were asked longest ago."""
         now = time.monotonic()
         waiting = [user for user in users.values() if self.of(user.name).asked + SECONDS_BETWEEN_PICTURES <= now]
         left = MOST_AT_ONCE
@@ -148,5 +148,5 @@ class Pictures:
         return self.of(user.name).asked
 
     def __iter__(self) -> Iterator[Tuple[str, Picture]]:
-        """All that there are, each with the name of its student."""
+        """All pictures, each with the name of its student."""
         return ((name, picture) for name, album in self._albums.items() for picture in album.pictures.values())

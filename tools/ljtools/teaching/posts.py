@@ -1,6 +1,6 @@
-"""What pages and prompts post beside the protocol: answers to questions, the scales of sessions, and the wait for a text of the teacher.
+"""Posts of pages and prompts beside the protocol: answers to questions, the scales of sessions, and the wait for a text of the teacher.
 
-Each says whose it is by the cookie of a page, or by the name and the token of a slip. Answers are JSON.
+Each identifies its student by the cookie of a page, or by the name and the token of a slip. Replies are JSON.
 """
 from __future__ import annotations
 
@@ -16,9 +16,9 @@ if TYPE_CHECKING:
     from .page import ClassPages
 
 MAX_WORDS = 8 << 10
-# So long the teacher's next text is waited for before a prompt has to ask again.
+# Longest wait for the teacher's next text, before a prompt has to ask again.
 SECONDS_OF_A_WAIT = 25.0
-# A student posts so often in a second, and who posts more waits, up to so long.
+# Limit of a student's posts a second, and the longest wait of a further post.
 POSTS_A_SECOND, SECONDS_TO_WAIT = 20, 5.0
 TOO_MANY = "too many posts: wait a moment, and try again"
 NO_LESSON = "the class has no lesson"
@@ -34,12 +34,12 @@ class Posts:
         self._next: Dict[str, float] = {}
 
     def by_path(self) -> Dict[str, Callable[[Any], Any]]:
-        """What answers each post, by its path."""
+        """The handler of each post, by its path."""
         acts = {"answer": self._take_answer, "line": self._wait_for_line, "scales": self._scales, "scale": self._keep_scale}
         return {path: self._act(act) for path, act in acts.items()}
 
     def _act(self, act: Callable[[str, Dict[str, Any]], Any]) -> Callable[[Any], Any]:
-        """An act for who is let in."""
+        """The handler of an act, for students who are let in."""
 
         async def answered(request: Any) -> Any:
             words = await self._pages.words_of(request, MAX_WORDS)
@@ -54,7 +54,7 @@ class Posts:
         return answered
 
     async def _has_turn(self, name: str) -> bool:
-        """Waits until a student may post again. Returns whether that is soon."""
+        """Waits until a student may post again, or returns False at once if that takes too long."""
         now = asyncio.get_running_loop().time()
         turn = max(now, self._next.get(name, now))
         if turn - now > SECONDS_TO_WAIT:
@@ -70,7 +70,7 @@ class Posts:
         self._is_said = asyncio.Event()
 
     async def _wait_for_line(self, name: str, words: Dict[str, Any]) -> Any:
-        """The text of the teacher, as soon as it is another one than is known."""
+        """The text of the teacher, as soon as it differs from the known one."""
         if words.get("known") == self._said:
             with contextlib.suppress(asyncio.TimeoutError):
                 await asyncio.wait_for(self._is_said.wait(), SECONDS_OF_A_WAIT)
@@ -93,7 +93,7 @@ class Posts:
         return answer_of(scales={} if user is None else self._front.scales.of(name, user.sessions))
 
     async def _keep_scale(self, name: str, words: Dict[str, Any]) -> Any:
-        """Keeps the scale of a session for as long as this is not loaded again."""
+        """Keeps the scale of a session until the session is loaded again."""
         user = self._front.kept(name)
         session, scale = words.get("session"), words.get("scale")
         if user is None or not isinstance(session, str) or not isinstance(scale, str):

@@ -1,5 +1,5 @@
-"""How far the students of a class are in its lesson: which steps are done, and what was answered. It is kept in the folder of the
-class before anything of it is shown."""
+"""The progress of students in the lesson of a class: which steps are done, and what was answered. It is written to the folder of
+the class before it is shown."""
 from __future__ import annotations
 
 import contextlib
@@ -16,20 +16,20 @@ from ..keeping.items import Item
 
 MAX_ANSWER = 60
 MOST_TRIES = 9999
-# How an answer is taken.
+# Results of an answer.
 RIGHT, WRONG, NONE, EARLY = "right", "wrong", "none", "early"
 
 
 @dataclasses.dataclass
 class Answered:
-    """What was answered to a question: how often up to the first right answer, and whether that has come."""
+    """The answers to a question: the number of tries up to the first right one, and whether that has come."""
 
     tries: int = 0
     is_right: bool = False
 
 
 class Mark(NamedTuple):
-    """What is known of a step: whether all its replies have come, and of its question, if it has one, what was answered."""
+    """The state of a step: whether all its replies have come, and the answers to its question, if it has one."""
 
     step: Step
     is_seen: bool
@@ -41,9 +41,9 @@ class Mark(NamedTuple):
 
 
 class Progress:
-    """One student's. Replies are judged in the order of the steps, whether their questions are answered or not.
+    """The progress of one student. Replies are judged in the order of the steps, even if questions are not answered.
 
-    version  is another number after each change
+    version  is increased at each change
     """
 
     def __init__(self, lesson: Lesson, file: pathlib.Path):
@@ -71,7 +71,7 @@ class Progress:
             self._put(self._answers)
 
     def answer(self, key: object, text: str) -> str:
-        """Takes an answer to the question of a step, unless that was answered right. Returns how it is taken."""
+        """Takes an answer to the question of a step, unless that was answered right. Returns the result."""
         at = self._walk.lesson.index_of(key)
         mark = None if at is None else self.marks()[at]
         if mark is None or mark.step.question is None:
@@ -87,19 +87,19 @@ class Progress:
         return RIGHT if is_right else WRONG
 
     def marks(self) -> List[Mark]:
-        """What is known of each step."""
+        """The state of each step."""
         steps = self._walk.lesson.steps
         return [Mark(step, at < self._walk.at, self._answers.get(step.key, Answered())) for at, step in enumerate(steps)]
 
     def known(self) -> Dict[str, Any]:
-        """What a page shows: of each step whether it is done, and whether its question is asked now; and which one comes next."""
+        """The progress for a page: whether each step is done, whether its question is asked now, and the next step."""
         marks = self.marks()
         steps = [{"key": mark.step.key, "done": mark.is_done, **asked(mark)} for mark in marks]
         at = next((at for at, mark in enumerate(marks) if not mark.is_done), len(marks))
         return {"at": at, "steps": steps}
 
     def _put(self, answers: Dict[str, Answered]) -> None:
-        """Keeps it with these answers, for its owner alone. Raises OSError, and takes none of them, if that cannot be."""
+        """Writes the progress with these answers, for its owner alone. Raises OSError, and takes none, if that fails."""
         told = {key: [each.tries, each.is_right] for key, each in answers.items()}
         partial = self._file.with_suffix(".part")
         partial.write_text(json.dumps({**self._walk.known(), "answers": told}))
@@ -109,7 +109,7 @@ class Progress:
 
 
 def asked(mark: Mark) -> Dict[str, Any]:
-    """How the question of a step is answered, if it is asked now: by one of some choices, or by a number, for which there are none."""
+    """The choices for the question of a step, if it is asked now. For a question about a number they are empty."""
     question = mark.step.question
     return {"choices": question.choices} if question is not None and mark.is_seen and not mark.is_done else {}
 
@@ -124,7 +124,7 @@ class Lessons:
         self.texts = {language: {**each.texts} for language, each in in_all_languages(lesson).items()}
 
     def leave_out_questions(self) -> None:
-        """Has a step be done by its replies alone, where no answers can be posted."""
+        """Removes all questions, since no answers can be posted. Replies alone then complete a step."""
         steps = tuple(dataclasses.replace(step, question=None) for step in self.lesson.steps)
         self.lesson = dataclasses.replace(self.lesson, steps=steps)
         self._students.clear()
@@ -140,11 +140,11 @@ class Lessons:
         return [mark.is_done for mark in self.of(name).marks()]
 
     def about(self) -> Dict[str, Any]:
-        """What a page is told once: the session and the texts, in each language."""
+        """The data that a page gets once: the session and the texts, in each language."""
         return {"name": self.lesson.name, "session": self.lesson.session, "texts": self.texts, "preferred": self.lesson.language}
 
     def body_of(self, path: str) -> Optional[bytes]:
-        """The atoms of a file beside the lesson, whatever folder is said, or None if there is no such file."""
+        """The atoms of a file beside the lesson, or None if there is none. The folder in the path is ignored."""
         name = os.path.basename(path)
         file = pathlib.Path(self.lesson.stem).parent / name
         return file.read_bytes() if name.endswith(".xyz") and file.is_file() else None

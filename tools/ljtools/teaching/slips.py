@@ -1,4 +1,4 @@
-"""The slips of a class: as text, as a page to be printed, with QR codes where these can be made, and as a PDF."""
+"""The slips of a class: as text, as a page to print and as a PDF, both with QR codes if these can be made."""
 import html
 import importlib
 import os
@@ -33,7 +33,7 @@ def module_of(name: str) -> Any:
 
 
 def code_text(user: User, way: Way) -> str:
-    """What a QR code says: the link to the user's page or, if there is none, address, name and token, and a fingerprint."""
+    """The text of a QR code: the link to the user's page or, if there is none, address, name, token and any fingerprint."""
     if way.page:
         return way.link(user)
     return " ".join([way.server, user.name, user.token, *([way.fingerprint] if way.fingerprint else [])])
@@ -59,7 +59,7 @@ def drawn_code(text: str) -> str:
 
 
 def lines_of(user: User, way: Way) -> Dict[str, str]:
-    """What a slip says on a page, by what it is."""
+    """The lines of a slip on a page, by their labels."""
     lines = {"In a browser": f"https://{way.page}/ or the code"} if way.page else {"Address": way.server}
     lines["Token"] = in_groups(user.token)
     if way.fingerprint:
@@ -77,7 +77,7 @@ def section_of(user: User, way: Way) -> str:
 
 
 def unbroken(text: str) -> str:
-    """Words as HTML, between which alone lines are broken: no option ends at its hyphens."""
+    """Words as HTML, with line breaks only between them: not at the hyphens of options."""
     return " ".join(f"<span>{html.escape(word)}</span>" for word in text.split(" "))
 
 
@@ -92,10 +92,10 @@ def text_of_slips(users: Sequence[User], way: Way) -> str:
 
 
 class Slips:
-    """The files with the slips of all users: text, and beside it a page, and if that is asked for a PDF."""
+    """The files with the slips of all users: a text, a page beside it, and a PDF if asked for."""
 
     def __init__(self, text: str, has_pdf: bool):
-        """Raises ValueError if the text would be in the file of another form."""
+        """Raises ValueError if `text` has the ending of a page or a PDF."""
         self.text = text
         root, ending = os.path.splitext(text)
         self.page, self.pdf = f"{root}.html", f"{root}.pdf"
@@ -104,13 +104,13 @@ class Slips:
         self.has_pdf = has_pdf
 
     def check(self, may_replace: bool) -> None:
-        """Raises Fault if a file is there that is not of this class."""
+        """Raises Fault if a file exists and may not be replaced."""
         for path in (self.text, self.page):
             if os.path.lexists(path) and not may_replace:
                 raise Fault(f"cannot write {path}: it exists already; use --replace, or another file by --slips FILE")
 
     def write(self, users: Sequence[User], way: Way) -> List[str]:
-        """Writes those that are not as they should be, for their owner alone. Returns their names. Raises Fault."""
+        """Writes the files that are out of date, for their owner alone. Returns their names. Raises Fault."""
         texts = {self.text: text_of_slips(users, way), self.page: page_of(users, way)}
         changed = {path: text for path, text in texts.items() if text_at(path) != text}
         write_secrets(changed, True)
@@ -121,7 +121,7 @@ class Slips:
         return written
 
     def missing(self) -> List[str]:
-        """What the slips do not have, and what to install."""
+        """Texts that say what the slips lack, and what to install."""
         no_pdf = [NO_PDF.format(self.pdf, self.page)] if self.has_pdf and module_of("reportlab") is None else []
         return [NO_CODES] * (module_of("qrcode") is None) + no_pdf
 

@@ -1,4 +1,4 @@
-"""The students of a class as their pages have them: all pages of a student share one client within this process, which shares the
+"""The students of a class, for their pages. All pages of a student share one client within this process. That client shares the
 student's sessions with the prompt that is open beside them."""
 from __future__ import annotations
 
@@ -29,12 +29,12 @@ if TYPE_CHECKING:
     from .lesson import ClassFront
 
 STEP_FACTOR, HEAT, SEED = 131072, 1.5, 1
-# So long a page may ask for nothing before its client is given up. The next one who asks has another.
+# After so long without a request of the pages, their client is closed. The next request opens another.
 SECONDS_OF_PATIENCE = 30.0
 SECONDS_OF_A_REPLY = 86400.0
 SECONDS_TO_LEAVE = 2.0
 WAITS = "Another command of yours is under way, at the prompt or on another page. This page goes on when it is done."
-# Sessions of pages have numbers from here on, since those of a view beside the class begin with 1. Second runs have others.
+# Sessions of pages have numbers from here on, since those of a view beside the class begin with 1. Second runs have other names.
 FIRST_NUMBER = 101
 OF_PAGES = re.compile(r"view-([1-9][0-9]{2,}(-2)?|own-[0-9]+)")
 ALONE = "{name} is that of a program that is in, and that numbers its atoms by itself: this page only shows it until that has left."
@@ -42,7 +42,7 @@ CHANGES = ("reverse", "tug", "restore", "restart")
 
 
 def scale_of(text: bytes) -> Scale:
-    """The scale of a session that was loaded by this line, without its count: of a mixture that of the first class."""
+    """The scale of a session, from its load line without the count. For a mixture, it is the scale of the first class."""
     verb, _, edge, *numbers = text.split()
     sigma, h, *more = numbers[2 * (verb == b"LOADMIX") :]
     weight = int(more[0]) if verb == b"LOADMIX" else units.FULL_WEIGHT
@@ -50,7 +50,7 @@ def scale_of(text: bytes) -> Scale:
 
 
 class KnownSessions(OwnSessions):
-    """The sessions of a student, whose scales the front knows by their loads."""
+    """The sessions of a student. The front knows their scales from their loads."""
 
     def __init__(self, student: Student):
         super().__init__(None, None)
@@ -62,8 +62,8 @@ class KnownSessions(OwnSessions):
 
 
 class StudentTalk(Talk):
-    """The conversation with a page of a student. A program that numbers the atoms of its session by itself would not notice what a page
-    changes there, so while it is in the page only shows that session."""
+    """The conversation with a page of a student. A program that numbers the atoms of its session by itself would not notice changes by a
+    page, so the page only shows that session while the program is in."""
 
     def __init__(self, student: Student, own: OwnSessions, number: int):
         super().__init__(Choice(scenes(), own), number)
@@ -83,7 +83,7 @@ class StudentTalk(Talk):
 
 
 class Student:
-    """A student of whom there is a page. Whose sessions are shown is asked in the student's thread, and the rest in the loop."""
+    """A student with open pages. Some methods run in the student's thread and the rest in the loop, as the comments say."""
 
     def __init__(self, name: str, front: ClassFront):
         self.name, self.pages = name, 0
@@ -109,7 +109,7 @@ class Student:
         return {} if self._user is None else {name: each.text for name, each in self._user.sessions.by_name.items()}
 
     def words(self, user: User) -> TypedWords:
-        """The words that are typed, with what they know of sessions until others change something there."""
+        """The typed words. What they know of sessions is kept until others change something there."""
         if self._words is None:
             self._words = TypedWords(user, self.known, self._body_of)
         return self._words
@@ -125,7 +125,7 @@ class Student:
 
     @contextlib.contextmanager
     def _transaction(self) -> Iterator[None]:
-        """What is asked within is done whole between two commands of the prompt."""
+        """Commands within it are done as a whole, between two commands of the prompt."""
         assert self._local is not None
         try:
             with self._local.transaction() as has_changed:
@@ -140,7 +140,7 @@ class Student:
 
     @contextlib.contextmanager
     def typing(self) -> Iterator[None]:
-        """What is asked within was typed."""
+        """Commands within it are marked as typed."""
         assert self._local is not None
         self._local.is_typed = True
         try:
@@ -149,7 +149,7 @@ class Student:
             self._local.is_typed = False
 
     def _tidy(self, user: User) -> None:
-        """Drops what was loaded for pages that were open when the class before was killed."""
+        """Drops the sessions of pages that were open when the previous class was killed."""
         for name in [line.split(" ")[0] for line in user.ask("LIST").lines]:
             if OF_PAGES.fullmatch(name):
                 with contextlib.suppress(NoSession):
@@ -165,7 +165,7 @@ class Student:
         return await LocalClient.begun(user)
 
     async def enter(self) -> Talk:
-        """The conversation of a page more."""
+        """The conversation of a further page."""
         if not self._is_tidy:
             self._is_tidy = True
             with contextlib.suppress(ClientError):
@@ -175,7 +175,7 @@ class Student:
         return talk
 
     async def leave(self, talk: Talk) -> None:
-        """Has a page be gone, and what was loaded and saved for it given up."""
+        """A page is gone. Drops what was loaded and saved for it."""
         self._talks.discard(talk)
         with contextlib.suppress(ClientError, asyncio.TimeoutError):
             await self.connection.do(talk.end)
@@ -184,11 +184,11 @@ class Student:
         await asyncio.wait([asyncio.ensure_future(self.connection.close())], timeout=SECONDS_TO_LEAVE)
 
     def waits(self) -> Optional[str]:
-        """What a page waits for."""
+        """The text on what a page waits for, if it waits."""
         return WAITS if self._local is not None and self._local.waits else None
 
     async def end(self) -> Optional[str]:
-        """What has ended with the connection, if nothing can be asked any more."""
+        """The text that the class has ended, if it is ending."""
         return "The class has ended. Load this page again when it goes on" if self._front.is_ending else None
 
     def lesson(self) -> Dict[str, Any]:
@@ -197,7 +197,7 @@ class Student:
         return {} if lessons is None else {"lesson": lessons.about(), "progress": lessons.of(self.name).known()}
 
     def news(self) -> Dict[str, Any]:
-        """What has changed since it was last asked for that: the sessions, and the progress in a lesson."""
+        """The changes since the last call: the sessions, and the progress in a lesson."""
         sessions, lessons, seen = self._sessions_since(), self._front.lessons, self._seen_of_lesson
         if lessons is not None:
             self._seen_of_lesson = lessons.of(self.name).version
@@ -206,7 +206,7 @@ class Student:
         return {**progress, **({} if sessions is None else {"sessions": sessions})}
 
     def _sessions_since(self) -> Optional[List[str]]:
-        """The names of the student's sessions, if others than pages have changed something since it was last asked for that."""
+        """The names of the student's sessions, if others than pages have changed something since the last call."""
         user, local = self._front.kept(self.name), self._local
         if user is None or local is None or user.local is not None or user.number in (self._seen, local.number):
             return None
@@ -218,5 +218,5 @@ class Student:
 
 
 def scenes() -> List[Scene]:
-    """What a page shows of a student who has no sessions."""
+    """The scenes for a student who has no sessions."""
     return [crystal(STEP_FACTOR, HEAT, SEED)]

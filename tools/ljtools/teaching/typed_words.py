@@ -1,4 +1,4 @@
-"""What is typed into the page of a class: commands, and the prompt's words of physics. A LOAD may name a file of the class' lesson."""
+"""Lines typed into the page of a class: commands, and the prompt's words of physics. A LOAD may name a file of the class' lesson."""
 from __future__ import annotations
 
 import re
@@ -23,12 +23,12 @@ NO_FILE = "a page loads no file of this name; use LOAD with the count of the byt
 
 
 def number_in(word: bytes) -> str:
-    """A number of a load as it is written without a power."""
+    """A number of a load, written without an exponent."""
     return format(Decimal(word.decode()).normalize(), "f")
 
 
 def words_of_load(text: bytes) -> List[str]:
-    """The words of the load of a session, with its lengths as a LOAD says them, and a count."""
+    """The words of the load of a session, with lengths in the form of a LOAD, and a count."""
     return [number_in(word) if LENGTH.match(word) else word.decode() for word in text.split()] + ["0"]
 
 
@@ -36,7 +36,7 @@ class TypedWords:
     """The words that are typed into the pages of a student, over one connection."""
 
     def __init__(self, user: User, loads: Callable[[], Dict[bytes, bytes]], body_of: BodyOf):
-        """`loads` has the lines by which the sessions were loaded."""
+        """`loads` returns the lines by which the sessions were loaded."""
         self._user, self._loads, self._body_of = user, loads, body_of
         self._words = Words(self)
         self._told: List[str] = []
@@ -68,7 +68,7 @@ class TypedWords:
         return [*self._told, *told]
 
     def _know(self, names: List[str]) -> None:
-        """Has the scale of a session be known that was loaded over another connection."""
+        """Notes the scales of sessions that were loaded over another connection."""
         for name in names:
             text = self._loads().get(name.encode("utf-8", "replace"))
             if text is not None and self._user._known_of(name).scale is None:
@@ -80,14 +80,14 @@ class TypedWords:
         self._told += lines
 
     def answer(self, user: User, line: str, body: bytes, is_plan: bool = False) -> List[str]:
-        """The lines that a command is answered."""
+        """The lines of the answer to a command."""
         reply = user.ask(line, body) if is_load(line) else asked(user, line, body)
         if is_load(line):
             note_scale(user, words_of(line))
         return [*lines_of(reply), *(in_words(user, reply) if words_of(line)[:1] == ["MEASURE"] else [])]
 
     def may_take(self, name: str, steps: int) -> bool:
-        """Whether so many steps are to be made: nobody is asked here."""
+        """Whether so many steps are to be made. Nobody is asked here."""
         if steps > MAX_STEPS:
             raise Fault(f"a page goes by at most {MAX_STEPS:,} steps at once, got {steps:,}")
         return True

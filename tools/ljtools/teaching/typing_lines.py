@@ -43,7 +43,7 @@ class Editor:
 
 
 def has_terminal() -> bool:
-    """Whether what is typed at a terminal is for this process: it is not in the background."""
+    """Whether this process may read a terminal: it is not in the background."""
     try:
         return os.isatty(STDIN) and os.tcgetpgrp(STDIN) == os.getpgrp()
     except OSError:
@@ -57,7 +57,7 @@ def is_at_terminal() -> bool:
 
 @contextlib.contextmanager
 def keys_at_once() -> Iterator[None]:
-    """Has keys come one by one and not be shown by the terminal, but for Ctrl-C and the like, which send signals as before."""
+    """Makes the terminal pass on keys one by one, and not show them. Ctrl-C and the like send signals as before."""
     if not is_at_terminal():
         yield
         return
@@ -70,7 +70,7 @@ def keys_at_once() -> Iterator[None]:
             termios.tcsetattr(STDIN, termios.TCSADRAIN, settings)
 
     set_keys()
-    # A shell that has stopped it sets the terminal anew.
+    # A shell that has stopped this program resets the terminal.
     signal.signal(signal.SIGCONT, set_keys)
     try:
         yield
@@ -80,7 +80,7 @@ def keys_at_once() -> Iterator[None]:
 
 
 def read_lines(take: Callable[[str], None], shows: Callable[[str], None]) -> None:
-    """Hands on each line, from a thread of its own, as long as there are some. What is typed at the terminal is shown."""
+    """Passes on each line, from a thread of its own, until the input ends. The line being typed at the terminal is shown."""
     if os.isatty(STDIN) and not has_terminal():
         # A program in the background that reads the terminal would be stopped.
         return

@@ -1,7 +1,7 @@
-"""What the wall of a class shows: who is in, what each student has, the last command and the last refusal; and of one student who is
-looked at, the last commands with their replies.
+"""The contents of the wall of a class: who is in, and each student's sessions, last command and last refusal. For a student who is
+looked at, also the last commands with their replies.
 
-It is all from what the front has heard. It shows typed commands, and not those that a page sends by its buttons.
+All of it is from what the front has heard. Typed commands are shown, but not those that a page sends by its buttons.
 """
 import re
 from collections import deque
@@ -17,9 +17,9 @@ from ..watching import Connection
 from .pictures import Pictures, is_shown
 
 MOST_SHOWN = 60
-# Of a student who is looked at so many commands are shown, so many lines of a reply, and so much of a line.
+# Limits for a student who is looked at: commands, lines of a reply, characters of a line, and bytes of a reply.
 MOST_COMMANDS, MOST_LINES, MOST_LONG, MOST_BYTES = 20, 6, 160, 2048
-# What the client saves and loads for itself, and what is loaded for pages.
+# Prefixes of names that the client uses for itself, and of sessions for pages.
 OF_CLIENT, OF_PAGES = b"ljclient-", PREFIX.encode()
 SECRET = re.compile(r"[A-Za-z0-9]{32,}")
 
@@ -50,7 +50,7 @@ class Heard:
 
 
 def shown(line: bytes, most: int = MOST_SHOWN) -> str:
-    """A command as others may see it: of a token there is nothing, and of a long one the beginning."""
+    """A command as others may see it: without tokens, and shortened if it is long."""
     text = SECRET.sub("..", line.decode("ascii", "replace").strip())
     text = "".join(letter if letter.isprintable() else "?" for letter in text)
     return text if len(text) <= most else f"{text[: most - 3]}..."
@@ -70,7 +70,7 @@ class Wall:
         self.pictures = Pictures()
 
     def hear(self, user: User, item: Item, reply: bytes, is_typed: bool) -> None:
-        """Takes in what a student was replied."""
+        """Takes in a command and its reply."""
         self.of(user.name).hear(item, reply, is_typed)
         if len(item.words) > 1 and item.words[0] in KEPT and reply.startswith(b"OK "):
             self.pictures.of(user.name).note_change(item.words[1])
@@ -79,7 +79,7 @@ class Wall:
         return self._heard.setdefault(name, Heard())
 
     def rows(self, names: List[str], users: Mapping[str, User], seen: List[Connection], pages: Mapping[str, int]) -> List[Dict[str, Any]]:
-        """What is shown of each student. `seen` are the connections that are open."""
+        """The row of each student. `seen` are the connections that are open."""
         prompts = {each.user for each in seen if each.state == "in"}
         return [self._row(name, users.get(name), name in prompts, pages.get(name, 0)) for name in names]
 
@@ -94,12 +94,12 @@ class Wall:
         return next((each.id for each in self.pictures.of(user.name).by_change(user.sessions.by_name)), None)
 
     def look(self, name: str) -> Dict[str, Any]:
-        """What is shown of a student who is looked at, beside what is shown of all."""
+        """The data of a student who is looked at, beside the row."""
         return {"name": name, "talk": self.of(name).talk()}
 
 
 def sessions_of(user: User) -> List[Dict[str, Any]]:
-    """What is told of a student's sessions. Those of its pages have no name."""
+    """The data of a student's sessions. Those of its pages have no name."""
     return [
         {
             "id": each.id,

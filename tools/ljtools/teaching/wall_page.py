@@ -1,4 +1,4 @@
-"""A wall that is open in a browser: what it was told already, and whom it looks at."""
+"""A wall that is open in a browser: the data that it has, and whom it looks at."""
 from __future__ import annotations
 
 import contextlib
@@ -8,12 +8,12 @@ from typing import Collection, Dict, Iterator, List, Tuple
 from .pictures import Picture
 from .wall import Wall
 
-# So many pictures are told at once, so that a wall of a large class takes them one after the other.
+# Limit of pictures in one message, so that those of a large class are sent in several messages.
 MOST_AT_ONCE = 40
 
 
 class WallPage:
-    """What one wall shows."""
+    """The state of one wall."""
 
     def __init__(self, wall: Wall):
         self._wall = wall
@@ -22,14 +22,14 @@ class WallPage:
         self.looks_at = ""
 
     def hear(self, message: str, names: Collection[str]) -> None:
-        """Takes in whom it looks at from now on: one of these, or else nobody."""
+        """Takes in whom it looks at from now on: one of `names`, or else nobody."""
         with contextlib.suppress(ValueError, RecursionError):
             words = json.loads(message)
             name = words.get("look") if isinstance(words, dict) else None
             self.looks_at, self._look = name if isinstance(name, str) and name in names else "", ""
 
     def news(self, rows: str, now: float) -> Iterator[str]:
-        """What it is told, where these are the rows of all students."""
+        """The messages to the wall, with these rows of all students."""
         if rows != self._rows:
             self._rows = rows
             yield rows
@@ -40,7 +40,7 @@ class WallPage:
             yield look
 
     def _new_pictures(self) -> List[Tuple[str, Picture]]:
-        """Some pictures that it does not have."""
+        """Some pictures that it does not have yet."""
         told = {(name, picture.version[0]): picture for name, picture in self._wall.pictures}
         new = [key for key, picture in told.items() if self._pictures.get(key) is not picture][:MOST_AT_ONCE]
         self._pictures = {key: picture for key, picture in self._pictures.items() if key in told}

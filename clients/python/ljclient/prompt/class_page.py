@@ -1,7 +1,7 @@
-"""The HTTPS address of a class, which a prompt uses beside its connection: answers and scales are sent there, and a text of the teacher
-comes from there. The certificate must have the fingerprint of the server.
+"""The HTTPS address of a class, which a prompt uses beside its connection. Answers and scales are sent there, and a text of the teacher
+is read there. The certificate must have the fingerprint of the server.
 
-Threads of their own ask, so that the prompt waits for none of it but for scales, and for these a moment.
+Separate threads make the requests. The prompt waits only for scales that it reads, for a moment.
 """
 from __future__ import annotations
 
@@ -22,7 +22,7 @@ SECONDS_OF_A_WAIT = 40.0
 SECONDS_BETWEEN_TRIES = 3.0
 SECONDS_AT_THE_END = 2.0
 MAX_ANSWER = 1 << 18
-# What is to be tried again: too many wrong tokens from this address, or a fault of the class.
+# Tried again: too many wrong tokens from this address, or a fault of the class.
 LATER = (429, 500, 502, 503)
 
 
@@ -40,7 +40,7 @@ def cause_of(error: Exception) -> str:
 
 
 class ClassPage:
-    """The address, for a student with a token."""
+    """The address of a class, for a student with a token."""
 
     def __init__(self, host: str, port: int, name: str, token: str, fingerprint: str):
         self._where, self._trust = (host, port), Trust(None, fingerprint)
@@ -57,7 +57,7 @@ class ClassPage:
     # What the prompt calls.
 
     def news(self) -> List[str]:
-        """What is to be told that was not told before."""
+        """The messages that were not returned before."""
         told, self._troubles = self._troubles, []
         line = self.line
         if line != self._line_told:
@@ -66,15 +66,15 @@ class ClassPage:
         return told
 
     def answer(self, lesson: str, step: str, text: str) -> None:
-        """Has an answer to a question be sent."""
+        """Queues an answer to a question for sending."""
         self._sends.put(("answer", {"lesson": lesson, "step": step, "answer": text}))
 
     def keep_scale(self, session: str, text: str) -> None:
-        """Has the scale of a session be remembered there."""
+        """Queues the scale of a session, for the class to store."""
         self._sends.put(("scale", {"session": session, "scale": text}))
 
     def scale_of(self, session: str) -> Optional[str]:
-        """The scale of a session that is remembered there, as it was when this connection began."""
+        """The scale that the class has stored for a session. All are read once per connection."""
         if self._scales is None:
             self._scales = {}
             try:
@@ -85,11 +85,11 @@ class ClassPage:
         return self._scales.get(session)
 
     def renew(self) -> None:
-        """A new connection has begun, at which scales may be others."""
+        """Discards the scales, which may differ over a new connection."""
         self._scales = None
 
     def close(self) -> List[str]:
-        """Waits a moment for what is to be sent. Returns what is told if it is not."""
+        """Waits a moment until everything is sent. Returns a message if it is not."""
         until = time.monotonic() + SECONDS_AT_THE_END
         while self._sends.unfinished_tasks and not self._is_down and time.monotonic() < until:
             time.sleep(0.02)
@@ -99,7 +99,7 @@ class ClassPage:
     # What the threads do.
 
     def _send_on(self) -> None:
-        """Sends one thing after the other, each until it is taken."""
+        """Sends the queue in order, each entry until it is taken."""
         while True:
             path, words = self._sends.get()
             while not self._is_taken(path, words):
@@ -107,7 +107,7 @@ class ClassPage:
             self._sends.task_done()
 
     def _is_taken(self, path: str, words: Dict[str, Any]) -> bool:
-        """Whether something that was sent is taken, or refused for good, which is told."""
+        """Whether an entry is accepted, or refused for good, which adds a message."""
         try:
             status, told = self._post(path, words)
         except NotReached as error:
@@ -118,7 +118,7 @@ class ClassPage:
         return True
 
     def _listen_on(self) -> None:
-        """Waits for texts of the teacher, until they are refused, as with another token."""
+        """Waits for texts of the teacher, until they are refused, for example to a wrong token."""
         status = 200
         while status == 200:
             try:
@@ -129,13 +129,13 @@ class ClassPage:
                 time.sleep(SECONDS_BETWEEN_TRIES)
 
     def _note_down(self, error: NotReached) -> None:
-        """Has it be told once that nothing is answered, until something is."""
+        """Adds a message that there is no answer, once until there is one."""
         if not self._is_down:
             self._troubles.append(f"the page of the class does not answer ({error}); the lesson goes on, and answers are sent later")
         self._is_down = True
 
     def _post(self, path: str, words: Dict[str, Any], seconds: float = SECONDS) -> Tuple[int, Dict[str, Any]]:
-        """The status of an answer, and its words; of a refusal `why`. Raises `NotReached`."""
+        """The status and the fields of an answer; of a refusal the field `why`. Raises `NotReached`."""
         connection = http.client.HTTPSConnection(*self._where, timeout=SECONDS, context=self._trust.context)
         try:
             connection.connect()

@@ -10,7 +10,7 @@ MODES = ("rest", "pair")
 
 @dataclass(frozen=True)
 class Usage:
-    """What a line may be: its words, of which the first one is its name."""
+    """The form of a line: its words. The first one is its name."""
 
     usage: str
 
@@ -23,14 +23,14 @@ class Usage:
 class Command(Usage):
     """A command in one of its forms.
 
-    usage     its words, as docs/PROTOCOL.md has them
-    reply     what it is answered
+    usage     its words, as in docs/PROTOCOL.md
+    reply     the reply to it
     refusals  the numbers of its refusals, in the order in which they are tested
     does      what it does, in a sentence or two
-    example   a dialogue: lines with `> ` before them are typed, and the others are replies. It begins with the session of
+    example   a dialogue: lines that begin with `> ` are typed, and the others are replies. It begins with the session of
               the example of LOAD, if the command needs one
-    with_file how it is said here with a file in place of the count, if it has a body
-    order     how the order of its refusals differs from that of their numbers, if it does
+    with_file its form at the prompt, with a file in place of the count, if it has a body
+    order     exceptions to the order of `refusals`, if there are any
     """
 
     reply: str
@@ -160,13 +160,13 @@ COMMANDS = (
 
 @dataclass(frozen=True)
 class Own(Usage):
-    """What is said at the prompt alone: the words, what it does, and an example."""
+    """A command that only the prompt has: its words, what it does, and an example."""
 
     does: str
     example: Tuple[str, ...] = ()
 
 
-# What is said in the words of physics. Each example begins with a session as `LOAD` in physical units gives it.
+# Commands in the words of physics. Each example begins with the session of the example of LOAD.
 PHYSICS: Tuple[Own, ...] = (
     Own(
         "heat s T [SEED]",
@@ -286,7 +286,7 @@ WORDS: Dict[str, str] = {
 
 
 def forms_of(name: str) -> List[Command]:
-    """The forms of the command of this name: none where there is no such command."""
+    """The forms of the command with this name; none if there is no such command."""
     return [command for command in COMMANDS if command.name == name]
 
 
@@ -296,22 +296,22 @@ def names() -> List[str]:
 
 
 def first_words() -> List[str]:
-    """What a line may begin with at the prompt."""
+    """The possible first words of a line at the prompt."""
     return list(dict.fromkeys([*names(), *(own.name for own in OWN)]))
 
 
 def command_of(word: str) -> Optional[str]:
-    """The command that a word says, in capitals or not."""
+    """The command with this name, in capitals or not."""
     return next((name for name in first_words() if name.lower() == word.lower()), None)
 
 
 def words_of(usage: str) -> List[Tuple[str, str]]:
-    """The words of a usage after the first, several together where they belong together, each with what it means."""
+    """The words of a usage after the first, with their meanings. Words that belong together are one entry."""
     padded = f" {usage.replace('[rest|pair]', 'rest')} "
     found = [(padded.index(f" {word} "), word) for word in WORDS if f" {word} " in padded]
     return [(word, WORDS[word]) for _, word in sorted(found)]
 
 
 def own_of(name: str) -> List[Own]:
-    """What is said at the prompt alone, and begins with this word."""
+    """The commands that only the prompt has and that begin with this word."""
     return [own for own in OWN if own.name.lower() == name.lower()]

@@ -15,7 +15,7 @@ PATIENCE = 1.0
 
 
 def candidates(before: Sequence[str], word: str, user: Optional[User]) -> List[str]:
-    """What a word may be, after the words before it in the line."""
+    """The completions of a word, after the words before it in the line."""
     known = [name.lower() if word[:1].islower() else name for name in first_words()]
     if not before:
         return fitting(known, word)
@@ -32,7 +32,7 @@ def candidates(before: Sequence[str], word: str, user: Optional[User]) -> List[s
 
 
 def of_load(command: str, before: Sequence[str], word: str) -> List[str]:
-    """What a word of a LOAD may be: a file, a quantity or a substance, or how the atoms start."""
+    """The completions of a word of a LOAD: a file, a quantity, a substance, or a mode."""
     if len(before) == 2:
         return files(word)
     if not word or len(before) < 3:
@@ -43,7 +43,7 @@ def of_load(command: str, before: Sequence[str], word: str) -> List[str]:
 
 
 def names_at(kinds: Set[str], command: str, before: Sequence[str], user: Optional[User]) -> List[str]:
-    """The names that are there: of sessions, or of what is saved in the session that the line names."""
+    """The names that exist: of sessions, or of the branches of the session that the line names."""
     if user is None or user.closed:
         return []
     try:
@@ -58,13 +58,13 @@ def names_at(kinds: Set[str], command: str, before: Sequence[str], user: Optiona
 
 
 def give_up(command: str, silent: float) -> None:
-    """Waits no longer for names than somebody who types."""
+    """Ends the wait for names after `PATIENCE` seconds."""
     if silent > PATIENCE:
         raise TimedOut(f"`{command}` is not answered yet")
 
 
 def files(word: str) -> List[str]:
-    """The files and folders whose paths begin so, but for those that have blanks."""
+    """The files and folders whose paths begin with this word, except paths with blanks."""
     found = sorted(glob.glob(glob.escape(os.path.expanduser(word)) + "*"))
     home = os.path.expanduser("~")
     shown = [f"~{path[len(home):]}" if word.startswith("~/") else path for path in found if len(path.split()) == 1]
@@ -72,5 +72,5 @@ def files(word: str) -> List[str]:
 
 
 def fitting(known: Sequence[str], word: str) -> List[str]:
-    """Those that begin so, each with the blank that follows it."""
+    """Those that begin with this word, each followed by a blank."""
     return [f"{each} " for each in known if each.startswith(word)]

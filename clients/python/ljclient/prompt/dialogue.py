@@ -32,23 +32,23 @@ from .words import Words
 
 PATIENCE = 0.5
 STEPS = re.compile(r"[A-Za-z0-9_-]{1,16} [0-9]{1,7}\Z")
-# Of a START by more steps than these, so many are waited for at first.
+# A START of more than FEW_STEPS steps waits for FIRST_STEPS of them at first.
 FEW_STEPS = 1000
 FIRST_STEPS = 16
-# What takes more seconds than these is asked for.
+# The user confirms runs of more seconds than these.
 LONG = 30.0
 ROWS = 24
 
 
 class Talk:
-    """What both kinds of dialogue do."""
+    """The part that both dialogues share."""
 
     def __init__(self, link: Link, out: TextIO):
         self.link = link
         self.out = out
 
     def tell(self, *lines: str) -> None:
-        """Writes lines at once. Bytes of a server or of a file that a terminal would obey are shown, as `printable` does."""
+        """Writes lines at once. Bytes of a server or of a file that a terminal would obey are written as in `printable`."""
         self.out.write("".join(printable(line) + "\n" for line in lines))
         self.out.flush()
 
@@ -57,7 +57,7 @@ class Talk:
         self.tell(reply_of(refusal))
 
     def ask(self, line: str, body: bytes) -> Reply:
-        """The reply to a command. Raises Fault where it cannot be sent."""
+        """The reply to a command. Raises Fault if it cannot be sent."""
         try:
             return self.link.ready().ask(line, body)
         except ValueError as error:
@@ -65,7 +65,7 @@ class Talk:
 
 
 class PipeTalk(Talk):
-    """Replies alone, as programs read them."""
+    """A dialogue of replies only, for programs."""
 
     def run(self, lines: PipeInput) -> int:
         """Sends each line up to the end of the input, BYE, or a refusal that ends the connection."""
@@ -89,7 +89,7 @@ class PipeTalk(Talk):
 
 
 class TerminalTalk(Talk):
-    """Replies with explanations, and bars for what takes long."""
+    """A dialogue of replies with explanations, and bars for long commands."""
 
     def __init__(self, link: Link, out: TextIO):
         super().__init__(link, out)
@@ -100,11 +100,11 @@ class TerminalTalk(Talk):
         self._user: Optional[User] = None
 
     def note(self, *texts: str) -> None:
-        """Tells something beside the replies, in lines that fit the terminal."""
+        """Writes texts other than replies, in lines that fit the terminal."""
         self.tell(*(line for text in texts for line in wrapped(printable(text.strip()), "  ", "  ", columns_of(self.out))))
 
     def run(self, lines: TerminalInput) -> int:
-        """Does what each line says until the end. Interrupts end nothing here, one while another is told included."""
+        """Carries out each line until the end. Interrupts do not end it, even while another one is reported."""
         goes_on, self._lines = True, lines
         while goes_on:
             with contextlib.suppress(KeyboardInterrupt):
@@ -112,7 +112,7 @@ class TerminalTalk(Talk):
         return 0
 
     def take_line(self, lines: TerminalInput) -> bool:
-        """Does what the next line says. What goes wrong with it is told. Returns whether the prompt goes on."""
+        """Carries out the next line, and reports its errors. Returns whether the prompt continues."""
         line = None
         try:
             self.note(*self.link.news())
@@ -131,7 +131,7 @@ class TerminalTalk(Talk):
         return True
 
     def perform(self, typed: str, lines: TerminalInput) -> bool:
-        """Does what a line says. Returns whether the prompt goes on."""
+        """Carries out a line. Returns whether the prompt continues."""
         line = in_capitals(without_comment(typed))
         words = words_of(line)
         verb = words[0].lower() if words else ""
@@ -162,7 +162,7 @@ class TerminalTalk(Talk):
             self.note(*(self.lesson.hint() if verb == ".hint" else self.lesson.shown()))
 
     def send(self, line: str, lines: TerminalInput) -> None:
-        """Sends a command, and shows what it is answered."""
+        """Sends a command, and shows the reply."""
         deed, path, body = deed_of(line) or self.words.deed_of(line), "", b""
         sent = line
         if deed is None:
@@ -184,7 +184,7 @@ class TerminalTalk(Talk):
                 self.tell_end()
 
     def ready(self) -> User:
-        """The user, over a new connection where the one before has ended: what this prompt knows of its sessions goes on there."""
+        """The user, over a new connection if the last one has ended. The prompt keeps what it knows of the sessions."""
         user = self.link.ready()
         if user is not self._user:
             self._user = user
@@ -198,7 +198,7 @@ class TerminalTalk(Talk):
 
     @contextlib.contextmanager
     def followed(self, user: User, line: str) -> Iterator[None]:
-        """Follows what a line does to sessions. Of a word that is broken off within, what was sent is told."""
+        """Follows what a line does to sessions. If one of `Words` is broken off in the block, shows what it sent."""
         self.note(*self.words.begin(user, line))
         try:
             yield
@@ -210,7 +210,7 @@ class TerminalTalk(Talk):
         self.words.end(user, line)
 
     def refused(self, refusal: Refused, words: List[str]) -> None:
-        """Tells a refusal. What is wrong with a line itself comes first, and the code behind it."""
+        """Writes a refusal and explains it. If the line itself is wrong, the explanation comes first."""
         if isinstance(refusal, Syntax):
             self.note(*words)
         self.show_refusal(refusal)
@@ -218,7 +218,7 @@ class TerminalTalk(Talk):
             self.note(*words)
 
     def page(self, told: List[str], lines: TerminalInput) -> None:
-        """Tells some lines, as many at a time as the screen has."""
+        """Writes lines, one screen at a time."""
         rows = max(rows_of(self.out) - 2, 1)
         pages = [told] if lines.is_script or len(told) <= rows + 1 else [told[at : at + rows] for at in range(0, len(told), rows)]
         for number, page in enumerate(pages):
@@ -227,7 +227,7 @@ class TerminalTalk(Talk):
             self.tell(*page)
 
     def may_take(self, name: str, steps: int) -> bool:
-        """Whether so many steps are made. Somebody at the terminal is asked if they take long, by the rate seen so far."""
+        """Whether to make so many steps. If they take long, by the rate seen so far, the user at the terminal is asked."""
         seconds = self.waits.seconds_of(name, steps)
         if seconds > LONG and self._lines is not None and not self._lines.is_script:
             self.note(f"{steps} steps of {name} take about {duration(seconds)}, by the rate seen so far")
@@ -240,14 +240,14 @@ class TerminalTalk(Talk):
 
     @contextlib.contextmanager
     def warnings_told(self) -> Iterator[None]:
-        """Tells the warnings of the client that come within the block, at its end."""
+        """Writes the warnings of the client within the block, at its end."""
         with warnings.catch_warnings(record=True) as caught:
             warnings.simplefilter("always")
             yield
         self.note(*(f"warning: {warning.message}" for warning in caught))
 
     def answer(self, user: User, line: str, body: bytes, is_plan: bool = False) -> List[str]:
-        """Asks for the reply to a command, and returns its lines. Nobody is asked for a plan of several whether it may take long."""
+        """Sends a command, and returns the lines of the reply. In a plan of several, nobody is asked if an ADVANCE takes long."""
         words = words_of(line)
         if are_steps("ADVANCE", words):
             return self.advance(user, words[1], words[2], is_plan) if is_plan or self.may_take(words[1], int(words[2])) else []
@@ -261,13 +261,13 @@ class TerminalTalk(Talk):
         return [*lines_of(reply), *(in_words(user, reply) if words[:1] == ["MEASURE"] else [])]
 
     def tell_end(self) -> None:
-        """Tells what follows if the connection has ended."""
+        """Writes what happens next if the connection has ended."""
         if self.link.user.closed:
             self.note(self.link.after_end)
 
     def advance(self, user: User, name: str, steps: str, is_plan: bool = False) -> List[str]:
-        """Goes on by some steps, with a bar if it takes a while. An interrupt from the keyboard ends it after a piece, unless
-        steps were started before: these are waited for first. It ends a plan of several commands too."""
+        """Advances by some steps, with a bar if it takes a while. An interrupt from the keyboard ends it after a piece, unless
+        steps were started before: these are waited for first. It also ends a plan of several commands."""
         before, told = time.monotonic(), []
         try:
             with reporter(True, name, delay=PATIENCE) as report:
@@ -285,7 +285,7 @@ class TerminalTalk(Talk):
         return [*told, f"OK ADVANCE {name} {step}"]
 
     def start(self, user: User, name: str, steps: str) -> List[str]:
-        """Begins to go on by some steps. The first ones of many are waited for, so that the time of a step is known."""
+        """Starts some steps. If they are many, waits for the first ones, to measure the time of a step."""
         total, made = int(steps), 0
         if total > FEW_STEPS and not self.waits.knows_pace(name):
             made = self.tried(user, name, total)
@@ -297,7 +297,7 @@ class TerminalTalk(Talk):
         return [f"OK START {name} {target}"]
 
     def tried(self, user: User, name: str, total: int) -> int:
-        """Makes the first of so many steps, until all take no long time or it is sure how long. Returns how many were made."""
+        """Makes the first of so many steps, until the rest takes less than LONG or their time is sure. Returns how many were made."""
         made, piece, is_known = 0, FIRST_STEPS, False
         while not is_known and made + piece < total:
             before = time.monotonic()
@@ -316,18 +316,18 @@ def lines_of(reply: Reply) -> List[str]:
 
 
 def as_typed(error: ClientError, typed: str) -> str:
-    """What an error says, of the command that was typed and not of a piece of it."""
+    """The text of an error, with the typed command in place of a piece of it."""
     return str(error).replace(f"`{error.unanswered}`", f"`{typed}`") if error.unanswered else str(error)
 
 
 def are_steps(verb: str, words: List[str]) -> bool:
-    """Whether these words have a session go on by as many steps as the server takes."""
+    """Whether these words are this command, with no more steps than the server accepts."""
     return words[:1] == [verb] and STEPS.match(" ".join(words[1:])) is not None and int(words[-1]) <= MAX_STEPS
 
 
 def with_file(line: str, path_of: Callable[[str], str] = str) -> Tuple[str, bytes, str]:
-    """The command of the protocol for a line that loads a file, the body, and the path; any other line without them. `path_of` is
-    where a file is that the line names."""
+    """The command of the protocol for a line that loads a file, the body, and the path; any other line without them. `path_of` gives
+    the path for a file in the line."""
     load = loading.from_file(line)
     if load is None:
         return line, b"", ""
@@ -337,7 +337,7 @@ def with_file(line: str, path_of: Callable[[str], str] = str) -> Tuple[str, byte
 
 
 def typed_body(line: str, lines: TerminalInput) -> bytes:
-    """The body that follows a LOAD. Raises Fault where the line is not as it should be: the server would end the connection."""
+    """The body that follows a LOAD. Raises Fault if the line is wrong: the server would end the connection."""
     if not loading.is_whole(line):
         words = loading.quoted_words(line)
         wrong = [str(each) for each in wrong_words(words, usage_for(words))[:1]]
@@ -347,7 +347,7 @@ def typed_body(line: str, lines: TerminalInput) -> bytes:
 
 
 def in_capitals(line: str) -> str:
-    """A line whose command is in capital letters, as those of the protocol are."""
+    """A line with its command in capital letters, as in the protocol."""
     words = words_of(line)
     if not words or words[0].upper() not in names():
         return line
@@ -355,7 +355,7 @@ def in_capitals(line: str) -> str:
 
 
 def duration(seconds: float) -> str:
-    """A time that something takes, in the unit that fits."""
+    """A duration as text, in h, min or s."""
     unit, name = next((size, name) for size, name in ((3600, "h"), (60, "min"), (1, "s")) if seconds >= 2 * size or size == 1)
     return f"{seconds / unit:.0f} {name}"
 

@@ -1,4 +1,4 @@
-"""Lines that are edited by prompt_toolkit: hints of the words to come, completion, and a history."""
+"""Line editing with prompt_toolkit: hints for the words to come, completion, and a history."""
 from __future__ import annotations
 
 import contextlib
@@ -17,7 +17,7 @@ from . import hinting
 from .completion import candidates
 from .history import Lines
 
-# Modules that may be missing are imported by their names, so that types are the same where they are installed and where not.
+# Modules that may be missing are imported by name, so that types are the same whether they are installed or not.
 completion: Any = importlib.import_module("prompt_toolkit.completion")
 filters: Any = importlib.import_module("prompt_toolkit.filters")
 history: Any = importlib.import_module("prompt_toolkit.history")
@@ -33,7 +33,7 @@ SECONDS_BETWEEN_LOOKS = 0.5
 
 
 class History(history.History):  # type: ignore[misc]
-    """What was typed before. A line is added by `Editor.remember` alone, so that a text that was typed is not."""
+    """The lines typed before. Only `Editor.remember` adds a line, so texts that follow a command are left out."""
 
     def __init__(self, lines: Lines):
         super().__init__()
@@ -57,7 +57,7 @@ class History(history.History):  # type: ignore[misc]
 
 
 class Completer(completion.Completer):  # type: ignore[misc]
-    """Commands, sessions, what is saved in them, and files."""
+    """Completes commands, sessions, their branches, and files."""
 
     def __init__(self, user: Callable[[], Optional[User]]):
         self._user = user
@@ -70,7 +70,7 @@ class Completer(completion.Completer):  # type: ignore[misc]
 
 
 class Lexer(lexers.Lexer):  # type: ignore[misc]
-    """Marks the word of a line that is wrong."""
+    """Marks the wrong word of a line."""
 
     def lex_document(self, document: Any) -> Callable[[int], List[Tuple[str, str]]]:
         wrong = hinting.wrong_of(document.text) if is_line(document.text) else None
@@ -84,7 +84,7 @@ def is_line(text: str) -> bool:
 
 
 def marked(text: str, place: int) -> List[Tuple[str, str]]:
-    """A line in parts, of which the word at this place is marked."""
+    """The parts of a line, with the word at this place marked."""
     start = end = 0
     for word in text.split()[: place + 1]:
         start = text.index(word, end)
@@ -93,7 +93,7 @@ def marked(text: str, place: int) -> List[Tuple[str, str]]:
 
 
 class Editor:
-    """Reads lines at a terminal. `line` is a text of the teacher, which is shown below them."""
+    """Reads lines at a terminal. `line` returns a text of the teacher, to show below them."""
 
     def __init__(self, lines: Lines, user: Callable[[], Optional[User]], line: Optional[Callable[[], str]] = None):
         self._lines, self._line = lines, line
@@ -116,7 +116,7 @@ class Editor:
 
     @contextlib.contextmanager
     def begun(self) -> Iterator[None]:
-        """Has the terminal keep a Ctrl-D that is typed ahead. Between two prompts it would turn it into a NUL."""
+        """Makes the terminal keep a Ctrl-D that is typed ahead. Between two prompts it would become a NUL."""
         if termios is None:
             yield
             return
@@ -139,17 +139,17 @@ class Editor:
         self._lines.add(line)
 
     def _below(self) -> str:
-        """What is shown below the line."""
+        """The text below the line."""
         line = "" if self._line is None else printable(self._line())
         return "\n".join(filter(None, [told(hinting.told(self._typed())), line and told(f"the teacher: {line}")]))
 
     def _typed(self) -> str:
-        """The line as far as it is typed; nothing of a text that was pasted, or of what is too long for a command."""
+        """The line typed so far; empty for pasted lines, or a text that is too long for a command."""
         text = str(self._session.default_buffer.document.text_before_cursor)
         return text if is_line(text) else ""
 
 
 def told(text: str) -> str:
-    """A text as the last lines of the terminal."""
+    """A text as lines at the bottom of the terminal."""
     columns = shutil.get_terminal_size().columns
     return "\n".join(textwrap.wrap(text, columns - 1, max_lines=MAX_TOLD, placeholder=" .."))

@@ -17,7 +17,7 @@ MAX_TEXT = 60
 
 
 def explained(refusal: Refused, user: User, path: str = "", body: bytes = b"") -> List[str]:
-    """The lines that explain a refusal; `path` and `body` are those of a file that was loaded."""
+    """The lines that explain a refusal; `path` and `body` belong to a loaded file."""
     lines = [refusal.meaning or "a refusal that this client does not know"]
     words = words_of(refusal.command)
     if isinstance(refusal, OF_A_WORD) and words:
@@ -36,13 +36,13 @@ def explained(refusal: Refused, user: User, path: str = "", body: bytes = b"") -
 
 
 def lost(names: List[str]) -> List[str]:
-    """The lines that tell which sessions the server no longer has."""
+    """The lines about sessions that the server no longer has."""
     why = f"the server was started again, or another connection has dropped {'it' if len(names) == 1 else 'them'}"
     return [listed("no longer at the server", names), why] if names else []
 
 
 def meant(word: str) -> List[str]:
-    """The commands that are written nearly as this word."""
+    """The line with the commands spelled like this word."""
     import difflib  # It takes long to import, and is seldom needed.
 
     known = {name.upper(): name for name in first_words()}
@@ -51,7 +51,7 @@ def meant(word: str) -> List[str]:
 
 
 def faulty_line(number: int, path: str, body: bytes) -> str:
-    """The line of an XYZ text that is wrong."""
+    """The wrong line of an XYZ text."""
     texts = body.split(b"\n")
     where = f"{path}, line {number}" if path else f"line {number} of the text"
     if number > len(texts) or (number == len(texts) and not texts[-1]):
@@ -60,7 +60,7 @@ def faulty_line(number: int, path: str, body: bytes) -> str:
 
 
 def there_is(refusal: Refused, user: User, words: List[str]) -> List[str]:
-    """What there is at the server in place of what was asked for."""
+    """The lines about what the server has instead."""
     if user.closed:
         return []
     if isinstance(refusal, NoSession):
@@ -75,11 +75,11 @@ def there_is(refusal: Refused, user: User, words: List[str]) -> List[str]:
 
 
 def listed(what: str, found: List[str]) -> str:
-    """A line of names, the first of them where there are many."""
+    """A line of names; only the first ones if there are many."""
     more = f" and {len(found) - MAX_NAMES} more" if len(found) > MAX_NAMES else ""
     return f"{what}: {', '.join(found[:MAX_NAMES]) or 'none'}{more}"
 
 
 def shortened(text: str) -> str:
-    """A text without what is too long for a line."""
+    """A text, cut if it is too long for a line."""
     return text if len(text) <= MAX_TEXT else f"{text[:MAX_TEXT]}.."

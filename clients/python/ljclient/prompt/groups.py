@@ -3,7 +3,7 @@ from __future__ import annotations
 
 from typing import Tuple
 
-# The title of a group, and of each command how it is said and what it does, in so few words that 80 columns have room for both.
+# The title of a group, and for each command its words and what it does. Both fit into 80 columns.
 Group = Tuple[str, Tuple[Tuple[str, str], ...]]
 
 GROUPS: Tuple[Group, ...] = (

@@ -1,4 +1,4 @@
-"""The text of `help`: of all commands, of one, or of a refusal."""
+"""The text of `help`: for all commands, for one, or for a refusal."""
 from __future__ import annotations
 
 import textwrap
@@ -19,7 +19,7 @@ KEYS = (
 
 
 def help_on(word: str, width: int = WIDTH) -> List[str]:
-    """The lines that `help` tells, of so many columns at most: of all commands where no word is said."""
+    """The lines of `help`, at most `width` columns wide; for all commands if the word is empty."""
     if not word:
         return overview(width)
     forms, own = forms_of(word.upper()), own_of(word)
@@ -31,7 +31,7 @@ def help_on(word: str, width: int = WIDTH) -> List[str]:
 
 
 def overview(width: int) -> List[str]:
-    """A line for each that may be said, in groups."""
+    """A line for each command, in groups."""
     lines: List[str] = []
     for title, rows in GROUPS:
         lines += ["", title] if lines else [title]
@@ -61,12 +61,12 @@ def on_command(forms: List[Command], width: int) -> List[str]:
 
 
 def table(rows: List[Tuple[str, str]], width: int) -> List[str]:
-    """Words, each with what it means behind it."""
+    """Words, each followed by its meaning."""
     return [line for word, meaning in rows for line in wrapped(meaning, f"    {word} ", " " * (5 + len(word)), width)]
 
 
 def on_own(forms: List[Own], width: int, follows: bool) -> List[str]:
-    """What is said at the prompt alone and begins with one word, after what the protocol has of it."""
+    """The help for commands that only the prompt has; `follows` if commands of the protocol are above."""
     lines: List[str] = []
     for form in forms:
         lines += [""] if lines or follows else []
@@ -77,12 +77,12 @@ def on_own(forms: List[Own], width: int, follows: bool) -> List[str]:
 
 
 def wrapped(text: str, first: str, indent: str, width: int) -> List[str]:
-    """A text as lines of so many columns at most, of which the first begins with something else than the others."""
+    """A text as lines of at most `width` columns. The first begins with `first`, the others with `indent`."""
     return textwrap.wrap(text, width, initial_indent=first, subsequent_indent=indent, break_long_words=False, break_on_hyphens=False)
 
 
 def refusal_named(word: str) -> "Optional[type[Refused]]":
-    """The refusal of this number or this name."""
+    """The refusal with this number or name."""
     for kind in Refused.by_number.values():
         if word.upper() == kind.name or (word.isdecimal() and int(word) == kind.number):
             return kind
@@ -90,5 +90,5 @@ def refusal_named(word: str) -> "Optional[type[Refused]]":
 
 
 def on_refusal(word: str) -> str:
-    """What is told of a word that is neither a command nor a refusal."""
+    """The text for a word that is neither a command nor a refusal."""
     return f"There is no command and no refusal {word}: {meant(word)[0]}"

@@ -14,7 +14,7 @@ IN_UNITS = "LOAD s FILE dt=.. SUBSTANCE [rest|pair]"
 
 
 def words_to_come(text: str) -> str:
-    """The words that may follow a line as far as it is typed; where its first word has just begun, the rest of that too."""
+    """The words that may follow the line typed so far; while its first word is typed, the rest of that word too."""
     words, is_new = words_before(text)
     if not words:
         return ""
@@ -33,19 +33,19 @@ def words_to_come(text: str) -> str:
 
 
 def more_of(words: List[str], is_new: bool) -> List[str]:
-    """What may follow a line that is whole as it is, such as a DUMP into a file."""
+    """The words that may follow a complete line, such as the file of a DUMP."""
     found = [usage.split()[len(words) :] for usage in usages(command_of(words[0]) or "") if fits(words, usage, is_new)]
     rest = next(filter(None, found), None)
     return [f"[{' '.join(rest)}]"] if rest else []
 
 
 def fits(words: List[str], usage: str, is_new: bool) -> bool:
-    """Whether the words of a line are of a usage so far."""
+    """Whether the words typed so far fit a usage."""
     return not wrong_words([*words, ""] if is_new else words, usage, is_whole=False)
 
 
 def quantities_to_come(words: List[str]) -> List[str]:
-    """What a LOAD in physical units may still say."""
+    """The words that a LOAD in physical units lacks."""
     heads = {"dt=..": ("dt=", "h="), "SUBSTANCE": (*substances(), "sigma="), "[edge=..]": ("edge=",), "[rest|pair]": MODES}
     return [kind for kind, known in heads.items() if not any(word.lower().startswith(known) for word in words[3:])]
 
@@ -70,7 +70,7 @@ def told(text: str) -> str:
 
 
 def wrong_of(text: str) -> Optional[WrongWord]:
-    """The first word of a line that is wrong, but for the one that is still typed."""
+    """The first wrong word of a line, except the one that is still typed."""
     words, is_new = words_before(text)
     if not words or (len(words) == 1 and not is_new):
         return None
@@ -84,13 +84,13 @@ def wrong_of(text: str) -> Optional[WrongWord]:
 
 
 def words_before(text: str) -> "tuple[List[str], bool]":
-    """The words of a line as far as it is typed, and whether a blank follows them."""
+    """The words typed so far, and whether a blank follows them."""
     said = without_comment(text)
     return quoted_words(said), said[-1:] in (" ", "\t")
 
 
 def usage_of(words: List[str], is_new: bool) -> str:
-    """The usage that the words of a line fit best so far."""
+    """The usage that fits the words typed so far best."""
     command = command_of(words[0])
     if command is None:
         return ""

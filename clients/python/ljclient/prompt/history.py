@@ -8,19 +8,19 @@ from typing import IO, List
 
 MAX_LINES = 1000
 MAX_BYTES = 1 << 20
-# A token as it is, or in groups as on a slip.
+# A token in one piece, or in groups as on a slip.
 TOKEN = re.compile(r"[A-Za-z0-9]{32}|(?<![A-Za-z0-9])(?:[A-Za-z0-9]{4}[ \t]+){7}[A-Za-z0-9]{4}")
 
 
 class Lines:
-    """The lines that were typed, the oldest first. Only a regular file keeps them: what else has its name is left alone."""
+    """The lines that were typed, the oldest first. They are kept in a regular file; anything else of its name is left alone."""
 
     def __init__(self, path: str):
         self._path = path
         self.lines = read_lines(path)
 
     def add(self, line: str) -> None:
-        """Remembers a line, once where it comes again, and not at all if it may have a token."""
+        """Adds a line, unless it is empty, repeats the last one, or may have a token."""
         if not line.strip() or has_token(line) or self.lines[-1:] == [line]:
             return
         self.lines.append(line)
@@ -33,7 +33,7 @@ def has_token(line: str) -> bool:
 
 
 def read_lines(path: str) -> List[str]:
-    """The last lines of a file; none if it cannot be read. A file that has grown long is written again with these."""
+    """The last lines of a file; none if it cannot be read. A file that is too long is rewritten with these lines only."""
     try:
         with open_regular(path, os.O_RDONLY) as file:
             text = file.read()
@@ -47,7 +47,7 @@ def read_lines(path: str) -> List[str]:
 
 
 def append_line(path: str, line: str) -> None:
-    """Adds a line to a file, which its owner alone can read. Where that cannot be, there is none."""
+    """Adds a line to a file, which only its owner can read. Does nothing if that fails."""
     try:
         with open_regular(path, os.O_WRONLY | os.O_APPEND | os.O_CREAT) as file:
             file.write(f"{line}\n".encode(errors="replace"))
@@ -56,7 +56,7 @@ def append_line(path: str, line: str) -> None:
 
 
 def open_regular(path: str, flags: int) -> IO[bytes]:
-    """Opens a file without a wait. Raises OSError for a FIFO, a device and the like."""
+    """Opens a regular file without blocking. Raises OSError for a FIFO, a device and the like."""
     descriptor = os.open(path, flags | os.O_NONBLOCK, 0o600)
     if not stat.S_ISREG(os.fstat(descriptor).st_mode):
         os.close(descriptor)
@@ -65,5 +65,5 @@ def open_regular(path: str, flags: int) -> IO[bytes]:
 
 
 def history_path() -> str:
-    """The file of what was typed: the one that LJCLIENT_HISTORY names, else one in the home folder."""
+    """The file of the history: the one that LJCLIENT_HISTORY names, else one in the home folder."""
     return os.environ.get("LJCLIENT_HISTORY") or os.path.expanduser("~/.ljclient_history")

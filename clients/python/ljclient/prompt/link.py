@@ -1,4 +1,4 @@
-"""The connection of a prompt, which is made again if it has ended."""
+"""The connection of a prompt, which is opened again if it has ended."""
 from __future__ import annotations
 
 from typing import TYPE_CHECKING, Callable, List, Optional, Set
@@ -10,7 +10,7 @@ if TYPE_CHECKING:
 
 
 class Link:
-    """A user's connection to a server, or to a program of its own; and the page of a class, if the server is that of one."""
+    """A user's connection to a server, or to a program of its own; and the page of the class, if the server belongs to one."""
 
     def __init__(self, open_user: Callable[[], User], after_end: str, page: Optional[ClassPage] = None):
         self._open = open_user
@@ -20,7 +20,7 @@ class Link:
         self._lost: List[str] = []
 
     def ready(self) -> User:
-        """The user, over a new connection where the one before has ended."""
+        """The user, over a new connection if the last one has ended."""
         if self.user.closed:
             self._had |= self.user.session_names if self.user.name is not None else set()
             self.user = self._open()
@@ -30,16 +30,16 @@ class Link:
         return self.user
 
     def lost(self) -> List[str]:
-        """The sessions that the server no longer had when a new connection was begun, each told once."""
+        """The sessions that the server no longer had when a new connection began, each returned once."""
         lost, self._lost = self._lost, []
         return lost
 
     def settled_user(self) -> Optional[User]:
-        """The user, where no reply is awaited that nobody came for: it can be asked without a wait."""
+        """The user, if no command is under way, so that it can be asked without a wait; else None."""
         return self.user if self.user._is_free else None
 
     def news(self) -> List[str]:
-        """What the page of the class has to be told of."""
+        """The new messages of the page of the class."""
         return [] if self.page is None else self.page.news()
 
     def line(self) -> str:
@@ -47,5 +47,5 @@ class Link:
         return "" if self.page is None else self.page.line
 
     def close(self) -> None:
-        """Takes leave."""
+        """Closes the connection."""
         self.user.close()

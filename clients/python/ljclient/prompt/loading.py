@@ -1,4 +1,4 @@
-"""LOAD and LOADMIX as they are typed: with a count and a body that follows, as the protocol has them, or with a file."""
+"""LOAD and LOADMIX as they are typed: with a count and a body that follows, as in the protocol, or with a file."""
 from __future__ import annotations
 
 import os
@@ -17,7 +17,7 @@ class Fault(Exception):
 
 
 class FromFile(NamedTuple):
-    """A command whose body is a file: its words but for the count, and the path."""
+    """A command whose body is a file: its words without the count, and the path."""
 
     words: List[str]
     path: str
@@ -34,7 +34,7 @@ def is_load(line: str) -> bool:
 
 
 def is_whole(line: str) -> bool:
-    """Whether a LOAD has as many words as the protocol wants, the last of which are a mode and a count."""
+    """Whether a LOAD has as many words as in the protocol, and ends with a mode and a count."""
     words = words_of(line)
     return len(words) == count_of_words(words[0]) and words[-2] in MODES and is_count(words[-1])
 
@@ -45,14 +45,14 @@ def count_of_words(name: str) -> int:
 
 
 def size_of_body(line: str) -> int:
-    """How many bytes the server reads after a line as its body: none where the line says no count, or is too long."""
+    """How many bytes the server reads after a line as its body: 0 if the line has no count, or is too long."""
     words = words_of(line)
     has_body = is_load(line) and len(words) > 1 and is_count(words[-1]) and len(line.encode()) <= MAX_COMMAND
     return int(words[-1]) if has_body else 0
 
 
 def from_file(line: str) -> Optional[FromFile]:
-    """What a LOAD says that has a file, after the name of the session or in place of the count. None of any other line."""
+    """The parts of a LOAD that has a file, after the session or in place of the count. None for any other line."""
     if not is_load(line) or is_whole(line):
         return None
     words = quoted_words(line)
@@ -65,7 +65,7 @@ def from_file(line: str) -> Optional[FromFile]:
 
 
 def quoted_words(line: str) -> List[str]:
-    """The words of a line in which a file may stand in quotes."""
+    """The words of a line in which a file may be in quotes."""
     try:
         return shlex.split(line)
     except ValueError:
@@ -73,7 +73,7 @@ def quoted_words(line: str) -> List[str]:
 
 
 def without_comment(line: str) -> str:
-    """A line without what follows a `#` that stands before a word, outside of quotes."""
+    """A line without its comment, from a `#` outside of quotes at the start of a word."""
     quote = ""
     for place, mark in enumerate(line):
         if mark == "#" and not quote and not line[:place][-1:].strip():
@@ -84,7 +84,7 @@ def without_comment(line: str) -> str:
 
 
 def read_body(path: str) -> bytes:
-    """The bytes of an XYZ file. Raises Fault where it cannot be read, or has more than the server takes."""
+    """The bytes of an XYZ file. Raises Fault if it cannot be read, or has more than the server accepts."""
     try:
         with open(os.path.expanduser(path), "rb") as file:
             body = file.read(MAX_BYTES + 1)

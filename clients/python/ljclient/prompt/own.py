@@ -1,4 +1,4 @@
-"""Commands of the prompt alone: many atoms in one SHOW, frames in files, and simulations saved in files."""
+"""Commands that only the prompt has: many atoms in one SHOW, frames in files, and simulations saved in files."""
 from __future__ import annotations
 
 import functools
@@ -13,12 +13,12 @@ from .physical import load_of, scale_of
 from .sessions import renumbered, session_of
 from .shapes import RANGE, wrong_words
 
-# Does something, and returns the lines that tell of it.
+# Carries out a command, and returns the lines to show.
 Deed = Callable[[User], List[str]]
 
 
 def deed_of(line: str) -> Optional[Deed]:
-    """What a line asks for, if it is said at the prompt alone. Raises Fault if its words are wrong."""
+    """The function for a line, if only the prompt has its command. Raises Fault if its words are wrong."""
     words = quoted_words(line)
     if load := load_of(line):
         return load.perform
@@ -31,13 +31,13 @@ def deed_of(line: str) -> Optional[Deed]:
 
 
 def spread(words: List[str]) -> List[str]:
-    """The words of a DUMP into a file, which may stand at the `>` itself."""
+    """The words of a DUMP into a file, which may follow the `>` without a blank."""
     parts = [words[2][:1], words[2][1:]] if len(words[2]) > 1 else [words[2]]
     return checked([*words[:2], *parts, *words[3:]], "DUMP s > FILE")
 
 
 def checked(words: List[str], usage: str) -> List[str]:
-    """These words. Raises Fault, which shows the wrong word, if they do not fit this usage."""
+    """Returns these words. Raises Fault, which shows the wrong word, if they do not fit this usage."""
     if wrong := wrong_words(words, usage):
         raise Fault(f"{wrong[0]}; use `{usage}`")
     return words
@@ -53,7 +53,7 @@ def dump(user: User, words: List[str]) -> List[str]:
 
 
 def write(path: str, data: bytes) -> None:
-    """Writes a file. Raises Fault if that cannot be."""
+    """Writes a file. Raises Fault if that fails."""
     try:
         write_whole(os.path.expanduser(path), data)
     except OSError as error:
@@ -98,7 +98,7 @@ def save(user: User, words: List[str]) -> List[str]:
 
 
 def load_saved(user: User, words: List[str]) -> List[str]:
-    """Goes on from a file that `save` has written."""
+    """Loads a session from a file that `save` has written."""
     checked(words, "load_saved FILE [s]")
     try:
         session = user.load_saved(os.path.expanduser(words[1]), *words[2:])

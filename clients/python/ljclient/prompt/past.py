@@ -1,7 +1,7 @@
 """The past of sessions: their motions since they were loaded, which give the inverse commands.
 
-A motion is a step, forth or back, or a tug. REVERSE exchanges the two frames, so n steps after it are n steps back, and a tug
-after it is one of the other frame. So a state is told by the motions since the start, in order, and by whether time is turned.
+A motion is a number of steps, forward or back, or a tug. REVERSE exchanges the two frames, so n steps after it are n steps back,
+and a tug after it moves the other frame. So the motions since the start, in order, and the direction of time give a state.
 """
 from __future__ import annotations
 
@@ -16,13 +16,13 @@ from ..scalars import nano
 from ..units import RING
 from .sessions import STEP_AT
 
-# What a session is before each of these commands is granted is no longer so after it.
+# The commands that change the state of a session, if they are granted.
 CHANGING = ("ADVANCE", "START", "REVERSE", "TUG", "RESTORE")
 HALF = RING // 2
 
 
 class Steps(NamedTuple):
-    """So many steps: forth if the number is above 0, and back if it is below."""
+    """A number of steps: forward if it is above 0, and back if it is below."""
 
     number: int
 
@@ -32,7 +32,7 @@ class Steps(NamedTuple):
 
 
 class Tug(NamedTuple):
-    """A displacement more of an atom, by its number at the server, in a step that goes forth or, if it is turned, back."""
+    """A displacement added to an atom, by its number at the server, in a step forward or, if `is_turned`, back."""
 
     is_turned: bool
     atom: int
@@ -44,7 +44,7 @@ class Tug(NamedTuple):
 
 
 class Origin:
-    """Where the motions of a session begin: where it was loaded, by this command, or where this prompt knew it first.
+    """The start of the motions of a session: where it was loaded, by this command, or the first state that this prompt knows.
 
     why  why nothing is known before it, if it is not where the session was loaded
     """
@@ -55,7 +55,7 @@ class Origin:
         self.why = why
 
     def places(self) -> List[Place]:
-        """The places of all atoms there, in ring units and in the server's order: `floor(q 2^32 / edge)`."""
+        """The places of all atoms in the load, in ring units and in the server's order: `floor(q 2^32 / edge)`."""
         words = self.load.split()
         edge, lines, at = nano(words[2]), self.body.split(b"\n"), 0
         for _ in range(2 if words[-2] == "pair" else 1):
@@ -67,7 +67,7 @@ class Origin:
 
 
 class State(NamedTuple):
-    """A session after these motions from its origin, with time turned or not."""
+    """A session after these motions from its origin, with time reversed or not."""
 
     origin: Origin
     motions: Tuple["Steps | Tug", ...] = ()
@@ -75,11 +75,11 @@ class State(NamedTuple):
 
     @property
     def gone(self) -> int:
-        """By how many steps it has gone from its origin, forth or back."""
+        """The number of steps made since its origin, forward and back."""
         return sum(abs(each.number) for each in self.motions if isinstance(each, Steps))
 
     def back_by(self, count: int) -> "State":
-        """The state so many steps before this one, on the way that it came; beyond its origin by steps alone."""
+        """The state so many steps earlier on the same path. Before its origin, the path has only steps."""
         motions, left = list(self.motions), count
         while left and motions:
             last = motions.pop()
@@ -93,7 +93,7 @@ class State(NamedTuple):
 
 
 class Done(NamedTuple):
-    """A line that was typed and has changed a session: which one it was, the line, and what the session was before."""
+    """A line that was typed and has changed a session: its number, the line, and the state before."""
 
     number: int
     line: str
@@ -101,11 +101,11 @@ class Done(NamedTuple):
 
 
 class Past(Listener):
-    """Hears of all commands of a session, whatever has them sent, and knows what it was before each line that was typed.
+    """Hears of all commands that the client sends for a session, and knows its state before each typed line.
 
-    step   its step number at the server, once it was heard
+    step   its step number at the server, once it is known
     lines  the commands that were granted since `begin`, in order
-    below  who hears of them too, such as a record
+    below  another listener to the same commands, such as a record
     """
 
     def __init__(self, name: str, why: str, below: Optional[Listener] = None):
@@ -122,28 +122,28 @@ class Past(Listener):
         self._saved: Dict[str, State] = {}
         self._is_moved = False
         self._atoms = 0
-        # Of an ADVANCE whose reply did not come, how many steps it asked for.
+        # The number of steps of each ADVANCE and START whose reply did not come.
         self._doubt = 0
 
     def begin(self, number: int, line: str) -> None:
-        """A line was typed, which has this number. What has changed before is of the line before it."""
+        """Begins a typed line, with this number. Changes before it belong to the line before."""
         now = self.now()
         if now != self._before:
             self.done.append(Done(*self._typed, self._before))
         self._before, self._typed, self.lines, self._is_moved = now, (number, line), [], False
 
     def reach(self, state: State) -> None:
-        """Takes it that the session is in this state now, since what leads there was done."""
+        """Sets the present state, since the commands that lead to it were done."""
         self._state, self._motions, self._is_turned = state, list(state.motions), state.is_turned
 
     def take_back(self) -> None:
-        """The last line that was done is taken back."""
+        """Removes the last line, since it was undone."""
         done = self.done.pop()
         self.reach(done.before)
         self._before = done.before
 
     def renew(self, step: int, atoms: int) -> None:
-        """A new connection was begun, at which the session has so many atoms and is going to this step of the server."""
+        """Continues over a new connection, at which the session has so many atoms and this target step of the server."""
         doubt, self._doubt = self._doubt, 0
         if self.step is None:
             return
@@ -188,7 +188,7 @@ class Past(Listener):
             self.below.close()
 
     def now(self) -> State:
-        """What the session is."""
+        """The present state."""
         self._state = State(self._state.origin, tuple(self._motions), self._is_turned)
         return self._state
 
@@ -231,13 +231,13 @@ class Past(Listener):
             self._lose(f"`RESTORE {self.name} {branch}` has led to what another connection has saved")
 
     def _lose(self, why: str) -> None:
-        """Nothing is known any more of what was done up to now, for this reason."""
+        """Forgets all that was done up to now, for this reason."""
         self.done, self._saved, self._doubt = [], {}, 0
         self.reach(State(Origin(why=why)))
         self._before = self._state
 
     def _add(self, steps: Steps) -> None:
-        """Adds steps, to those that the same line has made before."""
+        """Adds steps, merged with those that the same line has just made."""
         last = self._motions[-1] if len(self._motions) > len(self._before.motions) else None
         if isinstance(last, Steps):
             self._motions.pop()
@@ -246,8 +246,8 @@ class Past(Listener):
 
 
 def way(now: State, wanted: State) -> Optional[List["Steps | Tug"]]:
-    """The motions that lead from one state to another one: those that only the first has are taken back, and those that only the
-    other has are made. None if they have no common origin."""
+    """The motions that lead from one state to another: the inverses of those that only the first has, then those that only the
+    other has. None if they have no common origin."""
     if now.origin is not wanted.origin:
         return None
     common = 0
@@ -259,7 +259,7 @@ def way(now: State, wanted: State) -> Optional[List["Steps | Tug"]]:
 
 
 def merged(motions: Iterable["Steps | Tug"]) -> List["Steps | Tug"]:
-    """The same motions, with steps that follow one another as one."""
+    """The same motions, with consecutive steps merged."""
     found: List["Steps | Tug"] = []
     for each in motions:
         last = found[-1] if found else None
@@ -271,7 +271,7 @@ def merged(motions: Iterable["Steps | Tug"]) -> List["Steps | Tug"]:
 
 
 def commands(name: str, motions: Iterable["Steps | Tug"], is_turned: bool, is_turned_then: bool) -> List[str]:
-    """The commands that make these motions, from a session with time turned or not to one with time turned or not."""
+    """The commands that make these motions; `is_turned` and `is_turned_then`: whether time is reversed before and after."""
     lines: List[str] = []
     for each in motions:
         needed = each.number < 0 if isinstance(each, Steps) else each.is_turned
@@ -282,7 +282,7 @@ def commands(name: str, motions: Iterable["Steps | Tug"], is_turned: bool, is_tu
 
 
 def commands_of(name: str, motion: "Steps | Tug") -> List[str]:
-    """The commands of one motion, with time turned as it needs it."""
+    """The commands of one motion, without the REVERSE that it may need."""
     if isinstance(motion, Tug):
         return [f"TUG {name} {motion.atom} " + " ".join(map(str, motion.displacement))]
     total = abs(motion.number)

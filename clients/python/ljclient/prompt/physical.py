@@ -32,7 +32,7 @@ WANTED = (
 
 
 class PhysicalLoad(NamedTuple):
-    """A LOAD in physical units: the name of the session, the file, whether it has two frames, and words of `User.load`."""
+    """A LOAD in physical units: the name of the session, the file, whether it has two frames, and arguments of `User.load`."""
 
     name: str
     path: str
@@ -40,7 +40,7 @@ class PhysicalLoad(NamedTuple):
     scale: Dict[str, Any]
 
     def perform(self, user: User) -> List[str]:
-        """Loads the atoms, and returns what is told. Raises Fault if that cannot be."""
+        """Loads the atoms, and returns the lines to show. Raises Fault if that fails."""
         try:
             session = user.load(self.name, os.path.expanduser(self.path), pair=self.pair, **self.scale)
         except OSError as error:
@@ -57,7 +57,7 @@ def substances() -> Dict[str, Dict[str, Any]]:
 
 
 def load_of(line: str) -> Optional[PhysicalLoad]:
-    """What a LOAD in physical units says. None of any other line. Raises Fault for another word."""
+    """The parts of a LOAD in physical units. None for any other line. Raises Fault for a wrong word."""
     words = quoted_words(line)
     if words[:1] != ["LOAD"] or len(words) < 4 or not any(is_physical(word) for word in words[3:]):
         return None
@@ -71,7 +71,7 @@ def load_of(line: str) -> Optional[PhysicalLoad]:
 
 
 def file_of(line: str) -> Tuple[str, bytes]:
-    """The path and the bytes of the file that such a LOAD loads; nothing of any other line."""
+    """The path and the bytes of the file of such a LOAD; both empty for any other line."""
     load = load_of(line)
     return (load.path, read_body(load.path)) if load else ("", b"")
 
@@ -82,7 +82,7 @@ def is_physical(word: str) -> bool:
 
 
 def scale_of(words: Sequence[str]) -> Dict[str, Any]:
-    """The words of `User.load` that these say. Raises Fault for another word."""
+    """The arguments of `User.load` for these words. Raises Fault for a wrong word."""
     said: Dict[str, Any] = {}
     for word in words:
         said.update(substances().get(word.lower()) or quantity_of(word))
@@ -92,7 +92,7 @@ def scale_of(words: Sequence[str]) -> Dict[str, Any]:
 
 
 def quantity_of(word: str) -> Dict[str, Any]:
-    """The quantity that a word such as `dt=10fs` says."""
+    """The quantity in a word such as `dt=10fs`."""
     name, has_name, text = word.partition("=")
     if not has_name or name not in UNITS:
         known = ", ".join([*(f"{each}=" for each in UNITS), *substances()])
@@ -110,6 +110,6 @@ def quantity_of(word: str) -> Dict[str, Any]:
 
 
 def about(session: Session) -> List[str]:
-    """What a scale was rounded to, and what is asked for where another connection shows the session."""
+    """The rounded scale of a session, which another connection needs for the same session."""
     dt = "" if session.dt is None else f", and the time step {session.dt:.7g} fs"
     return [f"  edge {session.edge:.10g}, sigma {session.scale.sigma:.10g}, h {session.h}{dt}"]

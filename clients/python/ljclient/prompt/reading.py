@@ -1,4 +1,4 @@
-"""Where lines come from: a terminal, a file that is read there, or any other input."""
+"""The sources of lines: a terminal, a file that is read at a terminal, or any other input."""
 from __future__ import annotations
 
 import contextlib
@@ -18,7 +18,7 @@ TICK_SECONDS = 0.25
 
 
 class PipeInput:
-    """Lines and bodies of a stream of bytes, as the server itself would read them. A last line needs no end."""
+    """Lines and bodies of a stream of bytes, as the server itself would read them. The last line needs no line end."""
 
     def __init__(self, stream: BinaryIO):
         self._stream = stream
@@ -42,7 +42,7 @@ class PipeInput:
 
 
 class Reader(Protocol):
-    """Who reads what is typed at a terminal."""
+    """A reader of lines typed at a terminal."""
 
     def begun(self) -> ContextManager[None]:
         """Sets the terminal up for the lines that are read within the block."""
@@ -54,11 +54,11 @@ class Reader(Protocol):
         """The next line of a text that follows a command."""
 
     def remember(self, line: str) -> None:
-        """Keeps a command, to be typed again."""
+        """Adds a command to the history."""
 
 
 class PlainReader:
-    """Lines as the terminal itself has them edited: without hints, completion and history. `news` is what is told meanwhile."""
+    """Lines edited by the terminal itself: without hints, completion and history. `news` returns messages to show meanwhile."""
 
     def __init__(self, news: Callable[[], List[str]] = list):
         self._news = news
@@ -77,7 +77,7 @@ class PlainReader:
 
 
 def line_at_terminal(prompt: str, news: Callable[[], List[str]]) -> str:
-    """The next line of a terminal. `input` alone sees an interrupt that comes just before it reads only behind the line."""
+    """The next line of a terminal. `input` alone would handle an interrupt just before its read only after the line."""
     print(prompt, end="", flush=True)
     while os.name == "posix" and not select.select([sys.stdin], [], [], TICK_SECONDS)[0]:
         if told := news():
@@ -108,8 +108,7 @@ class FileLines(PipeInput):
 
 
 class TerminalInput:
-    """Lines of somebody at a terminal. Several that come at once, since they were pasted, are taken one after the other, and so
-    are those of a file that is read."""
+    """Lines typed at a terminal. Pasted lines, and the lines of a file that is read, are taken one after the other."""
 
     def __init__(self, prompt: str, reader: Reader, show: Callable[[str], None]):
         self._prompt = prompt
@@ -134,7 +133,7 @@ class TerminalInput:
         return line
 
     def body(self, size: int) -> bytes:
-        """The bytes of the next lines; what follows them in the last one is a line of its own."""
+        """The bytes of the next lines. The rest of the last one becomes a line of its own."""
         if self._files:
             return self._files[-1].body(size)
         body = b""
@@ -149,18 +148,18 @@ class TerminalInput:
 
     @property
     def is_script(self) -> bool:
-        """Whether the lines come from a file, so that nobody is there to be asked."""
+        """Whether the lines come from a file, so that nobody can be asked."""
         return bool(self._files)
 
     def asked(self, question: str) -> str:
-        """What somebody at the terminal answers, without blanks and in small letters; nothing at the end of the input."""
+        """The answer of the user at the terminal, stripped and in small letters; empty at the end of the input."""
         try:
             return self._reader.text(question).strip().lower()
         except EOFError:
             return ""
 
     def read_file(self, path: str) -> None:
-        """Takes the next lines from a file. Raises Fault if that cannot be, or if files read one another without an end."""
+        """Takes the next lines from a file. Raises Fault if it cannot be read, or if MAX_FILES files are being read."""
         if len(self._files) == MAX_FILES:
             raise Fault(
                 f"cannot read {path}: it would be file {MAX_FILES + 1} of files that read one another, of which {MAX_FILES} are the most"
@@ -168,13 +167,13 @@ class TerminalInput:
         self._files.append(FileLines(path))
 
     def stop_files(self) -> List[str]:
-        """Reads no file any more, and tells where it was left."""
+        """Stops reading files. Returns a line that says where."""
         told = [f"{self._files[-1].path} is left at line {self._files[-1].number}"] if self._files else []
         self._files.clear()
         return told
 
     def forget(self) -> None:
-        """Drops what was pasted and is not yet taken."""
+        """Drops pasted lines that are not yet taken."""
         self._pasted.clear()
 
     def _next(self, read: Callable[[str], str], prompt: str) -> str:

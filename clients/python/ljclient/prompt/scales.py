@@ -1,8 +1,8 @@
 """The scales of a user's sessions at a server, kept on this machine's disk from one connection to the next.
 
-Each is a file `.scale` of the client's folder of notes (`disk_notes`). The server tells no scale, so a session that was loaded again
-by somebody else would be told with a wrong one: a note holds only as long as LIST has the session as it was left, with as many
-atoms, at the same step, and behind no session that was loaded after it.
+Each is a `.scale` file in the client's folder of notes (`disk_notes`). The server reports no scale, so a session that somebody else has
+loaded again would be shown with a wrong one. So a note holds only as long as LIST shows the session as it was left: with the same
+number of atoms, at the same step, and not after a session that was loaded later.
 """
 from __future__ import annotations
 
@@ -23,28 +23,28 @@ from .loading import Fault
 
 FORMAT = "ljclient scale 1"
 ENDING = ".scale"
-# The steps of a note in another place, which itself tells whether the session is the same.
+# The limit of steps in a note elsewhere: that place itself knows whether the session is the same.
 ANY_STEP = 10**18
 
 
 class Elsewhere(Protocol):
-    """Another place that remembers scales, each until its session is loaded again."""
+    """Another place that stores scales, each until its session is loaded again."""
 
     def keep_scale(self, session: str, text: str) -> None:
-        """Has the scale of a session be remembered."""
+        """Stores the scale of a session."""
 
     def scale_of(self, session: str) -> Optional[str]:
-        """What is remembered of a session."""
+        """The stored scale of a session."""
 
 
 @dataclasses.dataclass(frozen=True)
 class Left:
-    """What is known of a session, and what LIST had of it when it was left.
+    """What is known of a session, and what LIST showed of it when it was left.
 
     scale, mixture  as in `Known`
-    order           how steps and direction stand to those of the server, and whether the box shows each ring unit
+    order           how steps and direction relate to the server's, and whether the box shows each ring unit
     atoms           how many atoms it had
-    low, high       the steps of the server between which it was left
+    low, high       the range of the server's step when it was left
     before          the names of the sessions that were loaded before it
     """
 
@@ -57,7 +57,7 @@ class Left:
     before: Sequence[str]
 
     def why_not(self, row: Row, before: Sequence[str]) -> str:
-        """Why a session that LIST has so is not the one that was left. Nothing if it may be that."""
+        """Why a session in LIST is not the one that was left. Empty if it may be the same."""
         if row.atoms != self.atoms:
             return f"has {row.atoms} atoms and had {self.atoms}"
         if not self.low <= row.step <= self.high:
@@ -67,7 +67,7 @@ class Left:
         return ""
 
     def said(self) -> str:
-        """The words that say this scale."""
+        """The words that set this scale."""
         scale = self.scale
         words = [f"edge={scale.edge!r}", f"sigma={scale.sigma!r}", f"h={scale.h}"]
         words += [] if scale.epsilon is None else [f"epsilon={scale.epsilon!r}eV"]
@@ -84,9 +84,9 @@ class Memory:
         self._kept_elsewhere: Dict[str, Tuple[Any, ...]] = {}
 
     def keep(self, name: str, step: Optional[int], going: int = 0) -> None:
-        """Notes the scale of a session that is at this step of the server, or is going to be at most so many from there.
+        """Notes the scale of a session that is at this step of the server, or will be at most `going` steps from there.
 
-        Where the disk takes no note there is none."""
+        There is no note if the disk cannot be written."""
         known = self._user._known_of(name)
         told = (known.scale, known.mixture, known.order, step, going)
         if self._user.name is None or self._user.closed or known.scale is None or known.order.numbers is not None or step is None:
@@ -106,7 +106,7 @@ class Memory:
                 self._elsewhere.keep_scale(name, text_of(known, [rows[at].atoms, -ANY_STEP, ANY_STEP], names[:at]))
 
     def take_up(self, name: str) -> List[str]:
-        """Has a session have the scale that was noted of it, in another place or here. Returns what is told if it has not."""
+        """Sets the scale of a session from its note, in another place or here. Returns a message if the note does not fit."""
         return take_up(self._user, name, self._elsewhere)
 
     def forget(self, name: str) -> None:
@@ -140,7 +140,7 @@ def forget(user: User, name: str) -> None:
 
 
 def read(user: User, name: str) -> Optional[Left]:
-    """What was noted of a session. None if nothing was, or if the file is another one."""
+    """The note of a session. None if there is no note, or if the file is another one."""
     if user.name is None:
         return None
     try:
@@ -150,7 +150,7 @@ def read(user: User, name: str) -> Optional[Left]:
 
 
 def left_of(text: str) -> Optional[Left]:
-    """What a note tells. None if it is not one."""
+    """The contents of a note. None if it is not one."""
     try:
         told: Dict[str, Any] = json.loads(text)
         if told["format"] != FORMAT:
@@ -166,9 +166,9 @@ def left_of(text: str) -> Optional[Left]:
 
 
 def take_up(user: User, name: str, elsewhere: Optional[Elsewhere] = None) -> List[str]:
-    """Has a session at a server have the scale that was noted of it, if it may be the same one. Returns what is told if not.
+    """Sets the scale of a session from its note, if it may be the same session. Returns a message if not.
 
-    The edge is looked for at the server, which takes a DUMP and a SHOW.
+    The edge is checked at the server, which takes a DUMP and a SHOW.
     """
     if user._known_of(name).scale is not None:
         return []
@@ -195,7 +195,7 @@ def take_up(user: User, name: str, elsewhere: Optional[Elsewhere] = None) -> Lis
 
 
 def checked(user: User, name: str) -> Scale:
-    """The scale of a session. Raises Fault, which says how it is said, if it is not known."""
+    """The scale of a session. Raises Fault, which says how to set it, if it is not known."""
     scale = user._known_of(name).scale
     if scale is None:
         user._row(name)
@@ -212,7 +212,7 @@ def _owned(user: User, name: str) -> Owned:
 
 
 def _scale(told: Dict[str, Any]) -> Scale:
-    """A scale as it was noted. ValueError or TypeError for other values."""
+    """The scale in a note. Raises ValueError or TypeError for other values."""
     scale = Scale(**told)
     numbers = [scale.edge, scale.sigma, *(each for each in (scale.epsilon, scale.mass) if each is not None)]
     wholes = [scale.h, scale.sigma_on_ring, scale.weight]
@@ -222,7 +222,7 @@ def _scale(told: Dict[str, Any]) -> Scale:
 
 
 def _mixture(told: Optional[Dict[str, Any]]) -> Optional[Mixture]:
-    """A mixture as it was noted."""
+    """The mixture in a note."""
     if told is None:
         return None
     first, second = told["species"]

@@ -16,20 +16,20 @@ from .commands import forms_of
 from .loading import words_of
 from .shapes import SHAPES, wrong_words
 
-# At which word of a reply, counted after OK, the step stands.
+# The index of the step among the words of a reply after OK.
 STEP_AT = {"ADVANCE": 2, "START": 2, "REVERSE": 2, "MEASURE": 2, "SHOW": 2, "BRANCH": 3, "RESTORE": 3, "TUG": 3}
-# At which word of a reply the atom stands; in the command it is the word after the session.
+# The index of the atom among these words; in the command it is the word after the session.
 ATOM_AT = {"SHOW": 3, "TUG": 2}
 
 
 def session_of(user: User, name: str) -> Session:
-    """A session with what is known of it. Whether it is there the server says."""
+    """A session with its known scale, without a check that it exists."""
     known = user._known_of(name)
     return Session(user, name, known.scale, known.mixture)
 
 
 def asked(user: User, line: str, body: bytes = b"") -> Reply:
-    """The reply to a command, with the numbers of atoms and steps that its session has here."""
+    """The reply to a command, with the user's numbers of atoms and steps."""
     words = words_of(line)
     verb = words[0] if words else ""
     if verb in ("LOAD", "LOADMIX"):
@@ -46,7 +46,7 @@ def asked(user: User, line: str, body: bytes = b"") -> Reply:
 
 
 def is_whole(words: List[str]) -> bool:
-    """Whether a line is a command of the protocol whose words have their shapes."""
+    """Whether a line is a command of the protocol with words of the right form."""
     return bool(words) and any(not wrong_words(words, form.usage) for form in forms_of(words[0]))
 
 
@@ -72,7 +72,7 @@ def of_session(user: User, words: List[str]) -> Reply:
 
 
 def renumbered(reply: Reply, asked_for: List[str], order: Order) -> Reply:
-    """A reply with the numbers that a session has here."""
+    """A reply with the user's numbers of atoms and steps."""
     words = list(reply.words)
     verb = words[0]
     if verb in STEP_AT:
@@ -83,13 +83,13 @@ def renumbered(reply: Reply, asked_for: List[str], order: Order) -> Reply:
 
 
 def dumped(session: Session) -> Reply:
-    """The frame of a session that the server has in another box, in another order, or with other steps."""
+    """The frame of a session that has another box, order or step number at the server."""
     lines = session.dump().splitlines()
     return Reply(["DUMP", session.name, lines[1].split()[-1], str(len(lines))], lines)
 
 
 def listed(user: User, words: List[str]) -> Reply:
-    """The sessions, or what is saved in one."""
+    """The sessions, or the branches of one."""
     if len(words) == 1:
         rows = [" ".join(map(str, row)) for row in user.sessions()]
     elif SHAPES["s"](words[1]):
@@ -100,7 +100,7 @@ def listed(user: User, words: List[str]) -> Reply:
 
 
 def note_scale(user: User, words: List[str]) -> None:
-    """Notes the scale that a LOAD or LOADMIX has said, for `save`."""
+    """Notes the scale of a LOAD or LOADMIX, for `save`."""
     known, mixture = user._known_of(words[1]), None
     if words[0] == "LOAD":
         scale = Scale.of(words[2], words[3], int(words[4]))

@@ -18,7 +18,7 @@ Fits = Callable[[str], bool]
 
 
 class WrongWord(NamedTuple):
-    """A word of a line that is not as it should be: its place, counted from 0, and what should be there.
+    """A wrong word of a line: its place, counted from 0, and what should be there.
 
     word  the word; empty if it is missing
     kind  the word of the usage; empty if the line has a word too many
@@ -54,12 +54,12 @@ def displacement(word: str) -> bool:
 
 
 def is_count(word: str) -> bool:
-    """Whether a word is a count of bytes that the server takes."""
+    """Whether a word is a count of bytes that the server accepts."""
     return COUNT.match(word) is not None and int(word) <= MAX_BYTES
 
 
 def has_unit(word: str, units: Sequence[str]) -> bool:
-    """Whether a word is a number from 0 on with one of these units."""
+    """Whether a word is a number of at least 0 with one of these units."""
     found = QUANTITY.match(word)
     return found is not None and found[2] in units
 
@@ -86,20 +86,20 @@ SHAPES.update({f"[{kind}]": SHAPES[kind] for kind in ("s", "SEED", "STRETCH")})
 
 
 def meaning_of(kind: str) -> str:
-    """What a word of a usage means; nothing if it says itself."""
+    """The meaning of a word of a usage; empty if it needs none."""
     kind = kind.strip("[]").split("|")[0]
     return next((meaning for words, meaning in WORDS.items() if kind in words.split()), "")
 
 
 def usages(name: str) -> List[str]:
-    """The ways in which a command may be said here, with a file first."""
+    """The usages of a command at the prompt, with a file first."""
     found = [usage for form in forms_of(name) for usage in (form.with_file, form.usage) if usage]
     return found + [own.usage for own in OWN if own.name == name]
 
 
 def wrong_words(words: Sequence[str], usage: str, is_whole: bool = True) -> List[WrongWord]:
-    """What is wrong with the words of a line if they are to be of this usage; of a line that is not whole, the last word and
-    what is missing do not count."""
+    """The words of a line that are wrong for this usage. If the line is not whole, its last word and missing words do not
+    count."""
     kinds = usage.split()[1:]
     said = list(words[1:])
     last = len(said) if is_whole else len(said) - 1
@@ -116,6 +116,6 @@ def wrong_words(words: Sequence[str], usage: str, is_whole: bool = True) -> List
 
 
 def usage_for(words: Sequence[str], is_whole: bool = True) -> str:
-    """The usage that fits the words of a line best; nothing if there is no such command."""
+    """The usage that fits the words of a line best; empty if there is no such command."""
     found = usages(words[0])
     return min(found, key=lambda usage: len(wrong_words(words, usage, is_whole))) if found else ""

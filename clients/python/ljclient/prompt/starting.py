@@ -42,7 +42,7 @@ or typed. Spaces in it are ignored. `python3 -m ljclient view [FILE.xyz ..]` sho
 
 
 class Parser(argparse.ArgumentParser):
-    """Words of the command line. Errors do not show them, since one may be a token."""
+    """Parser of the command line. Errors do not show its words, since one may be a token."""
 
     def error(self, message: str) -> NoReturn:
         self.print_usage(sys.stderr)
@@ -50,7 +50,7 @@ class Parser(argparse.ArgumentParser):
         sys.exit(2)
 
     def refuse(self, unknown: List[str]) -> None:
-        """Ends with status 2 if there are unknown words. One that is not an option is not shown."""
+        """Exits with status 2 if there are unknown words. A word that is not an option is not shown."""
         if unknown and unknown[0].startswith("-"):
             self.error(f"there is no option {unknown[0].partition('=')[0]}; use --help to list the options")
         if unknown:
@@ -58,7 +58,7 @@ class Parser(argparse.ArgumentParser):
 
 
 def options_of(words: List[str]) -> argparse.Namespace:
-    """The options that the command line says."""
+    """The options on the command line."""
     usage = (
         "python3 -m ljclient [HOST:PORT NAME] [--token-file FILE] [--timeout SECONDS] [--tls [--ca FILE] | --fingerprint HEX [--page PORT]]"
     )
@@ -97,7 +97,7 @@ def add_tls(parser: argparse.ArgumentParser) -> None:
 
 
 def check_tls(parser: argparse.ArgumentParser, options: argparse.Namespace) -> None:
-    """Ends with status 2 if these options do not fit."""
+    """Exits with status 2 if these options do not fit."""
     if options.tls and not options.server:
         parser.error("--tls must come with HOST:PORT NAME")
     if options.ca and not options.tls:
@@ -122,7 +122,7 @@ def is_address(word: str) -> bool:
 
 @contextlib.contextmanager
 def word_of_waiting(name: str) -> Iterator[None]:
-    """Tells somebody who waits what for, where it takes longer than a moment."""
+    """Writes the reason for a wait that takes longer than a moment."""
     text = f"waiting: another connection of {name} is open, or the server's --connections are used up (Ctrl-C gives up)"
     timer = threading.Timer(SECONDS_UNTIL_WORD, lambda: print(text, file=sys.stderr, flush=True))
     timer.daemon = True
@@ -134,7 +134,7 @@ def word_of_waiting(name: str) -> Iterator[None]:
 
 
 def link_of(options: argparse.Namespace, is_terminal: bool) -> Link:
-    """The connection that the command line says."""
+    """The connection that the command line asks for."""
     if not options.server:
         limit = options.timeout or SECONDS_OF_A_PROGRAM
         after = "The next command begins a new program. What was loaded is gone."
@@ -159,7 +159,7 @@ def link_of(options: argparse.Namespace, is_terminal: bool) -> Link:
 
 
 def page_of(options: argparse.Namespace, name: str, token: str) -> Optional["ClassPage"]:
-    """The page of the class, if the command line says one."""
+    """The page of the class, if the command line has one."""
     if options.page is None:
         return None
     from .class_page import ClassPage  # It takes long to import, and is seldom needed.
@@ -169,7 +169,7 @@ def page_of(options: argparse.Namespace, name: str, token: str) -> Optional["Cla
 
 
 def link_by_typing(name: str, link_with: Callable[[str], Link]) -> Link:
-    """The connection with a token that is typed. One that the server denies may be typed again, `TRIES` times in all."""
+    """The connection with a typed token. If the server denies it, it may be typed again, `TRIES` times in all."""
     for _ in range(TRIES - 1):
         try:
             return link_with(typed_token(name))
@@ -180,13 +180,13 @@ def link_by_typing(name: str, link_with: Callable[[str], Link]) -> Link:
 
 
 def welcome(link: Link, where: str) -> str:
-    """What is told first at a terminal."""
+    """The first text at a terminal."""
     names = ", ".join(row.name for row in link.user.sessions()) or "none"
     return f"Connected to {where}. Sessions: {names}." if where else "A program of its own: what is loaded is gone when it ends."
 
 
 def reader_of(link: Link) -> Tuple[Reader, str]:
-    """Who reads what is typed, and what is told of that: prompt_toolkit if it is there and the terminal can do more than lines."""
+    """The reader of typed lines, and a text about it: prompt_toolkit if it is installed and the terminal is not `dumb`."""
     if os.environ.get("TERM") == "dumb":
         return PlainReader(link.news), KEYS
     if importlib.util.find_spec("prompt_toolkit") is None:

@@ -20,7 +20,7 @@ VERBS = (".lesson", ".answer", ".hint")
 
 
 class Teaching(Listener):
-    """A lesson on its way. It hears of its session, and may have a record of it be written, with the answers beside it."""
+    """A lesson in progress. It hears of its session, and may write a record of it, with the answers beside it."""
 
     def __init__(self, path: str, kept: Optional[str] = None, page: Optional[ClassPage] = None):
         self._page = page
@@ -35,7 +35,7 @@ class Teaching(Listener):
         self._is_seen = not self.walk.missing
         self._is_new = True
         self._has_answers = False
-        # Whether the last line was replied something that the step expects, and something else to a command that it expects.
+        # Whether the last line got a reply that the step expects, and whether it got another reply to an expected command.
         self._has_met = self._has_failed = False
 
     @property
@@ -44,7 +44,7 @@ class Teaching(Listener):
         return self.walk.lesson.session
 
     def path_of(self, path: str) -> str:
-        """The path of a file that a line says: beside the lesson, where there is none of this name here."""
+        """The path of a file that a line names: beside the lesson, if there is no such file here."""
         beside = os.path.join(os.path.dirname(self.walk.lesson.stem), path)
         return beside if os.path.exists(beside) and not os.path.exists(os.path.expanduser(path)) else path
 
@@ -77,7 +77,7 @@ class Teaching(Listener):
             self._record.close()
 
     def shown(self) -> List[str]:
-        """The step that it is at."""
+        """The lines of the present step."""
         step, lesson = self.walk.step, self.walk.lesson
         self._is_new = False
         if step is None:
@@ -87,7 +87,7 @@ class Teaching(Listener):
         return [*lines, *(self._question() if self._is_seen else []), *([self._said("help")] if self.walk.at == 0 else [])]
 
     def after(self) -> List[str]:
-        """What is told behind a line: whether the step is done, and what comes next."""
+        """The lines to show after a command: whether the step is done, and what comes next."""
         if self._is_new:
             return self.shown()
         step, has_met, has_failed = self.walk.step, self._has_met, self._has_failed
@@ -115,7 +115,7 @@ class Teaching(Listener):
         return [self._said("right"), *self._next()]
 
     def _keep(self, line: str) -> None:
-        """Writes an answer beside the record, the first one in place of those of an earlier way through the lesson."""
+        """Writes an answer beside the record. The first one replaces the answers of an earlier run of the lesson."""
         if self._answers is None:
             return
         try:

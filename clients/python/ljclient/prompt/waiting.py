@@ -1,4 +1,4 @@
-"""What a prompt waits for, as it is shown: the command, and about how far its session is."""
+"""Shows what a prompt waits for: the command, and about how far its session is."""
 from __future__ import annotations
 
 import contextlib
@@ -11,19 +11,19 @@ from ..progress import Report, reporter
 from ..user import User
 from .loading import words_of
 
-# These are answered at once, whatever is started.
+# These are answered at once, even if steps were started.
 AT_ONCE = ("LIST", "START", "FORGET", "LOAD", "LOADMIX")
 PATIENCE = 0.5
 PATIENCE_BESIDE_A_BAR = 3.0
-# What took fewer seconds does not tell how long a step takes.
+# Runs of fewer seconds do not show how long a step takes.
 SURE = 0.2
-# A bar that is drawn at once, and says nothing where it cannot be drawn.
+# Draws a bar at once, and says nothing if it cannot be drawn.
 DELAY = 0.001
 Tell = Callable[[str], None]
 
 
 class Run(NamedTuple):
-    """Steps that were started: the step that they lead to, how many they are, and since when they are made."""
+    """Steps that were started: the step that they lead to, their number, and the time since when they are made."""
 
     target: int
     steps: int
@@ -31,10 +31,10 @@ class Run(NamedTuple):
 
 
 class Waits:
-    """Tells what is waited for, where a reply takes longer than a moment.
+    """Writes which reply is awaited, if it takes longer than a moment.
 
-    No reply tells how far a session on its way is, so that comes from the time that its earlier steps have taken. A server makes
-    steps at any time, and a program of its own makes them while a reply is awaited.
+    No reply says how far a session is, so this is estimated from the time of its earlier steps. A server makes steps at any
+    time. A program of its own makes them only while a reply is awaited.
     """
 
     def __init__(self, tell: Tell):
@@ -44,7 +44,7 @@ class Waits:
         self._sure: Dict[str, float] = {}
         self._ended_at = 0.0
         self._typed = ""
-        # The command, as it was typed, whose reply an interrupt has left.
+        # The typed command whose reply was not read because of an interrupt.
         self._left = ""
         self._is_one = True
         self._is_sent = False
@@ -55,8 +55,8 @@ class Waits:
 
     @contextlib.contextmanager
     def during(self, user: User, typed: str, is_one: bool) -> Iterator[None]:
-        """Waits for what an earlier command has left, and then tells what is waited for within the block: for the command that
-        was typed, or for the first of several that it needs."""
+        """Waits for replies that an earlier command has left, and then writes which reply is awaited within the block: to the
+        command that was typed, or to the first of several that it needs."""
         self._typed, self._is_one, self._is_sent = typed, is_one, False
         if user.name is None:
             self._leave_out(time.monotonic() - self._ended_at)
@@ -73,7 +73,7 @@ class Waits:
             self._ended_at = time.monotonic()
 
     def interrupted(self, user: User) -> List[str]:
-        """What an interrupt leaves: told where a command is still to be answered."""
+        """The lines after an interrupt, which say if a command is still to be answered."""
         self._end_bar()
         if not user.unanswered:
             return ["interrupted"]
@@ -98,11 +98,11 @@ class Waits:
             self._sure[name] = seconds / steps
 
     def seconds_of(self, name: str, steps: int) -> float:
-        """How long so many steps of a session take, by those of it that took long enough to tell. 0 if there were none."""
+        """The seconds that so many steps of a session take, by its runs of at least SURE seconds. 0 if there were none."""
         return steps * self._sure.get(name, 0.0)
 
     def knows_pace(self, name: str) -> bool:
-        """Whether the time of a step of this session is known, or cannot be measured now, since steps are started."""
+        """Whether the time of a step of this session is known, or cannot be measured now, since steps were started."""
         return name in self._seconds_per_step or name in self._runs
 
     def are_started(self, name: str) -> bool:
@@ -110,13 +110,13 @@ class Waits:
         return name in self._runs
 
     def note_start(self, name: str, steps: int, target: int) -> None:
-        """Notes that a session goes on by so many steps more."""
+        """Notes that so many more steps of a session were started."""
         now = time.monotonic()
         run = self._runs.get(name, Run(target, 0, now))
         self._runs[name] = Run(target, run.steps + steps, run.since)
 
     def note_answer(self, line: str) -> None:
-        """Notes that a command was answered, so that its session is there, or is another one."""
+        """Notes an answered command: its started steps are done, or its session is another one."""
         verb, *words = words_of(line)
         if words and verb not in ("START", "FORGET", "LIST"):
             self._runs.pop(words[0], None)
@@ -125,21 +125,21 @@ class Waits:
             self._sure.pop(words[0], None)
 
     def _leave_out(self, seconds: float) -> None:
-        """Leaves out a time in which no steps were made."""
+        """Excludes a time in which no steps were made."""
         self._runs = {name: run._replace(since=run.since + seconds) for name, run in self._runs.items()}
 
     def _run_of(self, command: str) -> Optional[Run]:
-        """The steps that a command waits for, if it does."""
+        """The started steps that a command waits for, if any."""
         verb, *words = words_of(command)
         return self._runs.get(words[0]) if words and verb not in AT_ONCE else None
 
     def _after(self, command: str) -> str:
-        """When a command is answered, as far as that is known."""
+        """The text for when a command is answered, if that is known."""
         run = self._run_of(command)
         return f", when {words_of(command)[1]} is at step {run.target}" if run else ""
 
     def _tick(self, command: str, silent: float) -> None:
-        """Tells once what is waited for, and draws about how far its session is."""
+        """Writes once which reply is awaited, and draws about how far its session is."""
         run = self._run_of(command)
         if silent < (PATIENCE if run or not self._has_bar else PATIENCE_BESIDE_A_BAR):
             return
@@ -152,11 +152,11 @@ class Waits:
 
     @property
     def _has_bar(self) -> bool:
-        """Whether the command that was typed shows itself how far it is."""
+        """Whether the typed command shows its own progress."""
         return self._is_sent and words_of(self._typed)[:1] == ["ADVANCE"]
 
     def _draw(self, name: str, run: Run) -> None:
-        """Draws about how many of the steps are made, if the time of a step is known. At most all but one, since it is a guess."""
+        """Draws the estimated number of steps made, if the time of a step is known. It is at most all but one."""
         seconds = self._seconds_per_step.get(name)
         if seconds is None or not run.steps:
             return

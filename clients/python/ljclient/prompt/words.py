@@ -26,28 +26,28 @@ from .shapes import QUANTITY, wrong_words
 FEMTOSECONDS = {"fs": 1.0, "ps": 1e3, "ns": 1e6}
 STEPS = ("steps", "step")
 REDUCED_TIME = "sigma sqrt(m / epsilon)"
-# Of more commands of one kind in a row, the first and the last are shown.
+# Of more commands of one kind in a row, only the first and the last are shown.
 FEW = 3
-# What tells more, or something else, where the scale of its session is known.
+# Commands whose result depends on whether the scale of the session is known.
 WITH_SCALE = ("ADVANCE", "REVERSE", "MEASURE", "SHOW", "DUMP", "SAVE", *(own.name.upper() for own in PHYSICS))
 MAX_TOTAL = 1_000_000_000
 
 
 class Talk(Protocol):
-    """The dialogue that the words are said in."""
+    """The dialogue in which the words are used."""
 
     def tell(self, *lines: str) -> None:
         """Writes lines at once."""
 
     def answer(self, user: User, line: str, body: bytes, is_plan: bool) -> List[str]:
-        """The lines that a command is answered, which may be of a plan of several."""
+        """The lines of the reply to a command, which may be in a plan of several."""
 
     def may_take(self, name: str, steps: int) -> bool:
-        """Whether so many steps are to be made, which somebody is asked if they take long."""
+        """Whether to make so many steps. The user is asked if they take long."""
 
 
 class Words:
-    """The words, and the sessions that they are said of."""
+    """The words, and the sessions that they apply to."""
 
     def __init__(self, talk: Talk) -> None:
         self.pasts: Dict[str, Past] = {}
@@ -66,7 +66,7 @@ class Words:
         }
 
     def deed_of(self, line: str) -> Optional[Callable[[User], List[str]]]:
-        """What a line asks for, if it is one of these words. Raises Fault if its words are wrong."""
+        """The function for a line with one of these words. Raises Fault if the line is wrong."""
         words = quoted_words(line)
         verb = words[0].lower() if words else ""
         if verb not in self._says:
@@ -77,7 +77,7 @@ class Words:
         return lambda user: self._said(user, verb, words[1:])
 
     def _said(self, user: User, verb: str, words: List[str]) -> List[str]:
-        """Does what a word says. Raises Fault if that cannot be."""
+        """Carries out a word. Raises Fault if that fails."""
         try:
             return self._says[verb](user, words)
         except ClientError:
@@ -86,7 +86,7 @@ class Words:
             raise Fault(str(error)) from error
 
     def begin(self, user: User, line: str) -> List[str]:
-        """A line was typed: the sessions that it may change are heard of from now on. Returns what is told of a scale."""
+        """Begins a typed line. Listens to the session that it names from now on. Returns messages about its scale."""
         self._number += 1
         self._is_planned = False
         for name in named(line):
@@ -103,14 +103,14 @@ class Words:
             past.begin(self._number, line)
 
     def _hear(self, user: User, name: str) -> Past:
-        """The past of a session, of which all is heard from now on if it was not before."""
+        """The past of a session, which listens to it from now on if it did not before."""
         if name not in self.pasts:
             self.pasts[name] = Past(name, f"{name} was loaded over another connection")
             user._listen(name, self.pasts[name])
         return self.pasts[name]
 
     def end(self, user: User, line: str) -> None:
-        """A line was done: the scales of its sessions are noted."""
+        """Ends a line, and notes the scales of the sessions."""
         verb, *words = words_of(line) or [""]
         if verb == "DROP" and words and self._memory is not None:
             self._memory.forget(words[0])
@@ -118,12 +118,12 @@ class Words:
             self._note(user, name, past.step)
 
     def goes(self, user: User, name: str, steps: int) -> None:
-        """A session is to make so many steps."""
+        """Notes that a session will make so many steps."""
         if name in self.pasts:
             self._note(user, name, self.pasts[name].step, steps)
 
     def broken_off(self, line: str, error: BaseException) -> None:
-        """A line was broken off. Of one of these words it is told what was sent, and so done."""
+        """If one of these words was broken off, reports what it has sent, and so done."""
         verb = (words_of(line) or [""])[0].lower()
         if verb not in self._says or isinstance(error, (Fault, Refused)):
             return
@@ -132,11 +132,11 @@ class Words:
         self._talk.tell(*sent, f"  `{line}` is broken off: {what}")
 
     def hears(self, user: User, name: str, listener: Listener) -> None:
-        """Has someone hear of a session too, from its next load on, or from now on if it is there."""
+        """Makes a listener hear of a session too, from its next load on, or from now on if it is loaded."""
         self._hear(user, name).below = listener
 
     def listen(self, user: User, elsewhere: Optional[scales.Elsewhere] = None) -> None:
-        """Hears of all sessions over a new connection, at which those that are gone are forgotten."""
+        """Listens to all sessions over a new connection, and forgets those that are gone."""
         self._memory = scales.Memory(user, elsewhere)
         rows = {row.name: row for row in user.sessions()} if self.pasts else {}
         self.pasts = {name: past for name, past in self.pasts.items() if name in rows}
@@ -179,7 +179,7 @@ class Words:
         return [*self.sent(), f"  {in_words(distance(places, start), session.scale)}"]
 
     def scale(self, user: User, words: List[str]) -> List[str]:
-        """Says the scale of a session, or tells it."""
+        """Sets the scale of a session, or shows it."""
         name, *said = words
         if said and user._known_of(name).mixture is not None:
             raise Fault(f"cannot set the scale of {name}: it has two species, and its LOADMIX has set it")
@@ -190,7 +190,7 @@ class Words:
         return [f"  {told}", *missing(known, "epsilon", "mass")]
 
     def go(self, user: User, words: List[str]) -> List[str]:
-        """Goes on by a stretch of time."""
+        """Advances by a stretch of time."""
         name, text = words
         steps = self._steps(user, name, text)
         if not self._talk.may_take(name, steps):
@@ -217,7 +217,7 @@ class Words:
         return told_of_steps(user, name, steps, f" back{doubt}")
 
     def undo(self, user: User, words: List[str]) -> List[str]:
-        """Takes back what the last line has done to a session."""
+        """Undoes what the last line has done to a session."""
         pasts = [past for past in self.pasts.values() if past.done and words in ([], [past.name])]
         if not pasts:
             raise Fault(self._nothing(words))
@@ -234,7 +234,7 @@ class Words:
         return "cannot undo: nothing that moves atoms was done here" + "".join(f"; {why}" for why in whys if why)
 
     def _reach(self, user: User, past: Past, wanted: State) -> bool:
-        """Has a session be in another state by commands. Returns whether it is. Raises Fault if no commands are known for it."""
+        """Brings a session into another state by commands. Returns whether it is there. Raises Fault if no commands are known for it."""
         now = past.now()
         motions = way(now, wanted)
         if motions is None:
@@ -247,7 +247,7 @@ class Words:
         return True
 
     def _perform(self, user: User, lines: Sequence[str]) -> None:
-        """Sends commands one after the other, and shows each with its reply. Many tugs are sent together."""
+        """Sends commands one after the other, and shows each with its reply. Consecutive tugs are sent together."""
         self._is_planned = True
         for is_tug, group in groupby(lines, lambda line: line.startswith("TUG ")):
             alike = list(group)
@@ -287,7 +287,7 @@ USAGES = {own.name: own.usage for own in PHYSICS}
 
 
 def named(line: str) -> List[str]:
-    """The session that a line names, or loads from a file that says its name."""
+    """The session that a line names, or that is named in the file it loads."""
     words = quoted_words(line)
     if words[:1] == ["load_saved"]:
         words = words[:1] + words[2:] if len(words) > 2 else words[:1] + saved_in(words[1:])
@@ -309,7 +309,7 @@ def measurable(user: User, name: str) -> Session:
 
 
 def within(steps: int, text: str) -> int:
-    """These steps. Raises Fault if they are more than anybody waits for."""
+    """Returns the steps. Raises Fault if they are more than MAX_TOTAL."""
     if steps > MAX_TOTAL:
         raise Fault(f"a stretch must be at most {MAX_TOTAL} steps, got `{text}`, which is {steps}")
     return steps
@@ -324,7 +324,7 @@ def parted(text: str) -> Tuple[float, str]:
 
 
 def temperature_of(text: str, scale: Scale) -> float:
-    """A temperature in kelvin if epsilon is known, else in epsilon / k_B. Raises Fault for kelvin if it is not."""
+    """A temperature in kelvin if epsilon is known, else in epsilon / k_B. Raises Fault for kelvin without epsilon."""
     number, unit = parted(text)
     if unit == "K" and scale.epsilon is None:
         raise Fault(f"cannot take `{text}`: epsilon is not known; use `{text[:-1]}` for that many epsilon / k_B, or load with epsilon=")
@@ -336,7 +336,7 @@ def unit_of_temperature(scale: Scale) -> str:
 
 
 def scales_missing(scale: Scale) -> str:
-    """Which of epsilon and mass are not known, with their verb."""
+    """Which of epsilon and mass are not known, with `is` or `are`."""
     lacking = [name for name, value in (("epsilon", scale.epsilon), ("mass", scale.mass)) if value is None]
     return f"{' and '.join(lacking)} {'is' if len(lacking) == 1 else 'are'}"
 
@@ -352,7 +352,7 @@ def missing(scale: Scale, *names: str) -> List[str]:
 
 
 def in_words(apart: float, scale: Scale) -> str:
-    """A distance in ring units as it is told."""
+    """The text for a distance in ring units."""
     if not apart:
         return "each atom is at the place where it was loaded, bit for bit"
     unit = "of the unit of the file" if scale.epsilon is None else "angstrom"
@@ -361,7 +361,7 @@ def in_words(apart: float, scale: Scale) -> str:
 
 
 def told_of_steps(user: User, name: str, steps: int, whither: str = "") -> List[str]:
-    """How long steps are that were made."""
+    """The lines that say how long the steps are."""
     scale = user._known_of(name).scale
     if scale is None:
         return []
@@ -372,7 +372,7 @@ def told_of_steps(user: User, name: str, steps: int, whither: str = "") -> List[
 
 
 def shown(lines: Sequence[str]) -> List[str]:
-    """Commands as they are shown: of many of one kind in a row the first and the last."""
+    """Commands as they are shown: of many of one kind in a row, only the first and the last."""
     told: List[str] = []
     for _, group in groupby(lines, lambda line: line.split(" ")[0]):
         alike = list(group)

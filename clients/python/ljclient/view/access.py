@@ -16,19 +16,19 @@ ADDRESS = "127.0.0.1"
 SECRET_BYTES = 12
 HOST = re.compile(r"[A-Za-z0-9.:\[\]-]{1,255}")
 ANY = ("0.0.0.0", "::")
-# After so many seconds of silence, and as many questions in between, a page whose machine is gone is given up.
+# TCP keepalive, which ends connections to machines that are gone: seconds of silence, seconds between probes, and probes.
 SILENCE = {"TCP_KEEPIDLE": 60, "TCP_KEEPINTVL": 15, "TCP_KEEPCNT": 4}
-# Addresses for documentation, to which nothing is sent: the way to them is the way to others.
+# Addresses for documentation. Nothing is sent to them: only the route to them is looked up.
 SOMEWHERE = {socket.AF_INET: "192.0.2.1", socket.AF_INET6: "2001:db8::1"}
 
 
 @dataclass(frozen=True)
 class Access:
-    """Where the page is, and who may ask for it.
+    """Where the page is, and who may request it.
 
-    listener  the socket that listens
-    hosts     the hosts that a request may name, or none if others may have the page. Then any name may lead here
-    prefix    what each path begins with, which has the secret
+    listener  the listening socket
+    hosts     the hosts that a request may name. Empty if others may open the page, since any name may lead here then
+    prefix    the beginning of each path, which contains the secret
     url       the link to the page
     """
 
@@ -39,20 +39,20 @@ class Access:
 
     @property
     def is_open(self) -> bool:
-        """Whether others than those on this machine may have the page."""
+        """Whether users of other machines may open the page."""
         return not self.hosts
 
     def without_secret(self) -> "Access":
-        """The same for a page that has nothing to keep: its link has no secret."""
+        """A copy for a page that has nothing secret: its link has no secret."""
         return dataclasses.replace(self, prefix="/", url=self.url[: -len(self.prefix)] + "/")
 
     def path_of(self, path: str) -> Optional[str]:
-        """What a path says after the secret, if it has it."""
+        """A path without the prefix, or None if it lacks the prefix."""
         begun = path[: len(self.prefix)]
         return path[len(self.prefix) :] if hmac.compare_digest(begun.encode(), self.prefix.encode()) else None
 
     def refusal(self, host: str, origin: Optional[str], is_session: bool) -> Optional[str]:
-        """Why a request is not answered. Only pages of this server may ask, and only by its own address."""
+        """Why a request is refused, or None. Only pages of this server may send one, and only to its own address."""
         if not (host in self.hosts or (self.is_open and HOST.fullmatch(host))):
             return "Host is not the address of this page"
         if origin is None:
@@ -60,31 +60,31 @@ class Access:
         return None if origin in self.origins(host) else "Origin is another page"
 
     def origins(self, host: str) -> List[str]:
-        """The pages that may ask. Behind its own address the page may be passed on by a server that encrypts."""
+        """The allowed origins. If others may open the page, a proxy may serve it over https."""
         return [f"http://{host}", f"https://{host}"] if self.is_open else [f"http://{host}"]
 
     def sockets(self, host: str) -> List[str]:
-        """Where a page may ask for its session."""
+        """Where a page may connect for its session."""
         return [f"ws://{host}", f"wss://{host}"] if self.is_open else [f"ws://{each}" for each in self.hosts]
 
 
 def secret_path() -> str:
-    """What each path begins with, which nobody can guess."""
+    """A prefix of paths that nobody can guess."""
     return f"/{secrets.token_urlsafe(SECRET_BYTES)}/"
 
 
 def for_this_machine(port: int) -> Access:
-    """A page for those on this machine who have its link, at a port, or with port 0 at one that is free. OSError if it is taken."""
+    """A page for users of this machine who have its link. Port 0 takes a free port. Raises OSError if the port is taken."""
     listener = socket.create_server((ADDRESS, port))
     port, prefix = listener.getsockname()[1], secret_path()
     return Access(listener, [f"{name}:{port}" for name in (ADDRESS, "localhost")], prefix, f"http://{ADDRESS}:{port}{prefix}")
 
 
 def for_others(address: Address, host: Optional[str]) -> Access:
-    """A page for those in the network who have its link.
+    """A page for users in the network who have its link.
 
-    address  where it listens; OSError if that cannot be
-    host     this machine's name or address as others see it. Without it, it is found. ClientError if it cannot be
+    address  where it listens. Raises OSError if it cannot
+    host     this machine's name or address as others see it. None: it is looked up. Raises ClientError if it is not found
     """
     family = socket.AF_INET6 if ":" in address.host else socket.AF_INET
     listener = socket.create_server(tuple(address), family=family)
@@ -95,7 +95,7 @@ def for_others(address: Address, host: Optional[str]) -> Access:
 
 
 def notice_silence(listener: socket.socket) -> None:
-    """Has connections end whose other side is gone without a word, as a laptop whose lid was closed."""
+    """Ends connections to machines that are gone without a message, such as a laptop whose lid was closed."""
     listener.setsockopt(socket.SOL_SOCKET, socket.SO_KEEPALIVE, 1)
     for name, number in SILENCE.items():
         if hasattr(socket, name):
@@ -103,7 +103,7 @@ def notice_silence(listener: socket.socket) -> None:
 
 
 def seen_by_others(listener: socket.socket) -> str:
-    """This machine's address as others see it: what is listened on or, if that is any, the one of the way to others."""
+    """This machine's address as others see it: the listener's or, if it listens on all, the one for the route to others."""
     host = str(listener.getsockname()[0])
     if host not in ANY:
         return host

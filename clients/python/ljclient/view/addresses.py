@@ -16,7 +16,7 @@ class Address(NamedTuple):
 
 
 def address_in(word: str) -> Optional[Address]:
-    """The address that a word is, such as `127.0.0.1:4000` or `[::1]:4000`. None if it is not one."""
+    """The address in a word, such as `127.0.0.1:4000` or `[::1]:4000`. None if the word is not an address."""
     host, _, port = word.rpartition(":")
     if not (host and port.isascii() and port.isdecimal() and int(port) < 65536):
         return None

@@ -28,7 +28,7 @@ H = 131072
 HEAT = 1.5
 PAGES_OF_AN_ADDRESS = 8
 MISSING = "cannot serve the page: aiohttp is not installed; use `pip install aiohttp`, or Debian's python3-aiohttp"
-Served = Tuple[Any, Access, Optional[LinkFile]]  # a server with `run`, where its page is, and the file that opens it
+Served = Tuple[Any, Access, Optional[LinkFile]]  # a server with `run`, the access to its page, and the file that opens it
 USAGE = "python3 -m ljclient view [HOST:PORT NAME] [FILE.xyz ..] [OPTION ..]"
 TEXT = """Shows atoms in motion on a page of the browser: play, one step, time turned back, tugs, and what they lead to.
 
@@ -81,7 +81,7 @@ def main(arguments: List[str]) -> int:
 
 
 def server_of(options: argparse.Namespace) -> Served:
-    """What serves the page of this client. Raises ClientError, OSError or ValueError."""
+    """The server of the page of this client. Raises ClientError, OSError or ValueError."""
     server_module = imported_server()
     users, choice = users_of(options), choice_of(options)
     forget_variable()
@@ -92,7 +92,7 @@ def server_of(options: argparse.Namespace) -> Served:
 
 
 def static_server_of(options: argparse.Namespace) -> Served:
-    """What serves the page that has the program itself. Raises ClientError or OSError."""
+    """The server of a page that contains the program. Raises ClientError or OSError."""
     module = imported_server("ljclient.view.static_page")
     files = module.files_of_page(Path(options.page))
     access = access_of(options).without_secret()
@@ -101,7 +101,7 @@ def static_server_of(options: argparse.Namespace) -> Served:
 
 
 def imported_server(name: str = "ljclient.view.server") -> ModuleType:
-    """The module that serves a page. ClientError, which says what to install, if it cannot be had."""
+    """The module that serves a page. Raises ClientError, which says what to install, if aiohttp is missing."""
     try:
         return importlib.import_module(name)
     except ModuleNotFoundError as error:
@@ -111,7 +111,7 @@ def imported_server(name: str = "ljclient.view.server") -> ModuleType:
 
 
 def options_of(arguments: List[str]) -> argparse.Namespace:
-    """The options of the command. It ends with status 2 if they are wrong."""
+    """The options of the command. The process ends with status 2 if they are wrong."""
     reader = reader_of_options()
     options = reader.parse_intermixed_args(arguments)
     options.server = None
@@ -126,7 +126,7 @@ def options_of(arguments: List[str]) -> argparse.Namespace:
 
 
 def reader_of_options() -> argparse.ArgumentParser:
-    """What reads the command line."""
+    """The parser of the command line."""
     form = argparse.RawTextHelpFormatter
     reader = argparse.ArgumentParser("view", USAGE, TEXT, formatter_class=form, allow_abbrev=False)
     reader.add_argument("files", metavar="FILE.xyz", nargs="*", help="atoms as XYZ text, a choice of the page for each file")
@@ -153,7 +153,7 @@ def reader_of_options() -> argparse.ArgumentParser:
 
 
 def fault_of(options: argparse.Namespace) -> Optional[str]:
-    """What is wrong with the options of the command; of several faults the first."""
+    """The first fault of the options of the command, or None."""
     physical, pages = [options.epsilon, options.mass, options.dt], options.pages_of_an_address
     is_argon_said = [options.edge, options.sigma, *physical] != [None] * 5
     faults = {
@@ -182,13 +182,13 @@ def fault_of(options: argparse.Namespace) -> Optional[str]:
 
 
 def is_page_alone(options: argparse.Namespace) -> bool:
-    """Whether there are only options that both kinds of page have."""
+    """Whether only options are used that both kinds of page have."""
     others = "token_file tls ca edge temperature sigma epsilon mass dt h pages_of_an_address program"
     return not options.files and options.server is None and not any(getattr(options, name) for name in others.split())
 
 
 def access_of(options: argparse.Namespace) -> Access:
-    """Who may have the page. Raises OSError or ClientError if it cannot be served there."""
+    """Where and for whom the page is served. Raises OSError or ClientError if it cannot be served there."""
     if options.listen is None:
         return for_this_machine(options.port)
     return for_others(cast(Address, address_in(options.listen)), options.address)
@@ -206,7 +206,7 @@ def users_of(options: argparse.Namespace) -> Users:
 
 
 def choice_of(options: argparse.Namespace) -> Choice:
-    """What pages can show. At a server these are the user's sessions too. Raises ClientError, OSError or ValueError."""
+    """What pages can show: scenes and, at a server, also the user's sessions. Raises ClientError, OSError or ValueError."""
     scenes = scenes_of(options)
     if options.server is None:
         try_all(scenes, functools.partial(run, options.program))
@@ -216,7 +216,7 @@ def choice_of(options: argparse.Namespace) -> Choice:
 
 
 def scenes_of(options: argparse.Namespace) -> List[Scene]:
-    """What the page can show. Raises ValueError or OSError with the name of the file that is wrong."""
+    """The scenes that the page can show. Raises ValueError or OSError with the name of the wrong file."""
     if not options.files:
         return [crystal(said(options.h, H), said(options.temperature, HEAT), options.seed)]
     scenes = []
@@ -229,7 +229,7 @@ def scenes_of(options: argparse.Namespace) -> List[Scene]:
 
 
 def scale_of(options: argparse.Namespace) -> Callable[[float], Scale]:
-    """The scale of a box of this edge: in reduced units with a step factor, else in those of argon."""
+    """A function from an edge to the scale of the box: in reduced units with `--h`, else in the units of argon."""
     if options.h is not None:
         return functools.partial(Scale.of, sigma=said(options.sigma, 1.0), h=options.h)
     argon = units.ARGON
@@ -243,12 +243,12 @@ def scale_of(options: argparse.Namespace) -> Callable[[float], Scale]:
 
 
 def said(number: Optional[Any], usual: Any) -> Any:
-    """A number that was said, or else the usual one."""
+    """A number that was given, or else the default."""
     return usual if number is None else number
 
 
 def try_all(scenes: Sequence[Scene], open_user: Callable[[], User]) -> None:
-    """Loads each scene once, so that what is wrong with it is told before a page is opened. Raises ClientError."""
+    """Loads each scene once, to report its faults before a page is opened. Raises ClientError."""
     with open_user() as user:
         for scene in scenes:
             try:

@@ -1,4 +1,4 @@
-"""The connection of pages: one thread uses the user, so that the loop that serves pages never waits for it."""
+"""The connection of pages: one thread uses the user, so that the event loop that serves pages never waits for the user."""
 from __future__ import annotations
 
 import asyncio
@@ -16,14 +16,14 @@ PATIENCE = 10.0
 
 
 class Connection:
-    """A user's connection, over which one thing is done after the other, in a thread of its own.
+    """A user's connection, which makes one call after the other, in a thread of its own.
 
-    open_user  begins the connection, and may wait
-    patience   how many seconds nobody may ask for anything before the connection is given up. The next one who asks begins
-               another. With None sessions are gone with the connection, so it stays until it is closed
-    whole      what each thing is done within, if something is
+    open_user  opens the connection, and may block
+    patience   after how many seconds without a call the connection is closed. The next call opens another one. None: sessions
+               end with the connection, so it stays open until `close`
+    whole      makes the context manager of each call. The default does nothing
 
-    It is made within a running loop, whose coroutines alone may use it.
+    Create it within a running event loop. Only coroutines of this loop may use it.
     """
 
     def __init__(
@@ -40,29 +40,29 @@ class Connection:
 
     @property
     def is_open(self) -> bool:
-        """Whether the user is in."""
+        """Whether the user is connected."""
         return self._user is not None and not self._user.closed
 
     async def do(self, act: Callable[[User], Told]) -> Told:
-        """What is returned by something that is done with the user. What it raises is raised here."""
+        """The result of a call with the user. What the call raises is raised here."""
         future: "asyncio.Future[Any]" = self._loop.create_future()
         self._acts.put((act, future))
         return cast(Told, await future)
 
     async def close(self) -> None:
-        """Ends the connection when everything before is done."""
+        """Ends the connection after all earlier calls."""
         self._acts.put(None)
         await self._ended
 
     def _work(self) -> None:
-        """Does what is asked for until the end."""
+        """Makes the calls until the end."""
         while (asked := self._next()) is not None:
             self._do(*asked)
         self._leave()
         self._tell(self._ended, None, None)
 
     def _next(self) -> "Optional[Tuple[Act, asyncio.Future[Any]]]":
-        """What is to be done next, or None at the end. If it does not come for long, the connection is given up."""
+        """The next call, or None at the end. If none comes within the patience, the connection is closed."""
         if self._patience is not None and self._user is not None:
             with contextlib.suppress(queue.Empty):
                 return self._acts.get(timeout=self._patience)
@@ -70,7 +70,7 @@ class Connection:
         return self._acts.get()
 
     def _leave(self) -> None:
-        """Takes leave of the server, if the user is in. Who asks meanwhile has to wait for another connection."""
+        """Closes the user, if there is one. Calls that come meanwhile wait for another connection."""
         user, self._user = self._user, None
         if user is not None:
             user.close()
@@ -85,14 +85,14 @@ class Connection:
             self._tell(future, None, error)
 
     def _ready(self) -> User:
-        """The user, over a new connection if there is none, or if sessions outlast the one that has ended."""
+        """The user, over a new connection if there is none, or if it has ended and sessions outlast it."""
         if self._user is None or (self._patience is not None and self._user.closed):
             self._user = None
             self._user = self._open_user()
         return self._user
 
     def _tell(self, future: "asyncio.Future[Any]", told: Any, error: Optional[Exception]) -> None:
-        """Hands something over to the loop. If that has ended, nobody waits for it."""
+        """Passes a result or an error to the event loop, unless the loop has ended."""
         with contextlib.suppress(RuntimeError):
             self._loop.call_soon_threadsafe(_settle, future, told, error)
 

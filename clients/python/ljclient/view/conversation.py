@@ -25,7 +25,7 @@ class Page(Protocol):
 
 
 async def converse(page: Page, connection: Connection, talk: Talk, users: Beside) -> None:
-    """Answers a page until it is gone. If its user cannot be had at all, that is told, and is the end."""
+    """Answers a page until it is gone. If its user cannot be connected, it sends the error and returns."""
     try:
         first = await begun(page, connection, talk, users)
     except ClientError as error:
@@ -39,7 +39,7 @@ async def converse(page: Page, connection: Connection, talk: Talk, users: Beside
 
 
 async def begun(page: Page, connection: Connection, talk: Talk, users: Beside) -> Optional[str]:
-    """What the page is told first. It is asked for the token if there is none yet. None if it is gone meanwhile."""
+    """The first message to the page, after it was asked for a missing or denied token. None if the page is gone meanwhile."""
     while True:
         try:
             return await done(page, connection, users, talk.begin)
@@ -49,7 +49,7 @@ async def begun(page: Page, connection: Connection, talk: Talk, users: Beside) -
 
 
 async def token_is_said(page: Page, users: AtServer, is_denied: bool) -> bool:
-    """Asks a page for the token until it says one. False if it is gone meanwhile."""
+    """Asks a page for the token until it sends one. False if the page is gone meanwhile."""
     account = users.account
     account.token = None
     why: Optional[str] = f"the server has no user {account.name} with this token: type it again" if is_denied else ""
@@ -62,7 +62,7 @@ async def token_is_said(page: Page, users: AtServer, is_denied: bool) -> bool:
 
 
 def token_in(message: str) -> Any:
-    """The token that a message says, or None."""
+    """The token in a message, or None."""
     try:
         wish = json.loads(message)
     except (ValueError, RecursionError):
@@ -71,7 +71,7 @@ def token_in(message: str) -> Any:
 
 
 async def answered(page: Page, connection: Connection, users: Beside, act: Callable[[User], str]) -> str:
-    """The answer to a message. That the user cannot be had is one, too."""
+    """The answer to a message. A ClientError becomes an answer, too."""
     try:
         return await done(page, connection, users, act)
     except ClientError as error:
@@ -79,15 +79,15 @@ async def answered(page: Page, connection: Connection, users: Beside, act: Calla
 
 
 async def with_end(told: str, connection: Connection, users: Beside) -> str:
-    """An answer. If it is an error with which the server or the program has ended, it says so."""
+    """An answer. If it is an error and the server or the program has ended, the answer says so."""
     if connection.is_open or "error" not in (answer := json.loads(told)) or (end := await users.end()) is None:
         return told
     return json.dumps({**answer, "error": f"{end} ({answer['error']}).", "ended": True})
 
 
 async def done(page: Page, connection: Connection, users: Beside, act: Callable[[User], str]) -> str:
-    """What is returned by something that is done with the user. If that has to get in first, or others come before, and it takes
-    long, the page is told what it waits for."""
+    """The result of a call with the user. If it takes long because the user is not connected yet, the page gets a message that says
+    what it waits for."""
     task = asyncio.ensure_future(connection.do(act))
     try:
         await tell_waits(page, task, users)
@@ -97,7 +97,7 @@ async def done(page: Page, connection: Connection, users: Beside, act: Callable[
 
 
 async def tell_waits(page: Page, task: "asyncio.Future[str]", users: Beside) -> None:
-    """Tells a page what it waits for until this is done: after a moment, and again if it waits for something else."""
+    """Sends a page what it waits for until the task is done: after a moment, and again if it waits for something else."""
     told: Optional[str] = None
     while not (await asyncio.wait([task], timeout=SECONDS_UNTIL_WORD))[0]:
         if (text := users.waits()) not in (None, told):

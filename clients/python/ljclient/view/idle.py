@@ -8,10 +8,10 @@ SECONDS = 10.0
 
 
 class Impatient:
-    """Makes the protocols of connections, each of which is ended unless a whole request has come within so many seconds.
+    """Makes the protocols of connections, and ends each connection that sends no whole request within `seconds`.
 
-    server   of aiohttp, which makes the protocols. Between two requests it keeps to a limit of its own, `keepalive_timeout`
-    seconds  from the connection's begin on, however many bytes come meanwhile
+    server   the server of aiohttp, which makes the protocols. Between two requests its own limit applies, `keepalive_timeout`
+    seconds  from the beginning of the connection, however many bytes come meanwhile
     """
 
     def __init__(self, server: Any, seconds: float = SECONDS):
@@ -25,7 +25,7 @@ class Impatient:
         return protocol
 
     def keep(self, protocol: Any) -> None:
-        """Has a connection stay, since a whole request has come from it."""
+        """Keeps a connection, since it has sent a whole request."""
         if (timer := self._timers.pop(protocol, None)) is not None:
             timer.cancel()
 

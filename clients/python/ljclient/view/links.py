@@ -1,4 +1,4 @@
-"""Gives the link of the page to a browser by a file, since all accounts of a machine can read the command lines of its processes."""
+"""Passes the link of the page to a browser in a file, since all accounts of a machine can read the command lines of its processes."""
 from __future__ import annotations
 
 import html
@@ -8,7 +8,7 @@ import tempfile
 import webbrowser
 from pathlib import Path
 
-# A browser goes on from here at once, and tells nobody from where it came.
+# It sends a browser to the link at once, without a referrer.
 TEXT = """<!doctype html>
 <html lang="en">
 <meta charset="utf-8">
@@ -21,7 +21,7 @@ TEXT = """<!doctype html>
 
 
 class LinkFile:
-    """A file with a link that only this account can read, in a folder of its own, until it is removed. OSError without room."""
+    """A file with a link, in a folder of its own. Only this account can read it. Raises OSError if there is no room."""
 
     def __init__(self, link: str):
         self._folder = tempfile.mkdtemp(prefix="ljclient-view-")
@@ -30,7 +30,7 @@ class LinkFile:
             file.write(TEXT.format(link=html.escape(link)))
 
     def open(self) -> None:
-        """Opens it in a browser with windows. One that would take over the terminal is left alone."""
+        """Opens the file in a browser with windows. A browser that would take over the terminal is not used."""
         try:
             browser = webbrowser.get()
         except webbrowser.Error:
@@ -39,5 +39,5 @@ class LinkFile:
             browser.open(self.path.as_uri())
 
     def remove(self) -> None:
-        """Removes it, if it is there still."""
+        """Removes the file, if it still exists."""
         shutil.rmtree(self._folder, ignore_errors=True)

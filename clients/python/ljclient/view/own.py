@@ -12,16 +12,16 @@ from ..units import MAX_STEP_FACTOR, RING
 from .stage import Stage
 from .wishes import Answer, Wish
 
-# Sessions that the view has loaded itself.
+# The prefix of sessions loaded by the view.
 PREFIX = "view-"
 FAULT = f"edge and sigma must be numbers, sigma below a fifth of the edge, and h a whole number from 1 to {MAX_STEP_FACTOR}"
 
 
 class Unknown(Exception):
-    """What a session's whole numbers mean is not known.
+    """The scale of a session is not known.
 
-    edge  the edge of its box, as far as its atoms tell it
-    why   what is wrong with what was said, if anything was
+    edge  the edge of its box, to the digits that its atoms show
+    why   what is wrong with the given scale, if one was given
     """
 
     def __init__(self, name: str, edge: str, why: str = ""):
@@ -29,15 +29,15 @@ class Unknown(Exception):
         self.name, self.edge, self.why = name, edge, why
 
     def asks(self) -> Answer:
-        """What a page is asked."""
+        """The question for a page."""
         return {"asks": "scale", "session": self.name, "edge": self.edge, "why": self.why}
 
 
 class OwnSessions:
     """The sessions of a user, each with the pages that show it.
 
-    edge      of the boxes, if the command line says it
-    scale_of  the scale of a box of this edge, if the command line says what it needs
+    edge      the edge of the boxes, if the command line gives it
+    scale_of  makes the scale of a box from its edge, if the command line gives a scale
     """
 
     def __init__(self, edge: Optional[float], scale_of: Optional[Callable[[float], Scale]]):
@@ -46,15 +46,15 @@ class OwnSessions:
         self._numbers = itertools.count(1)
         self._stages: Dict[str, Stage] = {}
         self._watched: Dict[str, int] = {}
-        self._left: List[Stage] = []  # sessions that no page shows any more, and in which something is saved still
+        self._left: List[Stage] = []  # sessions that no page shows any more, but that still have saved data
 
     def names(self, user: User) -> List[str]:
-        """The sessions that are there, in order of loading."""
+        """The sessions of the user, in order of loading."""
         names = [line.split(" ")[0] for line in user.ask("LIST").lines]
         return [name for name in names if not name.startswith(PREFIX)]
 
     def stage(self, user: User, name: str, wish: Wish) -> Stage:
-        """The session of this name, for a page more. Raises `Unknown` if its scale is not known, or is wrong."""
+        """The session of this name, for one more page. Raises `Unknown` if its scale is not known, or is wrong."""
         if name not in self._stages or self._stages[name].is_lost:
             seen = box.seen_atom(user, name)
             is_exact = seen.fits(RING_EDGE)
@@ -71,7 +71,7 @@ class OwnSessions:
         return self._stages[name]
 
     def leave(self, user: User, name: str) -> None:
-        """Has a page less show a session. With the last one, what was saved for pages is given up, or is to be later."""
+        """Counts one page less for a session. After the last one, what was saved for pages is deleted, now or, if that fails, later."""
         self._watched[name] -= 1
         if self._watched[name] == 0:
             self._left.append(self._stages.pop(name))
@@ -79,18 +79,18 @@ class OwnSessions:
                 self.give_up(user)
 
     def give_up(self, user: User) -> None:
-        """Gives up what was saved for pages that are gone. What is not, since the connection has ended, is to be later."""
+        """Deletes what was saved for pages that are gone. If the connection ends meanwhile, the rest is left for later."""
         while self._left:
             with contextlib.suppress(Refused):
                 self._left[-1].leave(user)
             self._left.pop()
 
     def left(self) -> List[str]:
-        """The sessions in which something is saved that was to be given up."""
+        """The sessions in which saved data is still to be deleted."""
         return [stage.name for stage in self._left]
 
     def _said(self, name: str, edge: str, wish: Wish) -> Scale:
-        """The scale that the page says, or else the command line."""
+        """The scale from the page, or else from the command line."""
         words = [wish.get(word) for word in ("edge", "sigma", "h")]
         try:
             if words != [None] * 3:

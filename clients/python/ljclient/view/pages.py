@@ -7,19 +7,19 @@ from typing import Any, Dict, Iterator, Optional
 
 MAX_PAGES = 8
 MAX_PAGES_OF_A_CLASS = 40
-GOING_AWAY = 1001  # of a WebSocket whose server ends
+GOING_AWAY = 1001  # close code of a WebSocket whose server ends
 GRACE_SECONDS = 2.0
 END_SECONDS = 5.0
 ADVICE = "Close one, and load this page again."
 
 
 def counted(pages: int) -> str:
-    """How many pages are there."""
+    """The number of pages, with its verb."""
     return "1 page is" if pages == 1 else f"{pages} pages are"
 
 
 class Pages:
-    """The WebSockets of the pages that are open now. It is made and used within a running loop.
+    """The WebSockets of the open pages. Create and use it within a running event loop.
 
     most             how many pages there may be at once
     most_of_address  how many of them one address may have
@@ -46,7 +46,7 @@ class Pages:
                 self._none.set()
 
     def refusal(self, address: str) -> Optional[str]:
-        """Why an address may not open a page more, if it may not."""
+        """Why an address may not open one more page, or None."""
         if len(self._open) >= self._most:
             return f"{counted(self._most)} open already, and no more may be. {ADVICE}"
         if list(self._open.values()).count(address) >= self._most_of_address:
@@ -54,7 +54,7 @@ class Pages:
         return None
 
     async def until_gone(self) -> None:
-        """Waits until there were pages and all are gone, for longer than it takes to load one again."""
+        """Waits until pages were opened and all are gone, for longer than a reload takes."""
         while True:
             await self._none.wait()
             begun = self._begun
@@ -63,7 +63,7 @@ class Pages:
                 return
 
     async def close(self) -> None:
-        """Ends the connections of all pages, and waits until their sessions are given up."""
+        """Ends the connections of all pages, and waits until their sessions are released."""
         await asyncio.gather(*(socket.close(code=GOING_AWAY) for socket in self._open), return_exceptions=True)
         if self._open:
             with contextlib.suppress(asyncio.TimeoutError):

@@ -14,11 +14,11 @@ from ..columns import without_columns
 from ..units import MAX_STEP_FACTOR, RING
 from .wishes import Answer, Wish, real_in, shown
 
-# With this edge a ring unit is a millionth, which is the last digit of what DUMP tells: a frame has the places themselves.
+# With this edge a ring unit is a millionth, the last digit of DUMP, so a frame has the places themselves.
 EXACT_EDGE = "4294.967296"
 MILLION = 10**6
 DENSITY = 0.8442
-# Of the crystal along each axis. With fewer the box would not be five sigma wide, and with more there would be too many atoms.
+# Cells of the crystal along each axis. With fewer, the box would not be five sigma wide; with more, there would be too many atoms.
 CELLS, FEWEST_CELLS, MOST_CELLS = 4, 3, 10
 FACES = ((0.0, 0.0, 0.0), (0.5, 0.5, 0.0), (0.5, 0.0, 0.5), (0.0, 0.5, 0.5))
 
@@ -27,12 +27,12 @@ FACES = ((0.0, 0.0, 0.0), (0.5, 0.5, 0.0), (0.5, 0.0, 0.5), (0.0, 0.5, 0.5))
 class Scene:
     """Atoms and how they begin.
 
-    title        what a page calls it
+    title        its title on a page
     body         the atoms as XYZ text
     scale        what whole numbers mean
-    temperature  that of the first velocities: in kelvin if epsilon is known, else in epsilon / k_B. With 0 they are at rest
-    seed         of the random numbers that these velocities are drawn with
-    is_crystal   whether it is the crystal, of which there may be more atoms or fewer
+    temperature  of the first velocities: in kelvin if epsilon is known, else in epsilon / k_B. With 0 the atoms are at rest
+    seed         of the random numbers for these velocities
+    is_crystal   whether it is the crystal, whose number of atoms may be changed
     """
 
     title: str
@@ -44,7 +44,7 @@ class Scene:
 
     @property
     def atoms(self) -> int:
-        """How many atoms there are, as the first word says. 0 if that is no number, and then the program refuses them."""
+        """The number of atoms, from the first word of the body. 0 if that is not a number; the program refuses the body then."""
         words = self.body.split(None, 1)
         return int(words[0]) if words and words[0].isdigit() else 0
 
@@ -54,15 +54,15 @@ class Scene:
         return self.scale.reduced_dt if self.scale.dt is None else self.scale.dt
 
     def settings(self) -> Answer:
-        """What a page can begin it again with, as it is now, and the numbers of atoms of a crystal."""
+        """The present settings, with which a page can begin again, and the numbers of atoms to choose from."""
         sizes = [len(FACES) * cells**3 for cells in range(FEWEST_CELLS, MOST_CELLS + 1)] if self.is_crystal else [self.atoms]
         return {"temperature": self.temperature, "dt": self.dt, "atoms": self.atoms, "sizes": sizes}
 
     def changed(self, wish: Wish) -> "Scene":
-        """The scene with the temperature, the time step and the number of atoms that a wish says, as far as it says them.
+        """The scene with the temperature, the time step and the number of atoms of a wish, as far as it has them.
 
-        ValueError for a temperature below 0 or at which an atom would move by half the box in a step, for a time step of
-        which there is no step factor, and for a number of atoms of which there is no crystal.
+        Raises ValueError for a temperature below 0 or at which an atom would move by half the box in a step, for a time step
+        without a step factor, and for a number of atoms that no crystal has.
         """
         scene = self
         if self.is_crystal and "atoms" in wish and wish["atoms"] != self.atoms:
@@ -80,16 +80,16 @@ class Scene:
         return scene
 
     def displacements(self) -> List[heating.Displacement]:
-        """The first displacement of each atom. An atom alone begins at rest, and so do all without a temperature."""
+        """The first displacement of each atom. Empty, for atoms at rest, if the temperature is 0 or there is only one atom."""
         if not self.temperature or self.atoms < 2:
             return []
         return heating.displacements(self.atoms, self.temperature, self.scale, self.seed)
 
     def begin(self, user: User, name: str) -> Session:
-        """Loads the atoms in place of those that are there, so that each coordinate of DUMP gives a place exactly.
+        """Loads the atoms in place of those in the session, so that each coordinate of DUMP gives a place exactly.
 
-        They are loaded twice: with the scale of the file, which rounds them to places, and then these places as they are.
-        An atom alone begins at rest. ValueError for a temperature at which an atom would move by half the box in a step.
+        They are loaded twice: first with the scale of the file, which rounds them to places, and then at exactly these places.
+        A single atom begins at rest. Raises ValueError for a temperature at which an atom would move by half the box in a step.
         """
         moved, own = self.displacements(), [row[0] for row in xyz.present_atoms(("rest", self.body))] or None
         loaded = user.load(name, self.body, symbols=own, edge=self.scale.edge, sigma=self.scale.sigma, h=self.scale.h, replace=True)
@@ -102,8 +102,10 @@ class Scene:
 
 
 def scale_at(scale: Scale, dt: float) -> Scale:
-    """The scale with the step factor nearest to a time step, in femtoseconds if the scale has epsilon and mass. ValueError if
-    there is none."""
+    """The scale with the step factor nearest to a time step, in femtoseconds if the scale has epsilon and mass.
+
+    Raises ValueError if there is none.
+    """
     unit = 1.0 if scale.dt is None else scale.dt / scale.reduced_dt
     h = round((dt / unit) ** 2 * RING) if 0 < dt < math.inf else 0
     if not 1 <= h <= MAX_STEP_FACTOR:
@@ -124,7 +126,7 @@ def crystal(h: int, temperature: float, seed: int, cells: int = CELLS) -> Scene:
 
 
 def of_file(path: str, edge: Optional[float], scale_of: Callable[[float], Scale], temperature: float, seed: int) -> Scene:
-    """The atoms of an XYZ file. The edge is for a file that says no cubic Lattice. ValueError if nobody says one."""
+    """The atoms of an XYZ file. The edge is for a file without a cubic Lattice. Raises ValueError if both are missing."""
     body = without_columns(xyz.body_of(path))
     try:
         found = xyz.lattice_edge(("rest", body)) or edge

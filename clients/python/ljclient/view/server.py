@@ -1,7 +1,7 @@
-"""Serves the page by aiohttp, and answers each page that is open.
+"""Serves the page with aiohttp, and answers each open page.
 
-A page is open for as long as its WebSocket is. The path of each request has the secret of the link, so no other account of this
-machine can ask for anything. Host and Origin are those of this address: so neither can a page of another site.
+A page is open as long as its WebSocket is. The path of each request contains the secret of the link, so no other account of this
+machine can request anything. Host and Origin must match this address, so neither can pages of other sites.
 """
 from __future__ import annotations
 
@@ -21,7 +21,7 @@ from .pages import END_SECONDS, MAX_PAGES, MAX_PAGES_OF_A_CLASS, Pages
 from .talk import Choice, Talk
 from .users import Users
 
-# A module that may be missing is imported by its name, so that types are the same where it is installed and where not.
+# A module that may be missing is imported by its name, so that types are the same whether it is installed or not.
 web: Any = importlib.import_module("aiohttp.web")
 
 FOLDER = Path(__file__).parent / "page"
@@ -44,10 +44,10 @@ POLICY = "; ".join(
 
 
 class Server:
-    """The page, for those who may ask for it. One that others may have stays until it is ended.
+    """The server of the page. If others may open the page, it runs until it is ended.
 
     pages_of_an_address  how many pages one address may have
-    has_come             is called whenever a browser has come by the link
+    has_come             is called whenever a browser has requested a file of the page
     framed_by            the origin whose pages may show it in a frame, if any may
     """
 
@@ -104,7 +104,7 @@ class Server:
         return told(200, kind, (FOLDER / name).read_bytes(), self._access.sockets(host), self._framed_by)
 
     async def _begun(self, request: Any) -> Any:
-        """Agrees to a WebSocket, and answers the page until it is gone."""
+        """Accepts a WebSocket, and answers the page until it is gone."""
         page = web.WebSocketResponse(max_msg_size=MAX_MESSAGE, compress=False, timeout=FAREWELL_SECONDS)
         if not page.can_prepare(request):
             return said(400, "a session is asked for by a WebSocket")
@@ -118,7 +118,7 @@ class Server:
         return page
 
     async def _play(self, page: Any) -> None:
-        """Answers a page, each message in its turn. One that goes meanwhile is no error."""
+        """Answers the messages of a page in turn. A page that is closed meanwhile is no error."""
         talk = Talk(self._choice, next(self._numbers))
         connection = self._users.enter()
         try:
@@ -129,19 +129,19 @@ class Server:
 
 
 async def refuse(page: Any, why: str) -> None:
-    """Tells a page why it is not answered, and ends it. Of an answer of HTTP in place of this a page is told nothing."""
+    """Sends a page the reason of a refusal, and closes it. A page could not read it in an HTTP response."""
     with contextlib.suppress(ConnectionError):
         await Messages(page).tell(json.dumps({"error": why}))
     await page.close()
 
 
 def said(status: int, text: str) -> Any:
-    """A line of text."""
+    """A response of plain text."""
     return told(status, "text/plain", text.encode(), ())
 
 
 def told(status: int, kind: str, body: bytes, sockets: Sequence[str], framed_by: Optional[str] = None) -> Any:
-    """A file, where it may ask for a session, and the origin whose pages may frame it, if any may."""
+    """A response with a file. It may connect to `sockets`, and pages of `framed_by` may show it in a frame."""
     headers = {
         "Content-Type": f"{kind}; charset=utf-8",
         "Content-Security-Policy": f"{POLICY}; frame-ancestors {framed_by or NONE}; connect-src {' '.join(sockets) or NONE}",
@@ -153,7 +153,7 @@ def told(status: int, kind: str, body: bytes, sockets: Sequence[str], framed_by:
 
 
 class Messages:
-    """The messages of text of a page, until it is gone."""
+    """The text messages of a page, until it is gone."""
 
     def __init__(self, page: Any):
         self._page = page
@@ -163,13 +163,13 @@ class Messages:
         await self._page.send_str(text)
 
     async def heard(self) -> Optional[str]:
-        """The next message, or None if there is none any more."""
+        """The next message, or None if the page is gone."""
         message = await self._page.receive()
         return str(message.data) if message.type is web.WSMsgType.TEXT else None
 
 
 async def first_of(*things: Any) -> None:
-    """Waits for the first of several things, and gives up the others."""
+    """Waits for the first of several awaitables, and cancels the others."""
     tasks = [asyncio.ensure_future(thing) for thing in things]
     try:
         await asyncio.wait(tasks, return_when=asyncio.FIRST_COMPLETED)
@@ -179,8 +179,7 @@ async def first_of(*things: Any) -> None:
 
 
 async def until_signalled() -> None:
-    """Waits for an interrupt from the keyboard, for a request to end, or for the end of the terminal. One that is ignored, as under
-    nohup, stays so."""
+    """Waits for SIGINT, SIGTERM or SIGHUP. A signal that is ignored, as under nohup, stays ignored."""
     signalled = asyncio.Event()
     loop = asyncio.get_running_loop()
     for number in SIGNALS:
@@ -191,7 +190,7 @@ async def until_signalled() -> None:
 
 
 def ignore_signals() -> None:
-    """Ignores further requests to end: one that came while asyncio closes its loop would be written to a file that is closed."""
+    """Ignores further signals: one that came while asyncio closes its loop would be written to a closed file."""
     loop = asyncio.get_running_loop()
     for number in SIGNALS:
         with contextlib.suppress(NotImplementedError):

@@ -1,6 +1,6 @@
-"""One session as pages show it: what they may ask, and what is answered.
+"""One session as pages show it: their requests and the answers.
 
-Each answer has the frame as it then is. Steps are those of the server, and the direction is that in which they count.
+Each answer has the frame as it is then. Steps are the server's, and the direction says whether they count up or down.
 """
 from __future__ import annotations
 
@@ -20,7 +20,7 @@ MAX_TUG = (1 << 31) - 1
 START, KEPT = "view-start", "view-kept"
 NAMES = {START: "start", KEPT: "kept"}
 MILLION = 10**6
-METRES_PER_SECOND = 1e5  # of an angstrom per femtosecond
+METRES_PER_SECOND = 1e5  # in an angstrom per femtosecond
 
 
 class Lost(ClientError):
@@ -35,24 +35,24 @@ class Moment(NamedTuple):
 
 
 class Motion(NamedTuple):
-    """The places of all atoms at a step, and one step before, in ring units. Both are the simulation."""
+    """The places of all atoms at a step, and one step before, in ring units. Together they are the simulation."""
 
     places: List[Any]
     before: List[Any]
 
     def same(self, other: "Motion") -> Tuple[int, int]:
-        """How many atoms have the same places in another one, and how many of these were at the same places one step before."""
+        """How many atoms have the same places in another motion, and how many of these also had the same places one step before."""
         stays = [one == their for one, their in zip(self.places, other.places)]
         return sum(stays), sum(stay and one == their for stay, one, their in zip(stays, self.before, other.before))
 
 
 class Stage:
-    """A session at a user's, as pages show it.
+    """A session of a user, as pages show it.
 
     name      of the session
     scale     what its whole numbers mean
     is_exact  whether DUMP shows its places exactly
-    second    the name that a second run beside it has
+    second    the name of a second run beside it
     is_own    whether somebody else has loaded it
     """
 
@@ -81,16 +81,16 @@ class Stage:
 
     @property
     def is_renumbered(self) -> bool:
-        """Whether somebody else has loaded it in the box in which the client numbers atoms by itself, as by `order="space"`."""
+        """Whether somebody else has loaded it in the box in which the client renumbers atoms, as with `order="space"`."""
         return self._is_own and self._is_exact
 
     def begin(self) -> None:
-        """Finds the session, and saves where pages begin."""
+        """Finds the session, and saves it as the start for pages."""
         self._now = self._found(self._user)
         self.save(START)
 
     def answer(self, user: User, wish: Wish) -> Answer:
-        """The answer to what a page wishes. What cannot be done changes nothing, and raises ClientError or ValueError."""
+        """The answer to a wish of a page. A wish that fails changes nothing, and raises ClientError or ValueError."""
         act = self._acts.get(str(wish.get("do")))
         if act is None:
             raise ValueError(f"do must be one of {', '.join(self._acts)}, got {shown(wish.get('do'))}")
@@ -98,35 +98,35 @@ class Stage:
         return {**act(wish), **jumped}
 
     def shown(self, user: User) -> Answer:
-        """What a page is told first: the present frame, and what the session is like."""
+        """The first answer for a page: the present frame, and the properties of the session."""
         self._take_up(user)
         return {**self.advance(0), "likeness": self._likeness()}
 
     def leave(self, user: User) -> None:
-        """Gives up what was saved for the pages, and the second run. Raises NoSession if the session is gone."""
+        """Deletes what was saved for the pages, and drops the second run. Raises NoSession if the session is gone."""
         self._second.end(user)
         self._user = user
         user.ask_all(f"FORGET {self.name} {name}" for name in self._left())
 
     def advance(self, steps: int) -> Answer:
-        """Goes on by so many steps, in whichever direction time runs."""
+        """Advances by so many steps, in the present direction of time."""
         frame = self._frame(*self._second.goes_on(steps), f"ADVANCE {self.name} {steps}")
         return {**frame, **self._when(self._now.direction)}
 
     def reverse(self) -> Answer:
-        """Turns the motion back, which exchanges the two frames and so goes back by one step."""
+        """Turns the motion back. This exchanges the two frames, and so goes back by one step."""
         frame = self._frame(*self._second.turns(), f"REVERSE {self.name}")
         return {**frame, **self._when(-self._now.direction)}
 
     def tug(self, atom: int, by: Any) -> Answer:
-        """Gives an atom so many ring units more for each step, along x, y and z."""
+        """Adds so many ring units per step to the velocity of an atom, along x, y and z."""
         if not (isinstance(by, list) and len(by) == 3 and all(is_whole(part, -MAX_TUG, MAX_TUG) for part in by)):
             raise ValueError(f"by must be three whole numbers of ring units, up to {MAX_TUG} either way, got {shown(by)}")
         x, y, z = by
         return {**self._frame(f"TUG {self.name} {atom} {x} {y} {z}"), **self._when(self._now.direction)}
 
     def save(self, name: str) -> Answer:
-        """Saves the simulation, in place of what was saved before."""
+        """Saves the simulation, in place of an earlier one of this name."""
         frees = [f"FORGET {self.name} {name}"] if name in self._left() else []
         frame = self._frame(*frees, f"BRANCH {self.name} {name}")
         self._motions[name] = self._motion()
@@ -134,7 +134,7 @@ class Stage:
         return {**frame, **self._when(self._now.direction)}
 
     def restore(self, name: str) -> Answer:
-        """Goes back to what was saved. A second run ends."""
+        """Restores what was saved. A second run ends."""
         if name not in self._saved:
             raise ValueError("cannot restore: nothing is saved yet; use Save first")
         self._second.end(self._user)
@@ -142,8 +142,8 @@ class Stage:
         return {**frame, **self._when(self._saved[name].direction), "jumped": True}
 
     def compare(self) -> Answer:
-        """How many atoms have the very places that they had at the start, and when it was saved; how many of these move as they did
-        then; and whether that is the motion turned back."""
+        """How many atoms have exactly the places of the start, and of the saved simulation; how many of these also move as they did
+        then; and whether the motion was turned back to compare."""
         direction = self._now.direction
         turned = {name: self._saved[name].direction != direction for name in self._motions}
         motions = {is_turned: self._motion(is_turned) for is_turned in set(turned.values())}
@@ -153,14 +153,14 @@ class Stage:
         return {**told, "atoms": len(self._motions[START].places), **self._when(direction)}
 
     def both(self) -> Answer:
-        """The places now and one step before, of which speeds are told. The motion is turned back, which is undone."""
+        """The places now and one step before, for speeds. For this the motion is turned back, and then restored."""
         dump = f"DUMP {self.name}"
         with look(self._user, self.name, 3) as way:
             now, _, before, *_ = self._user.ask_all([dump, f"REVERSE {self.name}", dump, *way.turned, *way.end])
         return {"now": "\n".join(now.lines[2:]), "before": "\n".join(before.lines[2:])}
 
     def begin_second(self) -> Answer:
-        """Begins a second run beside this one, in place of one that is there."""
+        """Begins a second run beside this one, in place of an earlier one."""
         symbols = [line.split(" ")[0] for line in self._user.ask(f"DUMP {self.name}").lines[2:]]
         if self._is_own and len(set(symbols)) > 1:
             raise ValueError("cannot begin a second run: the atoms are of two species, and the server does not tell how these interact")
@@ -168,16 +168,16 @@ class Stage:
         return self.advance(0)
 
     def end_second_of(self, user: User) -> None:
-        """Gives up the second run, since the session itself will be given up."""
+        """Drops the second run, since the session itself will be dropped."""
         self._second.end(user)
 
     def end_second(self) -> Answer:
-        """Gives up the second run."""
+        """Drops the second run."""
         self._second.end(self._user)
         return self.advance(0)
 
     def _motion(self, is_turned: bool = False) -> Motion:
-        """The exact motion, or with `is_turned` the motion turned back, whose previous frame is the next one now."""
+        """The exact motion, or with `is_turned` the motion turned back, whose previous frame is the present next frame."""
         user, name = self._user, self.name
         atoms = None if self._is_exact else user._row(name).atoms
         if is_turned:
@@ -188,7 +188,7 @@ class Stage:
         return Motion(arrays.listed(now.places), arrays.listed(before.places))
 
     def _frame(self, *commands: str) -> Answer:
-        """What these commands lead to: all places and what is measured, asked for at once."""
+        """All places and the measurement after these commands, in one batch of requests."""
         shows = [f"DUMP {self.name}", f"MEASURE {self.name}", *self._second.shown()]
         dumped, measured, *second = self._user.ask_all([*commands, *shows])[len(commands) :]
         step, atoms, x, y, z, kinetic, potential = whole_numbers(measured.words[2:], 7)
@@ -203,15 +203,14 @@ class Stage:
         }
 
     def _when(self, direction: int) -> Answer:
-        """The step and the direction of time, which is this, whether that is before the start, and at which step the simulation was
-        saved."""
+        """The step, this direction of time, whether the step is before the start, and the step of the saved simulation."""
         self._now = self._now._replace(direction=direction)
         start, saved = self._saved[START], self._saved.get(KEPT)
         is_before = (self._now.step - start.step) * start.direction < 0
         return {"step": self._now.step, "direction": direction, "before": is_before, "saved": saved and saved.step}
 
     def _take_up(self, user: User) -> Answer:
-        """Finds the session again over another connection. Meanwhile somebody else may have gone on with it."""
+        """Finds the session again over another connection. Somebody else may have advanced it meanwhile."""
         if user is self._user and not self.is_lost:
             return {}
         self._user = user
@@ -227,7 +226,7 @@ class Stage:
         return {"jumped": True}
 
     def _found(self, user: User) -> Moment:
-        """The step at which the session is, and the direction, for which the motion is turned back, which is undone."""
+        """The step and the direction of the session. For the direction the motion is turned back, and then restored."""
         try:
             with look(user, self.name, 1) as way:
                 turned, back, *_ = user.ask_all([f"REVERSE {self.name}", *way.turned, *way.end])
@@ -237,12 +236,12 @@ class Stage:
         return Moment(now, now - before)
 
     def _left(self) -> List[str]:
-        """Which of the names that pages save under are taken."""
+        """The names of the branches of pages that the session has."""
         lines = self._user.ask(f"LIST {self.name}").lines
         return [line.split(" ")[0] for line in lines if line.split(" ")[0] in NAMES]
 
     def _likeness(self) -> Answer:
-        """What a page must know of the session, to draw it and to tug its atoms."""
+        """What a page must know about the session, to draw it and to tug its atoms."""
         scale = self.scale
         return {
             "start": self._saved[START].step,

@@ -1,6 +1,6 @@
 """Serves the page that contains the program, as `bin/page` makes it: files, and two headers that browsers need to run it.
 
-What a page computes, the browser computes in which it is shown. So a class costs the machine that serves it nothing.
+Each browser computes what it shows. So a class costs the machine that serves it nothing.
 """
 from __future__ import annotations
 
@@ -18,10 +18,10 @@ from .pages import END_SECONDS
 from .server import NONE, TYPES, ignore_signals, said, until_signalled, web
 
 FIRST = "index.html"
-# What each such page has. Others it may have too.
+# The files that each such page has. It may have others too.
 NEEDED = (FIRST, "transport.js", "wasm64.wasm", "wasm32.wasm")
 KINDS = {**{ending: f"{kind}; charset=utf-8" for ending, kind in TYPES.items()}, ".wasm": "application/wasm"}
-# With the first two a browser gives the page memory that its threads share, where WebAssembly has no promises.
+# With the first two, threads of the page can share memory, for browsers whose WebAssembly has no promises.
 HEADERS = {
     "Cross-Origin-Opener-Policy": "same-origin",
     "Cross-Origin-Embedder-Policy": "require-corp",
@@ -44,7 +44,7 @@ class PageFile:
 def files_of_page(folder: Path) -> Dict[str, PageFile]:
     """The files of a page by their paths, each read once.
 
-    Raises ClientError, which says how one is made, if the folder has no such page. OSError if a file cannot be read.
+    Raises ClientError, which says how to make a page, if the folder has none. Raises OSError if a file cannot be read.
     """
     for name in NEEDED:
         if not (folder / name).is_file():
@@ -61,11 +61,11 @@ def _page_file(path: Path) -> PageFile:
 
 
 class StaticServer:
-    """The files of a page, for those who may ask for them, until it is ended.
+    """The server of the files of a page. It runs until it is ended.
 
-    access     where it is
-    files      as of `files_of_page`
-    has_come   is called whenever a browser has come
+    access     where the page is
+    files      from `files_of_page`
+    has_come   is called whenever a browser has requested a file
     framed_by  the origin whose pages may show it in a frame, if any may
     """
 

@@ -19,8 +19,8 @@ from .wishes import Answer, Wish, number_in
 class Choice:
     """What pages can show.
 
-    scenes  that are loaded for a page
-    own     the sessions that the user has at a server, if it is one
+    scenes  the atoms that can be loaded for a page
+    own     the sessions of the user at a server, if there is one
     """
 
     scenes: Sequence[Scene]
@@ -30,7 +30,7 @@ class Choice:
 class Talk:
     """The conversation with a page. It begins with the first of the user's sessions, or else with the first scene.
 
-    number  of the page, which is in the name of the session that is loaded for it
+    number  the number of the page, for the name of the session that is loaded for it
     """
 
     def __init__(self, choice: Choice, number: int):
@@ -41,12 +41,12 @@ class Talk:
         self._has_loaded = False
 
     def begin(self, user: User) -> str:
-        """What the page is told first."""
+        """The first message to the page."""
         names = self._own_names(user)
         return self._answered(user, {"do": "load", "session": names[0]} if names else {"do": "load", "scene": 0})
 
     def answer(self, user: User, message: str) -> str:
-        """The answer to a message. One that cannot be done changes nothing."""
+        """The answer to a message. A request that fails changes nothing."""
         try:
             wish = json.loads(message)
         except (ValueError, RecursionError) as error:
@@ -54,7 +54,7 @@ class Talk:
         return self._answered(user, wish if isinstance(wish, dict) else {})
 
     def end(self, user: User) -> None:
-        """Gives up what was loaded and saved for the page. Where the connection ends meanwhile, it is to be called again."""
+        """Deletes what was loaded and saved for the page. If the connection ends meanwhile, it must be called again."""
         self._leave(user)
         if self._has_loaded:
             with contextlib.suppress(NoSession):
@@ -64,16 +64,16 @@ class Talk:
             self._choice.own.give_up(user)
 
     def lose(self) -> None:
-        """Has the session be found again: somebody else may have gone on with it."""
+        """Makes the next request find the session again: somebody else may have advanced it."""
         if self._stage is not None:
             self._stage.is_lost = True
 
     def typed(self, user: User, commands: Any) -> List[List[str]]:
-        """The lines of the replies to commands that were typed."""
+        """The lines of the replies to typed commands."""
         return typed(commands, lambda line, body: replied(user, line, body.encode()))
 
     def left(self) -> List[str]:
-        """What there may be at the server still of what was to be given up, in words."""
+        """What was to be deleted but may still be at the server, in words."""
         sessions = [self._shared] if self._shared else []
         sessions += [] if self._choice.own is None else self._choice.own.left()
         loaded = [f"the session {self._loaded}"] if self._has_loaded else []
@@ -97,7 +97,7 @@ class Talk:
             return json.dumps({"error": str(error)})
 
     def _load(self, user: User, wish: Wish) -> Answer:
-        """Begins with other atoms. The answer says what they are like, beside their first frame."""
+        """Switches to other atoms. The answer has their properties and their first frame."""
         session = wish.get("session")
         if session is None:
             number = number_in(wish, "scene", 0, len(self._choice.scenes) - 1)
@@ -127,7 +127,7 @@ class Talk:
         return stage
 
     def _leave(self, user: User) -> None:
-        """Has the page show no atoms any more."""
+        """Stops showing atoms on the page."""
         stage, shared = self._stage, self._shared
         if stage is not None and not shared:
             stage.end_second_of(user)
@@ -139,5 +139,5 @@ class Talk:
         return [] if self._choice.own is None else self._choice.own.names(user)
 
     def _choices(self, user: User) -> Answer:
-        """What else there is to choose."""
+        """The scenes and sessions to choose from."""
         return {"titles": [scene.title for scene in self._choice.scenes], "sessions": self._own_names(user)}

@@ -1,4 +1,4 @@
-"""Commands that are typed into a page, and what they are replied, as the program says it."""
+"""Commands that are typed into a page, and the program's replies to them."""
 from __future__ import annotations
 
 from typing import Any, Callable, List, Optional
@@ -13,7 +13,7 @@ MAX_COMMANDS = 1000
 
 
 def typed(commands: Any, replied: Callable[[str, str], List[str]]) -> List[List[str]]:
-    """The lines of the replies to commands, each a line and its body; of one that is not sent, why. ValueError if they are no commands."""
+    """The lines of the reply to each command (a line and its body), or why it was not sent. Raises ValueError for other values."""
     if not (isinstance(commands, list) and len(commands) <= MAX_COMMANDS and all(is_command(each) for each in commands)):
         raise ValueError(f"commands must be at most {MAX_COMMANDS} lines, each with the text of its body")
     return [replied(line, body) for line, body in commands]
@@ -25,7 +25,7 @@ def is_command(command: Any) -> bool:
 
 
 def replied(user: User, line: str, body: bytes) -> List[str]:
-    """The lines of the reply to a command, or why it was not sent. ClientError if there is none."""
+    """The lines of the reply to a command, or why it was not sent. Raises ClientError if there is no reply."""
     if (fault := fault_of(line, body)) is not None:
         return [fault]
     try:
@@ -36,7 +36,7 @@ def replied(user: User, line: str, body: bytes) -> List[str]:
 
 
 def fault_of(line: str, body: bytes) -> Optional[str]:
-    """Why a command is not sent: the connection would end, or the rest of a body be waited for."""
+    """Why a command is not sent: it would end the connection, or the server would wait for the rest of a body."""
     words = line.replace("\t", " ").split(" ")
     words = [word for word in words if word]
     if len(line.encode()) > MAX_LINE or not line.isascii():

@@ -1,4 +1,4 @@
-"""Whose sessions pages show: of a program for each page, or of one user at a server for all pages."""
+"""Whose sessions pages show: those of a program for each page, or of one user at a server for all pages."""
 from __future__ import annotations
 
 import asyncio
@@ -29,30 +29,30 @@ class NoToken(ClientError):
 
 
 class Beside(Protocol):
-    """What is known beside the connection of a page."""
+    """What is known besides the connection of a page."""
 
     def waits(self) -> Optional[str]:
-        """What a page is told for which nothing was heard for a while, if there is anything."""
+        """What a page waits for that has had no answer for a while, or None."""
 
     async def end(self) -> Optional[str]:
-        """What has ended together with the connection, so that no button of a page can do anything any more, if it has."""
+        """What has ended together with the connection, so that no button of a page works any more, or None."""
 
 
 class Users(Beside, Protocol):
     """Where the sessions of pages are."""
 
     def enter(self) -> Connection:
-        """The connection of a page more."""
+        """The connection for one more page."""
 
     async def leave(self, connection: Connection, talk: Talk) -> None:
-        """Has a page be gone."""
+        """Releases a page that is gone."""
 
     async def close(self) -> None:
-        """Has all pages be gone."""
+        """Releases all pages."""
 
 
 class Programs:
-    """Each page has a program of its own, with which its sessions are gone."""
+    """Each page has a program of its own. Its sessions end with the program."""
 
     def __init__(self, open_user: OpenUser):
         self._open_user = open_user
@@ -64,7 +64,7 @@ class Programs:
         await connection.close()
 
     async def close(self) -> None:
-        """Nothing is left to be closed."""
+        """Nothing is left to close."""
 
     def waits(self) -> Optional[str]:
         return None
@@ -80,8 +80,8 @@ class Account:
     address     where the server listens
     name        of the user
     token       if it is known
-    tls, ca     as `ljclient.connect` takes them, and so is `fingerprint`
-    is_reached  whether the server was reached, over TLS if that was said, and has not let the user in yet
+    tls, ca     as in `ljclient.connect`, and so is `fingerprint`
+    is_reached  whether the server was reached, over TLS if requested, and has not let the user in yet
     """
 
     address: Address
@@ -93,7 +93,7 @@ class Account:
     is_reached: bool = False
 
     def open(self, seconds: float = SECONDS) -> User:
-        """The user's connection. It waits for so long if another one is open."""
+        """The user's connection. It waits for up to `seconds` if another one is open."""
         if self.token is None:
             raise NoToken(f"cannot connect: the token of {self.name} is missing; use --token-file FILE, or type it into the page")
         try:
@@ -102,13 +102,13 @@ class Account:
             self.is_reached = False
 
     def _transport(self) -> Transport:
-        """A connection to the server. Raises ClientError, which says what to do, if there is none or it is not trusted."""
+        """A connection to the server. Raises ClientError, which says what to do, if there is no server or it is not trusted."""
         transport = transport_opener(self.tls, self.ca, self.fingerprint)(*self.address, SECONDS_OF_A_CONNECTION)
         self.is_reached = True
         return transport
 
     def is_served(self) -> bool:
-        """Whether it is not certain that no server listens at the address any more."""
+        """Whether a server may still listen there: False only if the connection is refused."""
         try:
             socket.create_connection((self.address.host, self.address.port), SECONDS_OF_A_TRY).close()
         except OSError as error:
@@ -116,19 +116,18 @@ class Account:
         return True
 
     def take(self, token: object) -> Optional[str]:
-        """Takes a token that was typed. Returns what is wrong with it, if it is not one."""
+        """Takes a typed token. Returns what is wrong with it, or None."""
         typed = without_blanks(token) if isinstance(token, str) else ""
         if (fault := fault_of(typed)) is None:
             self.token = typed
         return fault
 
     def asks(self, why: str) -> Answer:
-        """What a page is asked if the token is not known, or has another form."""
+        """The question for a page if the token is not known, or has the wrong form."""
         return {"asks": "token", "name": self.name, "why": why}
 
     def check(self) -> None:
-        """Raises ClientError if there is no server that is trusted, or if it denies the token. That another connection is open
-        is no fault."""
+        """Raises ClientError if there is no trusted server, or if it denies the token. Another open connection is not an error."""
         if self.token is None:
             self._transport().close()
             return
@@ -137,7 +136,7 @@ class Account:
 
 
 class AtServer:
-    """All pages share one connection of a user, which is given up if none of them has asked for anything for a while."""
+    """All pages share one connection of a user, which is closed if no page has requested anything for a while."""
 
     def __init__(self, account: Account):
         self.account = account
@@ -153,7 +152,7 @@ class AtServer:
         return self._connection
 
     async def leave(self, connection: Connection, talk: Talk) -> None:
-        """Has what was loaded and saved for the page be given up: at once if the user is in, or else as soon as the user gets in."""
+        """Deletes what was loaded and saved for the page: at once if the user is connected, else as soon as the user is."""
         self._pages -= 1
         self._gone.append(talk)
         if connection.is_open:
@@ -164,7 +163,7 @@ class AtServer:
             task.add_done_callback(self._tasks.discard)
 
     async def close(self) -> None:
-        """Gives up what pages have left at the server, if the user gets in soon, and takes leave. What is left there is told."""
+        """Deletes what pages have left at the server, if the user is connected soon, and disconnects. Prints what remains there."""
         if self._connection is None:
             return
         if self._gone and self.account.token is not None:
@@ -198,24 +197,24 @@ class AtServer:
         return user
 
     async def _give_up_over(self, connection: Connection) -> None:
-        """Gives up what pages that are gone have left, when the user gets in, if that can be."""
+        """Deletes what closed pages have left, once the user is connected, if that is possible."""
         with contextlib.suppress(ClientError):
             await connection.do(self._give_up)
 
     async def _give_up_later(self, connection: Connection) -> None:
-        """The same. If there is no page any more then, the user takes leave at once."""
+        """The same. If no page is left then, the user disconnects at once."""
         await self._give_up_over(connection)
         if connection.is_open and not self._pages:
             await connection.do(User.close)
 
     def _give_up(self, user: User) -> None:
-        """Gives up what pages that are gone have left. Where the connection ends meanwhile, the next one goes on with it."""
+        """Deletes what closed pages have left. If the connection ends meanwhile, the next one deletes the rest."""
         for talk in list(self._gone):
             talk.end(user)
             self._gone.remove(talk)
 
 
 async def within(seconds: float, act: Awaitable[None]) -> None:
-    """Waits for something, but not for longer than this."""
+    """Waits for something, but for at most so many seconds."""
     with contextlib.suppress(asyncio.TimeoutError):
         await asyncio.wait_for(act, seconds)

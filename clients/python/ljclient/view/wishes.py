@@ -11,7 +11,7 @@ Wish = Dict[str, Any]
 
 
 def shown(value: Any) -> str:
-    """What a page has asked, as JSON, cut if it is long: the page with the program in it shows the same."""
+    """A value from a page, as JSON, cut if it is long. The page that contains the program shows the same."""
     text = json.dumps(value, separators=(",", ":"), ensure_ascii=False)
     return text if len(text) <= MAX_SHOWN else text[: MAX_SHOWN - 2] + ".."
 
@@ -22,7 +22,7 @@ def is_whole(number: Any, least: int, most: int) -> bool:
 
 
 def number_in(wish: Wish, word: str, least: int, most: int) -> int:
-    """The number that a wish has under a word. ValueError unless it is a whole number of the range."""
+    """The number that a wish has under a word. Raises ValueError unless it is a whole number in the range."""
     number: Optional[Any] = wish.get(word)
     if not is_whole(number, least, most):
         raise ValueError(f"{word} must be a whole number from {least} to {most}, got {shown(number)}")
@@ -30,7 +30,7 @@ def number_in(wish: Wish, word: str, least: int, most: int) -> int:
 
 
 def real_in(wish: Wish, word: str) -> float:
-    """The number, from 0 on, that a wish has under a word. ValueError if it is another value."""
+    """The number, from 0 on, that a wish has under a word. Raises ValueError for any other value."""
     number: Optional[Any] = wish.get(word)
     if isinstance(number, bool) or not isinstance(number, (int, float)) or not 0 <= number < 1e12:
         raise ValueError(f"{word} must be a number from 0 on, got {shown(number)}")
