@@ -8,12 +8,12 @@ from typing import Iterable, List, Sequence, Tuple, TypeVar
 RING = 2**32
 T = TypeVar("T")
 Rows = Sequence[Sequence[float]]
-# The kinetic and the potential one.
+# Kinetic and potential energy.
 Energies = Tuple[float, ...]
 
 
 def image(a: float, b: float) -> float:
-    """The least image of a difference of two coordinates on the ring."""
+    """The minimum-image difference of two coordinates on the ring."""
     return (a - b + RING // 2) % RING - RING // 2
 
 
@@ -37,7 +37,7 @@ def table(heads: Sequence[str], rows: Iterable[Sequence[str]]) -> None:
 
 
 def error(forces: Rows, others: Rows) -> Tuple[float, float, float]:
-    """Root mean square and largest size of the difference of forces, in the root mean square of the second ones."""
+    """The rms and the largest difference of forces, in units of the rms of the second forces, and this rms."""
     sizes = [math.dist(a, b) for a, b in zip(forces, others)]
     size = root_mean_square(math.hypot(*b) for b in others)
     return root_mean_square(sizes) / size, max(sizes) / size, size
@@ -48,7 +48,7 @@ def percent(x: float) -> str:
 
 
 def trend(energies: Sequence[Energies], count: int) -> Tuple[float, float, float, float]:
-    """Change of the energy per atom over the run by a line of least squares, the spread about it, first and last temperature."""
+    """Energy change per atom over the run by a least-squares line, spread about it, and temperatures of the first and last tenth."""
     totals = [(kinetic + potential) / count for kinetic, potential in energies]
     middle, mean = (len(totals) - 1) / 2, statistics.fmean(totals)
     slope = sum((at - middle) * total for at, total in enumerate(totals)) / sum((at - middle) ** 2 for at in range(len(totals)))

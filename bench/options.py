@@ -8,7 +8,7 @@ from typing import Any, List, NoReturn, Sequence, Tuple
 
 
 def path_of(program: str) -> str:
-    """The whole path of a program, which may be one on the PATH."""
+    """The absolute path of a program, which may be on the PATH."""
     found = shutil.which(program)
     if found is None:
         raise argparse.ArgumentTypeError(f"must be a program, got {program}")
@@ -16,7 +16,7 @@ def path_of(program: str) -> str:
 
 
 class Parser(argparse.ArgumentParser):
-    """The words of a script, whose help is the text at its head: what it measures, after `usage: ` its words, and what they mean."""
+    """A parser whose help is the docstring of a script: what it measures, its arguments after `usage: `, and what they mean."""
 
     def __init__(self, about: str = "", **words: Any) -> None:
         measured, _, rest = about.strip().partition("usage: ")
@@ -26,18 +26,18 @@ class Parser(argparse.ArgumentParser):
         super().__init__(description=measured.strip(), epilog=more, allow_abbrev=False, **words)
 
     def add_program(self, name: str = "program") -> None:
-        """The path of a built program."""
+        """An argument: the path of a built program."""
         self.add_argument(name, type=path_of, help="the built program")
 
     def add_beside(self) -> None:
-        """The path of another program, which is measured in the same rounds."""
+        """An option: another program, measured in the same rounds."""
         self.add_argument("--beside", metavar="OLD", type=path_of, help="another built program, measured in the same rounds")
 
     def error(self, message: str) -> NoReturn:
         self.exit(2, f"{self.prog}: {message}\n")
 
     def parse_program(self, words: Sequence[str]) -> Tuple[List[str], argparse.Namespace]:
-        """The words of a program, which stand before `--`, and what those after it say."""
+        """The words of a program, given before `--`, and the parsed options after it."""
         parts = list(words)
         if "--" not in parts:
             if not {"-h", "--help"}.isdisjoint(parts):

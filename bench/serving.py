@@ -28,7 +28,7 @@ Of = TypeVar("Of")
 
 
 class Talk(NamedTuple):
-    """A conversation by lines: `send` takes bytes, and `lines` gives what is replied."""
+    """A conversation by lines: `send` takes bytes, and `lines` has the replies."""
 
     send: Callable[[bytes], object]
     lines: BinaryIO
@@ -57,7 +57,7 @@ def run_alone(program: str) -> Tuple[Child, Talk]:
 
 
 def serve(program: str, kind: str, workers: int, users: int = 1) -> Tuple[Child, List[socket.socket]]:
-    """A server of so many users over a kind of pool, and a connection to it as each of them."""
+    """A server with this number of users and kind of pool, and a connection for each user."""
     lines = b"".join(user_line(f"user{number}", TOKEN, USUAL) for number in range(users))
     child, port = begun(program, lines, options_of(workers, users, kind))
     streams = [connected(port, SECONDS) for _ in range(users)]
@@ -67,13 +67,13 @@ def serve(program: str, kind: str, workers: int, users: int = 1) -> Tuple[Child,
 
 
 def crowd_of(program: str, kind: str, users: int, atoms: int, workers: int = WORKERS) -> Tuple[Child, List[Talk]]:
-    """A server, and its users, each with a session of so many atoms."""
+    """A server and its users, each with a session of `atoms` atoms."""
     child, streams = serve(program, kind, workers, users)
     return child, [loaded(talk_to(stream), atoms) for stream in streams]
 
 
 def sessions_of(program: str, kind: str, atoms: int, workers: int = WORKERS) -> Tuple[Child, List[Talk]]:
-    """A server, and its one user with several sessions of so many atoms."""
+    """A server and its user, who has several sessions of `atoms` atoms."""
     child, (stream,) = serve(program, kind, workers)
     talk = talk_to(stream)
     for name in SESSIONS:
@@ -118,58 +118,58 @@ def start_sessions(talks: Sequence[Talk], steps: int, step: int) -> None:
 
 
 def spent(path: str) -> float:
-    """How long a thread has computed, in seconds, by its file `schedstat`, which counts nanoseconds."""
+    """The processor time of a thread in seconds, from its file `schedstat`, which counts nanoseconds."""
     with open(f"{path}/schedstat", encoding="utf-8") as file:
         return int(file.read().split()[0]) / 1e9
 
 
 def processor_seconds(child: Child) -> float:
-    """How long the threads of a program have computed, those too that have ended, by its file `stat`."""
+    """The processor time in seconds of a program's threads, ended ones included, from its file `stat`."""
     with open(f"/proc/{child.pid}/stat", encoding="utf-8") as file:
         words = file.read().rpartition(")")[2].split()
     return (int(words[11]) + int(words[12])) / os.sysconf("SC_CLK_TCK")
 
 
 class Use(NamedTuple):
-    """What a thread has used: processor time in seconds, and how often it gave its processor away."""
+    """The processor time of a thread in seconds, and how often it gave up its processor."""
 
     seconds: float
     switches: float
 
 
 def threads_of(child: Child) -> List[str]:
-    """The folders of /proc of a program's threads, in the order in which they began."""
+    """The /proc folders of a program's threads, in the order in which they started."""
     folder = f"/proc/{child.pid}/task"
     return sorted((f"{folder}/{thread}" for thread in os.listdir(folder)), key=beginning_of)
 
 
 def beginning_of(thread: str) -> Tuple[int, int]:
-    """When a thread began, in clock ticks, and its number, by which those of one tick follow one another."""
+    """When a thread started, in clock ticks, and its number, which orders threads of the same tick."""
     with open(f"{thread}/stat", encoding="utf-8") as file:
         return int(file.read().rpartition(")")[2].split()[19]), int(os.path.basename(thread))
 
 
 def by_kind(threads: Sequence[Of], connections: int) -> Dict[str, Sequence[Of]]:
-    """What is told of each thread of a server with so many connections, by kinds: its own thread begins first, then its workers'."""
+    """Values of each thread of a server, by kind: the program's own thread starts first, then workers, then connections."""
     last = max(1, len(threads) - connections)
     return {"program": threads[:1], "workers": threads[1:last], "connections": threads[last:]}
 
 
 def uses(child: Child) -> List[Use]:
-    """What each thread of a program has used, in the order in which they began."""
+    """The `Use` of each thread of a program, in the order in which they started."""
     return [Use(spent(thread), status_of(thread, "voluntary_ctxt_switches")) for thread in threads_of(child)]
 
 
 class Calls(NamedTuple):
-    """How often a thread asked the system by futex to hold it up, and to wake others."""
+    """How often a thread called futex to wait (holds), and to wake others."""
 
     holds: float
     wakes: float
 
 
 def calls_of(child: Child, work: Callable[[], object]) -> Optional[List[Calls]]:
-    """The calls of each thread of a program while something is done, in the order in which they began, as strace tells them. None
-    if it is not on the PATH, or cannot follow the program."""
+    """The calls of each thread of a program during `work`, by strace, in the order in which the threads started. None if strace is
+    not on the PATH, or cannot follow the program."""
     if shutil.which("strace") is None:
         return None
     threads = threads_of(child)
@@ -186,6 +186,6 @@ def calls_of(child: Child, work: Callable[[], object]) -> Optional[List[Calls]]:
 
 
 def calls_in(told: str) -> Dict[int, Calls]:
-    """The calls of each thread, by its number, in what strace has told."""
+    """The calls of each thread, by its number, in the output of strace."""
     counts = Counter(re.findall(r"^(\d+) +futex\(\w+, FUTEX_(WAIT|WAKE)", told, re.M))
     return {int(thread): Calls(counts[thread, "WAIT"], counts[thread, "WAKE"]) for thread, _ in counts}

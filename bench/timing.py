@@ -1,8 +1,8 @@
-"""Best-of-n timing: rounds in turn, the best of each, the results as JSON beside the printed table, and streams to time.
+"""Best-of-n timing: rounds in turn, the best of each way, results as JSON besides the printed table, and streams to time.
 
-A figure that is told is the best of some rounds, in each of which all ways run once. `--json FILE` keeps each with the rounds that it
-is the best of, the command, the program with the hashes of its sources (bin/measured.py), and the machine: its processor and cores, the
-load before and after, and what the host took away.
+A reported figure is the best of some rounds; in each round all ways run once. `--json FILE` stores each figure with its rounds, the
+command, the program with the hashes of its sources (bin/measured.py), and the machine: its processor and cores, the load before and
+after, and the time that the host took away.
 """
 from __future__ import annotations
 
@@ -29,14 +29,14 @@ Value = TypeVar("Value")
 
 
 class Run(NamedTuple):
-    """What a program printed, and its time in seconds."""
+    """The output of a program, and its time in seconds."""
 
     replies: bytes
     seconds: float
 
 
 def of_a_user(program: str, folder: str) -> Dict[str, str]:
-    """The environment in which a user begins the client: it finds the client and the program, and keeps compiled modules in a folder."""
+    """The environment of a user who starts the client, with the paths of client and program and a folder for compiled modules."""
     kept = {name: value for name, value in os.environ.items() if name != "PYTHONDONTWRITEBYTECODE"}
     path = os.path.join(TOP, "clients", "python")
     own = {"LJSERVE": program, "PYTHONPATH": path, "PYTHONPYCACHEPREFIX": folder, "LJCLIENT_HISTORY": os.path.join(folder, "typed")}
@@ -44,7 +44,7 @@ def of_a_user(program: str, folder: str) -> Dict[str, str]:
 
 
 class Host(NamedTuple):
-    """What all processors have spent, in clock ticks, and what of it the host took away."""
+    """The clock ticks of all processors so far, and those that the host took away."""
 
     ticks: int
     stolen: int
@@ -56,31 +56,31 @@ class Host(NamedTuple):
         return cls(sum(ticks), ticks[7])
 
     def stolen_since(self) -> float:
-        """What part of all time the host has taken away since."""
+        """The part of all time since then that the host took away."""
         now = Host.now()
         return (now.stolen - self.stolen) / max(now.ticks - self.ticks, 1)
 
 
 def add_words(parser: argparse.ArgumentParser, rounds: int) -> None:
-    """The options of a measurement that has so many rounds by default."""
+    """The options of a measurement, with this default number of rounds."""
     parser.add_argument("--rounds", metavar="N", type=at_least_one, default=rounds, help=f"number of rounds (default: {rounds})")
     add_file(parser)
 
 
 def add_file(parser: argparse.ArgumentParser) -> None:
-    """The option of a measurement that keeps its figures."""
+    """The option of a measurement that stores its figures."""
     parser.add_argument("--json", metavar="FILE", help="a file for the figures, with the command and the machine")
 
 
 def at_least_one(word: str) -> int:
-    """The number that a word says."""
+    """The number in a word."""
     if not word.isdecimal() or int(word) < 1:
         raise argparse.ArgumentTypeError(f"must be a whole number from 1 on, got {word}")
     return int(word)
 
 
 def in_turn(ways: Mapping[Name, Callable[[], Value]], rounds: int, to_and_fro: bool = False) -> Dict[Name, List[Value]]:
-    """What each way gives, round by round. In a round each runs once, to and fro in every second one the other way round."""
+    """The results of each way, by round. Each round runs each way once; with `to_and_fro` every second round runs in reverse."""
     given: Dict[Name, List[Value]] = {name: [] for name in ways}
     for number in range(rounds):
         for name in list(ways)[:: -1 if to_and_fro and number % 2 else 1]:
@@ -89,7 +89,7 @@ def in_turn(ways: Mapping[Name, Callable[[], Value]], rounds: int, to_and_fro: b
 
 
 class Findings:
-    """Figures of a program, and the machine that they were measured on from here on."""
+    """Figures of a program, and the state of the machine from construction on."""
 
     def __init__(self, program: str) -> None:
         self.program = what_is_measured(program, os.path.relpath(os.path.realpath(sys.argv[0]), TOP))
@@ -98,11 +98,11 @@ class Findings:
         self.figures: List[Dict[str, Any]] = []
 
     def add(self, name: str, unit: str, value: float, rounds: Sequence[float] = ()) -> None:
-        """Keeps a figure, with what its rounds gave in the same unit, if it is the best of some."""
+        """Adds a figure, and the values of its rounds in the same unit if it is the best of some."""
         self.figures.append({"name": name, "unit": unit, "value": value, **({"rounds": list(rounds)} if rounds else {})})
 
     def add_best(self, name: str, unit: str, rounds: Sequence[float]) -> float:
-        """Keeps the least of some rounds, and returns it."""
+        """Adds the least of some rounds, and returns it."""
         self.add(name, unit, min(rounds), rounds)
         return min(rounds)
 
@@ -124,7 +124,7 @@ class Findings:
         )
 
     def write(self, path: Optional[str]) -> None:
-        """Writes all as JSON, where a file is named for it."""
+        """Writes everything as JSON, if a file is named."""
         if path is not None:
             told = {"command": shlex.join(sys.argv), "began": self.began, "program": self.program, "machine": self.machine()}
             with open(path, "w", encoding="utf-8") as file:
@@ -138,19 +138,19 @@ def cores() -> int:
 
 
 def processor() -> str:
-    """What the machine calls its processor."""
+    """The name of the machine's processor."""
     with open("/proc/cpuinfo", encoding="utf-8") as file:
         found = re.search(r"^model name\s*: (.*)$", file.read(), re.M)
     return found[1] if found else platform.processor() or platform.machine()
 
 
 def stream(atoms: int | str, steps: int | str, words: Sequence[str] = ()) -> bytes:
-    """A LOAD or LOADMIX of a liquid named a, so many steps, and some of its atoms."""
+    """LOAD or LOADMIX of a liquid named a, ADVANCE by `steps`, and SHOW of some atoms."""
     return liquid_stream(atoms, "--name", "a", "--steps", str(steps), *words)
 
 
 def twin(name: str, folder: str) -> List[str]:
-    """The plain C twin of this name, which is built in a folder."""
+    """The plain C twin of this name, built in a folder."""
     path = os.path.join(folder, name)
     subprocess.run(["cc", "-O3", "-march=native", "-o", path, os.path.join(TOP, "bench", f"{name}.c")], check=True)
     return [path]
@@ -168,7 +168,7 @@ def clocked(command: Sequence[str], data: bytes) -> Run:
 
 
 def run(command: List[str], data: bytes) -> Run:
-    """One run of a program over a stream, by processor time, the system's for it included: their sum alone is exact."""
+    """One run of a program over a stream, by processor time, user plus system: only their sum is exact."""
     before = seconds_of_children()
     replies = replies_of(command, data)
     return Run(replies, seconds_of_children() - before)

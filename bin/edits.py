@@ -1,9 +1,9 @@
-"""Tries the must-fail edits of a crate in less time: by the functions that they name, and several in one check.
+"""Tries the must-fail edits of a crate faster: checks only the functions that they name, and several edits at a time.
 
-The kit checks a whole crate for each edit. An edit names the functions by whose clauses it is refused, in lines `only: PATH`. Edits that
-change the bodies of different functions, and nothing else, are tried in one check: a proof reads the contracts of other functions and
-never their bodies, so each is refused by its own function alone. What is not refused so is tried by itself, and what is not refused by
-the check of the functions that it names is tried by the kit from nothing.
+The kit checks a whole crate for each edit. Lines `only: PATH` of an edit name the functions whose clauses refuse it. Edits that change
+only the bodies of different functions are tried in one check: a proof reads the contracts of other functions and never their bodies,
+so each edit is refused by its own function alone. An edit that is not refused there is tried by itself. If the check of the functions
+that it names does not refuse it either, the kit tries it from nothing.
 """
 
 import re
@@ -16,9 +16,9 @@ from typing import Any, Dict, Iterable, List, Sequence, Set, Tuple
 
 from sources import functions_of
 
-FEW = 4  # edits that are left are each tried from nothing, since to share something would cost them two checks more
+FEW = 4  # if only so many edits are left, each is tried from nothing, since shared work would cost two more checks
 PARTS = ("src", "specs", "proofs")  # the folders of a crate that a check reads
-FOLLOWS = re.compile(r"was not admitted|which (was|were) rejected")  # what is said where something else is refused
+FOLLOWS = re.compile(r"was not admitted|which (was|were) rejected")  # in errors that follow from another refusal
 
 
 def named(edit: str) -> Set[str]:
@@ -27,14 +27,14 @@ def named(edit: str) -> Set[str]:
 
 
 def only(edits: Iterable[str]) -> List[str]:
-    """The words of a check that takes the functions alone that some edits name; none where one names none."""
+    """The options that limit a check to the functions that some edits name; empty if an edit names no function."""
     each = [named(edit) for edit in edits]
     paths: Set[str] = set().union(*each) if all(each) else set()
     return [word for path in sorted(paths) for word in ("--only", path)]
 
 
 def judged(ran: Any) -> Any:
-    """A check that has ended. One of some functions, of which one is not proved, ends with the kit's line for that."""
+    """An ended check. If it was limited to some functions and one is not proved, the kit's line for that is added."""
     counts = re.search(r"^only=(\d+) proved=(\d+)\n*\Z", ran.stdout, re.M)
     if ran.returncode == 1 and counts and int(counts[2]) < int(counts[1]):
         ran.stdout += "logic=not-proved\n"
@@ -42,7 +42,7 @@ def judged(ran: Any) -> Any:
 
 
 def outside_bodies(text: str) -> List[str]:
-    """The lines of a source file that stand in no body of a function: what others can see of it."""
+    """The lines of a source file outside the bodies of functions: the part that other functions can see."""
     lines = text.split("\n")
     inside: Set[int] = set()
     for function in functions_of(lines):
@@ -54,7 +54,7 @@ def outside_bodies(text: str) -> List[str]:
 
 
 def said_of(ran: Any, crate: str, paths: Iterable[str]) -> List[str]:
-    """The lines by which a check refuses functions for themselves: errors in their own proofs, or goals that it did not prove."""
+    """The lines in which a check refuses these functions themselves: errors in their own proofs, or goals that it did not prove."""
     files = tuple(f"./proofs/{path.replace('::', '/')}/" for path in paths)
     goals = tuple(f"fn {crate}::{path}: no proof: expected answers in " for path in paths)
     lines = [line for line in ran.stdout.split("\n") if line.startswith(files) and ": error: " in line or line.startswith(goals)]
@@ -62,7 +62,7 @@ def said_of(ran: Any, crate: str, paths: Iterable[str]) -> List[str]:
 
 
 def gathered(rt: Any, edits: Iterable[str], room: str) -> Tuple[Dict[str, str], List[str]]:
-    """Makes those edits in a copy of a crate that change the bodies of different functions. Returns its changed files, and the edits."""
+    """In a copy of a crate, makes those edits that change the bodies of different functions. Returns the changed files and these edits."""
     changed: Dict[str, str] = {}
     group: List[str] = []
     paths: Set[str] = set()
@@ -81,7 +81,7 @@ def gathered(rt: Any, edits: Iterable[str], room: str) -> Tuple[Dict[str, str], 
 
 
 def tried_at_once(rt: Any, crate: Any, edits: Sequence[str], flags: List[str]) -> Dict[str, Any]:
-    """What one check of several edits says of each that it refuses, as a check of that edit alone would end."""
+    """For each edit that one check of several edits refuses, the result that a check of this edit alone would have."""
     with tempfile.TemporaryDirectory(prefix="edits-") as room:
         for part in PARTS:
             if Path(crate.folder, part).is_dir():
@@ -97,8 +97,8 @@ def tried_at_once(rt: Any, crate: Any, edits: Sequence[str], flags: List[str]) -
 
 
 def use_edits(rt: Any) -> None:
-    """Has the kit's module try edits so."""
-    checked, must_fail, seeded = rt.checked, rt.must_fail, getattr(rt, "seeded", None)  # an older kit shares work without the last
+    """Makes the kit's module try edits in this way."""
+    checked, must_fail, seeded = rt.checked, rt.must_fail, getattr(rt, "seeded", None)  # older kits share work without `seeded`
     refused: Dict[Tuple[str, str], Any] = {}
     here = threading.local()
 

@@ -1,7 +1,7 @@
 """Makes the kit's gate and the first build faster: another order of tasks, edits by named functions, libraries in parallel.
 
 `rt ci` is the judge, until it has words for these. Each proof, edit and test is checked by the kit's own functions. CALLED lists those
-that are called here. Where one of them is not there, or takes other arguments, bin/gate runs a plain `rt ci`, and bin/build `rt lib`.
+that are called here. If one of them is missing or takes other arguments, bin/gate runs a plain `rt ci`, and bin/build runs `rt lib`.
 """
 
 import inspect
@@ -21,11 +21,11 @@ from typing import Any, Callable, Dict, List, Optional, Sequence, Tuple
 from edits import use_edits
 
 TOP = Path(__file__).resolve().parent.parent
-Key = Tuple[Any, ...]  # the name of a crate, what is done for it, and of an edit its number
-# What a task waits for, its work in lines, its memory in bytes, and a call that gets what was given and how many jobs it may use.
+Key = Tuple[Any, ...]  # the name of a crate, the kind of task, and the number of an edit
+# The keys that a task waits for, its work in lines, its memory in bytes, and a call that takes the results so far and a number of jobs.
 Task = Tuple[List[Key], int, float, Callable[[Dict[Key, Any], int], Any]]
 
-# What each command calls of the kit's, with its arguments, or with those of either kit.
+# The kit's functions that each command calls, with their arguments. A bar separates the arguments of two kits.
 LANES = ["processors()", "free()", "in_lanes(tasks)"]
 EDITS = ["edits_of(crate)", "checked(crate,texts,flags,kept)", "must_fail(crate,edit,flags,kept)"]
 CRATES = ["rtlib.guarded()", "rtlib.crates_below(top)", "rtlib.lock(crates)", "rtlib.Crate.below(self)", "rtlib.Crate.count(self,pattern)"]
@@ -37,7 +37,7 @@ CALLED |= {"build": [*LANES, "need(crate)", *CRATES, *MADE, *KEPT], "compile": [
 
 
 def load(asker: str) -> Any:
-    """The kit's command `rt`; ends the command that asks with status 69 if it is not on the PATH."""
+    """The kit's command `rt` as a module. If it is not on the PATH, ends the calling command with status 69."""
     found = shutil.which("rt")
     if found is None:
         print(f"{asker}: the Rattle toolchain (the command rt) is not on the PATH", file=sys.stderr)
@@ -57,12 +57,12 @@ def has(rt: Any, call: str) -> bool:  # a function of this name with these argum
 
 
 def lacking(rt: Any, asker: str) -> List[str]:
-    """What a command calls and the kit does not have so."""
+    """The functions that a command calls and the kit lacks, or has with other arguments."""
     return [call for call in CALLED[asker] if not has(rt, call)]
 
 
 def usable(asker: str, instead: str) -> Optional[Any]:
-    """The kit's command, or None where it has not all that is called of it: then a line says so, and what is done instead."""
+    """The kit's command, or None if it lacks something that is called. Then a line names it, and what is done instead."""
     try:
         rt = load(asker)
         missing = ", ".join(lacking(rt, asker))
@@ -74,24 +74,24 @@ def usable(asker: str, instead: str) -> Optional[Any]:
 
 
 FILLS = ("seed", "edits", "sound", "again")  # the tasks that fill the processors which proofs and tests leave free
-NICENESS = 10  # how far a task stands back behind the first one, as `nice` counts it
-JOB_SHARE = 0.6  # what part of a check's memory each further job takes, as the kit has it
-MEMORY_SHARE = 1.3  # what is begun may have so much of the free memory by the kit's estimates: checks here take 35 to 65 of 100 of these
+NICENESS = 10  # the niceness of each task except the first one
+JOB_SHARE = 0.6  # the part of a check's memory that each further job takes, as in the kit
+MEMORY_SHARE = 1.3  # the part of the free memory for running tasks, by the kit's estimates: checks here take 35 to 65 % of these
 
 
 def lines_of(name: str) -> int:
-    """The lines of a crate's sources, definitions and proofs: the more there are, the longer its proof takes."""
+    """The number of lines of a crate's sources, definitions and proofs. With more lines, its proof takes longer."""
     parts = ((TOP / "crates" / name / part).glob("**/*") for part in ("src", "specs", "proofs"))
     return sum(path.read_bytes().count(b"\n") for part in parts for path in part if path.suffix in (".rt", ".antt"))
 
 
 class Lanes:
-    """Tasks that run and are left, in place of the kit's `in_lanes`: those on the longest chain first, of which the first has half of the
-    processors, or what nothing else could use. Jobs beyond the processors would slow the others by the memory's bandwidth. Tasks that
-    fill stand back, so a proof begins beside them as if they were not there."""
+    """Running and waiting tasks, in place of the kit's `in_lanes`. Those on the longest chain are begun first. The first of these has half
+    of the processors, or all that nothing else could use. More jobs than processors would slow the others by the memory's bandwidth.
+    Tasks of FILLS run at a lower priority, so a proof begins as if they were not running."""
 
     def __init__(self, rt: Any, tasks: Dict[Key, Task]) -> None:
-        # For each task the lines of the longest chain of those that wait for it, with its own. It comes after those that it waits for.
+        # For each task, the lines of the longest chain of tasks that wait for it, with its own. A task comes after those that it waits for.
         self.tasks, self.behind = tasks, {key: 0 for key in tasks}
         for key in reversed(list(tasks)):
             self.behind[key] += lines_of(key[0]) if key[1] == "proof" else tasks[key][1]
@@ -104,7 +104,7 @@ class Lanes:
         self.processors, self.memory = int(rt.processors()), MEMORY_SHARE * rt.free()
 
     def run(self) -> Dict[Key, Any]:
-        """What each task gave. Where one raises, that is raised once those that run have ended."""
+        """The result of each task. An error that a task raises is raised when no task is running."""
         self.begin_all()
         while self.running:
             key, gives = self.ended.get()
@@ -117,7 +117,7 @@ class Lanes:
         return self.given
 
     def begin_all(self) -> None:
-        """Begins what is ready and fits. Where there is no memory yet for the first one, the others wait as well."""
+        """Begins the tasks that are ready and fit. If there is no memory yet for the first one, the others wait too."""
         for key in list(self.left):
             if self.given.keys() >= set(self.tasks[key][0]):
                 is_first = all(self.behind[other] < self.behind[key] for other in self.running)
@@ -138,14 +138,14 @@ class Lanes:
         return True
 
     def jobs(self, key: Key, is_first: bool) -> int:
-        """The first proof has half of the processors, or all that nothing else could use now, and all else one."""
+        """The first proof has half of the processors, or all that nothing else could use now. Other tasks have one."""
         if not is_first or key[1] != "proof":
             return 1
         ready = sum(other != key and self.given.keys() >= set(self.tasks[other][0]) for other in self.left)
         return max(1, self.processors // 2, self.processors - len(self.running) - ready)
 
     def call(self, key: Key, jobs: int, is_first: bool) -> None:
-        """Calls a task in a thread of its own, whose niceness is that of the processes which it begins."""
+        """Calls a task in a thread of its own, whose niceness the processes that it begins inherit."""
         try:
             if not is_first:
                 os.setpriority(os.PRIO_PROCESS, threading.get_native_id(), NICENESS)
@@ -156,7 +156,7 @@ class Lanes:
 
 
 def gate(words: Sequence[str]) -> int:
-    """The kit's gate over these words, and its status."""
+    """Runs the kit's gate with these words, and returns its status."""
     os.chdir(TOP)
     rt = usable("gate", "a plain `rt ci` is run")
     if rt is None:
@@ -166,20 +166,20 @@ def gate(words: Sequence[str]) -> int:
     return int(rt.main(["ci", *words]))
 
 
-def show(text: str) -> None:  # on a terminal, in the place of the line that was shown last
+def show(text: str) -> None:  # only on a terminal, in place of the last line
     if sys.stderr.isatty():
         print(f"\r\033[K{text}", end="", file=sys.stderr, flush=True)
 
 
 class Libraries:
-    """The libraries of the program. Where no proof is kept, as in a new clone, their rlibs are made from nothing, and of statements
-    alone, as for a verdict, so that crates above read less. The kit leaves these without a stamp. A mark says of what they were made."""
+    """The libraries of the program. If no proof is kept, as in a new clone, their rlibs are made from nothing, and from statements alone,
+    as for a verdict, so that crates above read less. The kit writes no stamp for these; a mark records what they were made from."""
 
     def __init__(self, rattle: str, libraries: Sequence[Any]) -> None:
         self.rattle, self.all, self.anew = rattle, libraries, set[str]()
         self.of_statements = not any(crate.is_built() or crate.has_kept() for crate in libraries)
 
-    def task(self, crate: Any, given: Dict[Key, Any], jobs: int) -> bool:  # builds one, once those below it are built
+    def task(self, crate: Any, given: Dict[Key, Any], jobs: int) -> bool:  # builds one, if those below it are built
         below = {dep.name for dep in crate.below()}
         if not all(given[name, "proof"] for name in below):
             return False
@@ -199,7 +199,7 @@ class Libraries:
 
 
 def build(log: str) -> int:
-    """Builds the libraries of the program side by side, as `rt lib` does in turn. What is said of each goes to the end of a file."""
+    """Builds the libraries of the program side by side, as `rt lib` does in turn. The output of each is appended to a file."""
     os.chdir(TOP)
     rt = usable("build", "the libraries are built in turn by `rt lib`")
     os.dup2(os.open(log, os.O_WRONLY | os.O_APPEND | os.O_CREAT), sys.stdout.fileno())

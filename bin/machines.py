@@ -1,8 +1,8 @@
-"""Compiles the program for machines other than x86-64: the proved module, by the kit's clang for another target, linked.
+"""Compiles the program for machines other than x86-64: the kit's clang compiles the proved module for another target.
 
-`rattle build` proves a program, lowers it to one LLVM module for x86-64, and calls clang for it. Here clang is a script that keeps the
-module too, which is then compiled once more. What the module calls is in packaging/wasm/host.c. The lowering is for x86-64, and
-clang for another machine is no part of the proof: conformance/ is tried on what comes out.
+`rattle build` proves a program, lowers it to one LLVM module for x86-64, and calls clang for it. For WebAssembly, a script in place of
+clang keeps the module too, which is then compiled again. The functions that the module calls are in packaging/wasm/host.c. The lowering
+is for x86-64, and clang for another machine is not part of the proof, so conformance/ is run on the result.
 """
 
 import re
@@ -18,13 +18,13 @@ from kit import TOP
 WASM_LAYOUT = "e-m:e-p:64:64-p10:8:8-p20:8:8-i64:64-i128:128-n32:64-S128"
 WASM_FEATURES, LANES = "+bulk-memory,+bulk-memory-opt,+mutable-globals,+nontrapping-fptoint,+sign-ext", ",+simd128"
 LOWERED_WITH = [f"--enable-{each}" for each in "memory64 bulk-memory sign-ext nontrapping-float-to-int mutable-globals".split()]
-# What the module may call of a processor: a hint in loops that wait, which is left out.
+# The only intrinsic of a processor that the module may call: a hint in waiting loops, which is removed.
 PAUSE = re.compile(r"^.*@llvm\.x86\.sse2\.pause\b.*\n", re.M)
 MAIN = re.compile(r"^define i32 @main\(.*?^}\n", re.M | re.S)
 INTRINSIC = re.compile(r"@(llvm\.(?:x86|aarch64|arm)\.[\w.]+)")
 STACK = 1 << 20
 ARM64 = "aarch64-unknown-linux-gnu"
-# Debian's packages that the program for arm64 is linked with, and the files of theirs that the kit's linker takes.
+# Debian's packages for linking the program for arm64, and their folders and files that the kit's linker takes.
 ARM64_PACKAGES = "libc6-arm64-cross libc6-dev-arm64-cross libgcc-s1-arm64-cross libgcc-12-dev-arm64-cross"
 ARM64_LIBRARIES = Path("/usr/aarch64-linux-gnu/lib")
 ARM64_COMPILER = Path("/usr/lib/gcc-cross/aarch64-linux-gnu/12")
@@ -44,15 +44,15 @@ class NotThere(Exception):
 
 
 def run(words: List[str]) -> None:
-    """Runs a tool of the compiler; raises NotCompiled with what it said where it fails."""
+    """Runs a tool of the compiler. Raises NotCompiled with its output if it fails."""
     done = subprocess.run(words, stdin=subprocess.DEVNULL, stdout=subprocess.PIPE, stderr=subprocess.STDOUT, text=True, errors="replace")
     if done.returncode:
         raise NotCompiled(f"{Path(words[0]).name}: {done.stdout[-2000:]}")
 
 
 def kept_module(rt: Any, crate: Any, flags: List[str], folder: Path) -> Path:
-    """The module that a proved program is compiled from. It stays in the folder of the crate, with a sum of all that it was made of, so
-    that the next kind is compiled from the same module, and nothing is proved again."""
+    """The module that a proved program is compiled from. It is kept in the folder of the crate, with a sum of all that it was made from.
+    So the next kind is compiled from the same module, and nothing is proved again."""
     kept, made_of = Path(crate.folder, "out", "module"), crate.stamp()
     module, mark = kept / "module.bc", kept / "made_of"
     if not (mark.is_file() and mark.read_text() == made_of):
@@ -80,7 +80,7 @@ def keep_module(rt: Any, crate: Any, flags: List[str], folder: Path, module: Pat
 
 
 def for_wasm(text: str, features: str) -> str:
-    """The text of a module, as one for WebAssembly with these features, whose function `lj_main` is the program."""
+    """The text of a module, changed for WebAssembly with these features. Its function `lj_main` is the program."""
     text = re.sub(r'^target triple = ".*"$', 'target triple = "wasm64-unknown-unknown"', text, flags=re.M)
     text = re.sub(r'^target datalayout = ".*"$', f'target datalayout = "{WASM_LAYOUT}"', text, flags=re.M)
     text = PAUSE.sub("", MAIN.sub(entry, text))
@@ -91,7 +91,7 @@ def for_wasm(text: str, features: str) -> str:
 
 
 def entry(main: "re.Match[str]") -> str:
-    """The program, in place of C's `main`, which asks a processor of x86-64 what it is before it calls it."""
+    """Makes `lj_main` of C's `main`. It calls the program without first asking an x86-64 processor what it is."""
     called = re.search(r'^run:.*\n +%\w+ = call i32 (@"[^"]+")\(\)$', main[0], re.M)
     if called is None:
         raise NotCompiled("the module's main must have the known form, got another")
@@ -128,7 +128,7 @@ def compile_wasm64(rt: Any, crate: Any, flags: List[str], folder: Path) -> Path:
 
 
 def compile_wasm32(rt: Any, crate: Any, flags: List[str], folder: Path) -> Path:
-    """Builds a proved program for WebAssembly with memory of 32 bits, by lowering that of 64 bits."""
+    """Builds a proved program for WebAssembly with memory of 32 bits, by lowering memory of 64 bits."""
     lowers = shutil.which("wasm-opt")
     if lowers is None:
         raise NotThere("wasm-opt is not installed; use apt-get install binaryen")
@@ -143,7 +143,7 @@ def compile_wasm32(rt: Any, crate: Any, flags: List[str], folder: Path) -> Path:
 
 
 def toolchain_for_arm64(rt: Any, folder: Path) -> Path:
-    """A folder as the kit's toolchain, whose libraries are those of Debian's cross packages."""
+    """A folder like the kit's toolchain, with the libraries of Debian's cross packages."""
     kit, made = Path(rt.KIT, "toolchain"), folder / "toolchain"
     (made / "lib").mkdir(parents=True)
     (made / "bin").symlink_to(kit / "bin")

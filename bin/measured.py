@@ -1,7 +1,7 @@
-"""Notes what a measurement was made of: the program's version and commit, and a hash of each source that its figures depend on.
+"""Records what was measured: the program's version and commit, and a hash of each source that the figures depend on.
 
-Each command of bench/ that writes JSON keeps it there (bench/timing.py). Where a source has another hash now, the figures are stale
-(bin/speeds). A hash is that of code alone: no comment, contract or docstring changes it.
+Each command of bench/ that writes JSON keeps this record in it (bench/timing.py). If a source has another hash now, the figures are
+stale (bin/speeds). A hash covers code alone: no contract, docstring or comment on a line of its own changes it.
 """
 
 import ast
@@ -35,7 +35,7 @@ PLACES = modules_of_client("reading.py", "frames.py", "xyz.py", "columns.py", "d
 PAGE = ("packaging/page", "packaging/wasm", "clients/javascript/src", *modules_of_client("view/page"))
 START = modules_of_client("__init__.py", "user.py", "connecting.py", "loading.py", "load_options.py")
 START += modules_of_client("session.py", "changes.py", "looks.py", "handle.py")
-# What takes the time that a command of bench/ measures: files, and folders with all their code.
+# The code that the figures of a command of bench/ depend on: files, and folders with all their code.
 HOT = {
     "bench/ratio": STEP,
     "bench/lammps/step": STEP,
@@ -62,7 +62,7 @@ HOT = {
 
 
 def code_in_rattle(text: str) -> Iterator[str]:
-    """The lines of code, without comments and contracts: a clause goes on until its braces are closed."""
+    """The lines of code, without comments and contracts. A clause ends where its braces are closed."""
     depth = 0
     for line in text.splitlines():
         if depth or CLAUSE.match(line):
@@ -72,7 +72,7 @@ def code_in_rattle(text: str) -> Iterator[str]:
 
 
 def code_in_python(text: str) -> Iterator[str]:
-    """The lines of code, without comments that have a line of their own, and docstrings."""
+    """The lines of code, without docstrings and without comments on lines of their own."""
     has_docs = (ast.Module, ast.ClassDef, ast.FunctionDef, ast.AsyncFunctionDef)
     docs = [each.body[0] for each in ast.walk(ast.parse(text)) if isinstance(each, has_docs) and ast.get_docstring(each) is not None]
     told = {number for doc in docs for number in range(doc.lineno, (doc.end_lineno or doc.lineno) + 1)}
@@ -100,7 +100,7 @@ def files_of(source: str) -> list[Path]:
 
 
 def hash_of(source: str) -> str:
-    """The first 16 digits of a hash over the code of a file or of a folder with its files' names; none if it does not exist."""
+    """The first 16 digits of a hash of the code and names of a file or of a folder's files; empty if it does not exist."""
     if not (TOP / source).exists():
         return ""
     code = "\0".join(f"{file.relative_to(TOP)}\0{code_of(file)}" for file in files_of(source))
@@ -111,7 +111,7 @@ def hash_of(source: str) -> str:
 
 
 def printed(words: Sequence[str]) -> str:
-    """What a command prints; nothing where it fails or does not end."""
+    """The output of a command, or an empty string if it fails or does not end."""
     try:
         done = subprocess.run(words, cwd=TOP, timeout=SECONDS, stdin=subprocess.DEVNULL, capture_output=True)
     except (OSError, subprocess.TimeoutExpired):
@@ -120,7 +120,7 @@ def printed(words: Sequence[str]) -> str:
 
 
 def is_built_of_these(program: str) -> bool:
-    """Whether a program is one that bin/ljserve has built, and no code is newer."""
+    """Whether bin/ljserve has built a program, and no code is newer."""
     path, built = Path(program).resolve(), TOP / "crates" / "ljserve" / "out"
     if built not in path.parents:
         return False
@@ -136,8 +136,8 @@ def commit_of(hot: Sequence[str]) -> Optional[str]:
 
 
 def what_is_measured(program: str, command: str) -> dict[str, Any]:
-    """What a command of bench/ keeps of the program that it measures. Of one that is not built of this folder's sources, as they
-    are, it keeps the version alone."""
+    """The record that a command of bench/ keeps of the program that it measures. If the program is not built from this folder's present
+    sources, only its version is recorded."""
     version = re.fullmatch(r"ljserve (\S+)", printed([program, "--version"]).split("\n")[0])
     hot = HOT.get(command, ()) if is_built_of_these(program) else ()
     return {
@@ -148,12 +148,12 @@ def what_is_measured(program: str, command: str) -> dict[str, Any]:
 
 
 def name_of(program: dict[str, Any]) -> str:
-    """A program as a line names it: by its version and commit, as far as they are known."""
+    """The name of a program in a line: its version and commit, as far as they are known."""
     return ", commit ".join(program[each] for each in ("version", "commit") if program.get(each))
 
 
 def changes_since(told: dict[str, Any]) -> Optional[list[str]]:
-    """The sources of a measurement that have another hash now, by what it has kept; None where it has not kept them."""
+    """The sources of a measurement whose hash differs from the recorded one; None if it recorded no sources."""
     kept = told.get("program", {}).get("sources")
     if not kept:
         return None

@@ -5,7 +5,7 @@ from typing import Any, NoReturn
 
 
 class Parser(argparse.ArgumentParser):
-    """The words of a command, whose help is the text at its head. Wrong words end it by one line and status 2."""
+    """The command line of a script, whose help is its docstring. Wrong words end the script with one line and status 2."""
 
     def __init__(self, about: str, **words: Any) -> None:
         super().__init__(description=about.strip(), formatter_class=argparse.RawDescriptionHelpFormatter, allow_abbrev=False, **words)

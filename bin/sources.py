@@ -12,7 +12,7 @@ TYPE = re.compile(r"^(?:pub(?:\(crate\))? )?(?:struct|enum|trait) (\w+)")
 
 
 class Function(NamedTuple):
-    """A function, or a type, with the type that it is of, and its lines from `first` to the one before `end`."""
+    """A function, with the type that it belongs to, or a type. Its lines go from `first` to the one before `end`."""
 
     name: str
     is_public: bool
@@ -21,20 +21,20 @@ class Function(NamedTuple):
 
 
 def owner_of(head: str) -> str:
-    """The type that an impl is of, or `Trait for Type`, without parameters, bounds and supertraits."""
+    """The type of an impl, or `Trait for Type`, without parameters, bounds and supertraits."""
     shorter = re.sub(r"<[^<>]*>", "", head)
     return owner_of(shorter) if shorter != head else re.split(r" where |(?<!:):(?!:)", shorter)[0].strip()
 
 
 def end_of_signature(lines: list[str], place: int) -> int:
-    """The number of the line behind a function's signature and contract."""
+    """The index of the line after a function's signature and contract."""
     while lines[place].strip() != "{" and not lines[place].rstrip().endswith((" {", ";", "{}")):
         place += 1
     return place + 1
 
 
 def functions_of(lines: list[str]) -> Iterator[Function]:
-    """The functions of a file; that others may call are `pub`, or of a trait."""
+    """The functions of a file. Public ones are marked `pub`, or belong to a trait."""
     owner, open_to_all = "", False
     for place, line in enumerate(lines):
         item = OWNER.match(line)
@@ -59,7 +59,7 @@ def types_of(lines: list[str]) -> Iterator[Function]:
 
 
 def doc_above(lines: list[str], place: int) -> list[str]:
-    """The lines of the doc comment above an item, without their marks. Attributes may stand among them."""
+    """The lines of the doc comment above an item, without their marks. Attributes between them are skipped."""
     first = place
     while first > 0 and lines[first - 1].strip().startswith(("///", "#[")):
         first -= 1

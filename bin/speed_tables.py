@@ -13,9 +13,9 @@ FOLDER = sources.TOP / "docs" / "speed"
 PROGRAMS = {"crates/ljserve/out/ljserve": "PROGRAM", "crates/ljserve/out/v3/ljserve": "PROGRAM_V3"}
 POOLS = ("queue", "lock")
 OPTIONS = " | ".join(f"`--pool {pool}`" for pool in POOLS)
-# Units of figures that a table shows otherwise.
+# Units of figures that a table shows differently.
 UNITS = {"us": "µs"}
-# Names of figures that a table shows otherwise.
+# Names of figures that a table shows differently.
 NAMES = {
     r"a step of (\d+) atoms by the (page|program)": r"time of a step of \1 atoms in the \2",
     r"(a step of \d+ atoms): time by the page divided by time by .*": r"time of \1 in the page, divided by the time in the program",
@@ -23,7 +23,7 @@ NAMES = {
     "processor time of a sent frame": "processor time of the view and its program per frame",
     "processor time of HAProxy to let one user in": "processor time of HAProxy to connect one user",
 }
-# What a table shows, by the name of its measurement, or of its first one.
+# What a table shows, by the name of its only or first measurement.
 ABOUT = {
     "step_4096": "The table compares the wall-clock time of a step in `ljserve` and in its twin in plain C, `bench/plain.c` "
     "(`-march=native`, one thread).",
@@ -46,17 +46,17 @@ ABOUT = {
 
 
 def shown(value: float) -> str:
-    """A number with three digits, or with those before its point."""
+    """A number with three significant digits, or without decimals if its whole part has more."""
     return f"{value:,.0f}" if value >= 99.95 else f"{value:#.3g}"
 
 
 def ratio(value: float) -> str:
-    """A ratio with two digits behind the point, or two that count."""
+    """A ratio with two decimals, or with two significant digits if it is small."""
     return f"{value:.2f}" if value >= 0.0995 else f"{value:#.2g}"
 
 
 class Found:
-    """What a measurement has found, by the names of its figures."""
+    """The results of a measurement, by the names of its figures."""
 
     def __init__(self, name: str):
         self.name = name
@@ -68,24 +68,24 @@ class Found:
 
     @property
     def words(self) -> list[str]:
-        """The command without the file that it kept its figures in."""
+        """The words of the command, without `--json` and its file."""
         words = [PROGRAMS.get(word, word) for word in shlex.split(self.told["command"])]
         at = words.index("--json")
         return words[:at] + words[at + 2 :]
 
     def under(self, *rows: str) -> str:
-        """A table with what is measured and the command over it."""
+        """A table below a line with the subject and the command."""
         return headed([self.name], [f"`{shlex.join(self.words)}` ({moment(self)})"], *rows)
 
 
 def headed(names: Iterable[str], commands: Iterable[str], *rows: str) -> str:
-    """A table of measurements with a line over it: what it shows, if that is known, and from which commands its figures come."""
+    """A table of measurements below a line: what the table shows, if that is known, and the commands that gave the figures."""
     about = [f"{ABOUT[name]} " for name in names if name in ABOUT]
     return f"{''.join(about[:1])}Source: {' and '.join(commands)}:\n\n{table(*rows)}"
 
 
 def moment(*found: Found) -> str:
-    """The programs, the day, and the load before the first of these measurements began and at the end of the last one."""
+    """The programs, the day, and the loads before the first of these measurements and after the last one."""
     told = sorted((each.told for each in found), key=lambda each: str(each["began"]))
     loads = dict.fromkeys(f"{load:.1f}" for load in (told[0]["machine"]["load_before"], told[-1]["machine"]["load_after"]))
     programs = dict.fromkeys(name_of(each.get("program", {})) for each in told)
@@ -94,7 +94,7 @@ def moment(*found: Found) -> str:
 
 # A step.
 
-# What bench/speeds calls its liquids, and what a reader is shown.
+# The names of the liquids in bench/speeds, and in a table.
 LIQUIDS = {
     "4096": "4,096 atoms in random order",
     "4096_sorted": "4,096 atoms sorted in space",
@@ -115,7 +115,7 @@ def cells_of_a_step(found: Found) -> str:
 
 
 def steps(*programs: str) -> str:
-    """A step compared with the plain C twin's, for each liquid and each program, whose measurements are called step_LIQUID or so."""
+    """A step compared with the plain C twin's, for each liquid and each program. A measurement has a name such as step_LIQUID."""
     columns = [[Found(f"{program}_{liquid}") for liquid in LIQUIDS] for program in programs]
     heads = [f"`{column[0].words[1]}`: ms per step | divided by the twin's time" for column in columns]
     rows = [" | ".join([text, *map(cells_of_a_step, found)]) for text, *found in zip(LIQUIDS.values(), *columns)]
@@ -124,7 +124,7 @@ def steps(*programs: str) -> str:
 
 
 def lammps(*names: str) -> str:
-    """A step by each way, with two columns for each measurement."""
+    """A step of each program, with two columns for each measurement."""
     found = [Found(name) for name in names]
     ways = [each["name"] for each in found[0].told["figures"] if each["unit"] == "ms per step"]
     heads = [f"`{each.words[1]}`: ms per step | divided by the time of lj/cut" for each in found]
@@ -134,7 +134,7 @@ def lammps(*names: str) -> str:
 
 
 def cores(name: str) -> str:
-    """Steps by processes of LAMMPS and by workers of a server, with what its connection takes, a column for each number of them."""
+    """Steps by LAMMPS processes and by workers of a server with its connection's time. Each column is for a number of these."""
     found = Found(name)
     steps = [each["name"].rpartition(", ") for each in found.told["figures"] if each["unit"] == "ms per step"]
     ways, counts = list(dict.fromkeys(way for way, _, _ in steps)), sorted({count for _, _, count in steps})
@@ -196,7 +196,7 @@ def scale(name: str) -> str:
 
 
 def parts_of_runs(found: Found, crowd: str) -> str:
-    """The speed of four workers divided by the speed of four runs together, and their speed divided by one run's."""
+    """The speed of four workers divided by the speed of four runs, and the speed of four runs divided by the speed of one."""
     four = found[f"{crowd} atoms, four runs"]
     parts = [ratio(found[f"{crowd} atoms, {pool}, 4 workers"] / four) for pool in POOLS]
     return " | ".join([CROWDS[crowd], *parts, ratio(four / found[f"{crowd} atoms, one run"])])
@@ -239,7 +239,7 @@ def beside_redis(found: Found) -> Iterator[str]:
 
 
 def figures(name: str) -> str:
-    """All that a measurement found, a row for each figure."""
+    """All figures of a measurement, with a row for each."""
     found = Found(name)
     return found.under("Measured | Figure", *(f"{renamed(each['name'])} | {with_unit(each)}" for each in found.told["figures"]))
 
@@ -254,7 +254,7 @@ def with_unit(figure: dict[str, Any]) -> str:
 
 
 def grid(name: str) -> str:
-    """All that a measurement found, in the row of what stands before the colon of a figure's name and the column of what follows it."""
+    """All figures of a measurement. A figure's name has the row before its colon, and the column after it."""
     found = Found(name)
     cells = {tuple(each["name"].split(": ")): with_unit(each) for each in found.told["figures"]}
     rows, columns = (list(dict.fromkeys(names[at] for names in cells)) for at in (0, 1))
@@ -265,7 +265,7 @@ def grid(name: str) -> str:
 
 
 def keep(name: str) -> str:
-    """Commands one at a time, a row for each way to them."""
+    """Commands sent one at a time, with a row for each way to send them."""
     found = Found(name)
     one_at_a_time = [each.rpartition(", ") for each in found.figures if each.rpartition(", ")[2].split()[0].isupper()]
     ways, commands = (list(dict.fromkeys(each[at] for each in one_at_a_time)) for at in (0, 2))
@@ -277,7 +277,7 @@ def keep(name: str) -> str:
 # The client.
 
 
-# The calls of bench/client, and what a reader is shown.
+# The calls of bench/client, and their names in a table.
 CALLS = {
     "places()": "`places()`",
     "dump()": "`dump()`",
@@ -314,5 +314,5 @@ KINDS: dict[str, Callable[..., str]] = {
 
 
 def speed(kind: str, *names: str) -> str:
-    """What one measurement or some have found, as a table of this kind."""
+    """The results of one or more measurements, as a table of this kind."""
     return KINDS[kind](*names)

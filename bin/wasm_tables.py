@@ -1,7 +1,8 @@
-"""Tables of functions with indices of 32 bits, in place of those of 64 that the linker makes beside memory of 64 bits.
+"""Changes the table of functions that the linker makes for 64-bit memory: from 64-bit to 32-bit indices.
 
-wasm-opt of Debian's binaryen lowers such memory and knows no such table. Here each call through the table takes the low half of its index,
-and the table's type and the place of its functions are of 32 bits. All else of a module stays (WebAssembly's binary format, version 1).
+wasm-opt of Debian's binaryen lowers 64-bit memory, but does not know 64-bit tables. Here each call through the table takes the low half of
+its index, and the table's type and the offset of its functions are 32-bit. The rest of a module stays the same (WebAssembly's binary
+format, version 1).
 """
 
 from typing import Iterator
@@ -10,7 +11,7 @@ TABLES, ELEMENTS, CODE = 4, 9, 10
 FUNCTIONS, OF_64_BITS = 0x70, 0x04
 CONSTANT_OF_32_BITS, CONSTANT_OF_64_BITS = 0x41, 0x42
 CALL_THROUGH_TABLE, LOW_HALF = 0x11, b"\xa7"
-# What follows an instruction: how many numbers in LEB128, or how many bytes. Others from 0 to 0xc4 stand alone.
+# What follows an instruction: so many numbers in LEB128, or so many bytes. Nothing follows others from 0 to 0xc4.
 NUMBERS = {
     **dict.fromkeys((0x02, 0x03, 0x04, 0x0C, 0x0D, 0x10, 0x3F, 0x40, 0x41, 0x42, 0xD0, 0xD2), 1),
     **dict.fromkeys(range(0x20, 0x27), 1),
@@ -22,16 +23,16 @@ LAST_ALONE, LISTS, MORE = (
     0xC4,
     {0x0E: 1, 0x1C: 0},
     0xFC,
-)  # a list of numbers, and how many numbers follow it; a second number says what it is
+)  # LISTS: a list of numbers, then so many more; MORE: a second number says which instruction it is
 NUMBERS_OF_MORE = {**dict.fromkeys(range(8), 0), 8: 2, 9: 1, 10: 2, 11: 1, 12: 2, 13: 1, 14: 2, 15: 1, 16: 1, 17: 1}
 
 
 class UnknownModule(Exception):
-    """A module has what the linker was not known to make."""
+    """A module has something that the linker is not known to make."""
 
 
 def number_at(data: bytes, at: int) -> tuple[int, int]:
-    """A number in LEB128, as if it had no sign, and where it ends."""
+    """A number in LEB128, read as unsigned, and where it ends."""
     value = shift = 0
     while True:
         value |= (data[at] & 0x7F) << shift
@@ -50,7 +51,7 @@ def encoded(value: int) -> bytes:
 
 
 def behind(data: bytes, at: int, count: int) -> int:
-    """Where so many numbers end."""
+    """Where `count` numbers in LEB128 end."""
     for _ in range(count):
         _, at = number_at(data, at)
     return at
@@ -74,7 +75,7 @@ def end_of_instruction(data: bytes, at: int) -> int:
 
 
 def with_wrapped_calls(body: bytes) -> bytes:
-    """The body of a function, with each call through the table by the low half of its index."""
+    """The body of a function, where each call through the table takes the low half of its index."""
     count, at = number_at(body, 0)
     at = behind(body, at, 2 * count)  # its variables: how many of each type
     parts = [body[:at]]
@@ -86,7 +87,7 @@ def with_wrapped_calls(body: bytes) -> bytes:
 
 
 def bodies(content: bytes) -> Iterator[bytes]:
-    """The bodies of a section of code."""
+    """The bodies of the functions in a section of code."""
     count, at = number_at(content, 0)
     for _ in range(count):
         size, begin = number_at(content, at)
@@ -95,7 +96,7 @@ def bodies(content: bytes) -> Iterator[bytes]:
 
 
 def changed(kind: int, content: bytes) -> bytes:
-    """What a section has in the module with a small table."""
+    """The content of a section in the module with a 32-bit table."""
     if kind == TABLES:
         if content[:2] != bytes([1, FUNCTIONS]):
             raise UnknownModule(f"the tables of the module begin with {content[:3].hex()}")
@@ -111,7 +112,7 @@ def changed(kind: int, content: bytes) -> bytes:
 
 
 def with_small_table(module: bytes) -> bytes:
-    """A linked module with its one table, if it has one, of 32 bits. Raises UnknownModule."""
+    """A linked module whose table, if it has one, is changed to 32 bits. Raises UnknownModule."""
     at, parts = 8, [module[:8]]
     while at < len(module):
         kind = module[at]

@@ -1,4 +1,4 @@
-"""Random streams of commands: most lines mean something, some have faults, and some streams are changed byte by byte."""
+"""Random streams of commands: most lines are valid, some have faults, and some streams are changed at random bytes."""
 import random
 import re
 from typing import Callable, Dict, List, Tuple
@@ -12,12 +12,12 @@ STRANGE_WORDS = (
     "x" * 16, "x" * 17, "2147483647", "2147483648", "-2147483648", "-2147483649", "-", "1\r", "\xe9", "rest", "256", "1d0", "1e999",
     "1e-999", "NaN",
 )  # fmt: skip
-# Beyond these a stream would take long.
+# The most steps of a command, for few and for many atoms, so that no stream takes long.
 MOST_STEPS, MOST_OF_MANY = 25, 2
 
 
 class Chance:
-    """One random stream, which is told by its seed."""
+    """One random stream, which its seed determines."""
 
     def __init__(self, seed: str) -> None:
         self.rnd = random.Random(seed)
@@ -40,7 +40,7 @@ class Chance:
         return Stream(name, sent, referred(sent, self.quota), self.quota)
 
     def first_load(self) -> str:
-        """One that the user of the quota is not refused, if any is found soon."""
+        """A load that the quota allows, if one is found in nine tries."""
         for _ in range(9):
             self.there = []
             text = self.rnd.choice((self.load, self.load_mix))()
@@ -49,7 +49,7 @@ class Chance:
         return text
 
     def line(self, *words: object) -> str:
-        """A line of these words, of which now and then one is another, is missing or is there twice."""
+        """A line of these words. Sometimes one of them is replaced, left out or repeated."""
         texts = [str(word) for word in words]
         if self.rnd.random() < 0.04:
             at = self.rnd.randrange(len(texts))
@@ -59,11 +59,11 @@ class Chance:
         return blank.join(texts) + end
 
     def name(self) -> str:
-        """Mostly that of a session that is there."""
+        """Mostly the name of an existing session."""
         return self.rnd.choice(self.there if self.there and self.rnd.random() < 0.95 else NAMES)
 
     def new_name(self) -> str:
-        """Mostly that of none."""
+        """Mostly a name that no session has."""
         name = self.rnd.choice([name for name in NAMES if name not in self.there or self.rnd.random() < 0.1] or NAMES)
         self.there = [*self.there, name][-3:]
         return name
@@ -83,7 +83,7 @@ class Chance:
         return re.sub(r"\b0\.(?=\d)", ".", text) if self.rnd.random() < 0.2 else text
 
     def scale(self) -> Tuple[float, float]:
-        """An edge and a sigma: mostly reduced units, and boxes from the least to the greatest."""
+        """An edge and a sigma: mostly in reduced units, for boxes from the smallest to the largest."""
         sigma = self.rnd.choice((1.0, 1.0, 1.0, 3.4, 10 ** self.rnd.uniform(-2, 4)))
         if self.rnd.random() < 0.03:
             return 5.0, self.rnd.choice((1.0, 1.000000001, 1.000000002))
@@ -95,7 +95,7 @@ class Chance:
         return self.rnd.choice((131072, 131072, 1000, 1, 2**24, self.rnd.randrange(1, 2**20)))
 
     def body(self, sigma: float, symbols: str, frames: int) -> str:
-        """Frames of atoms that are about sigma apart, somewhere in the box or beside it."""
+        """Frames of atoms that are about sigma apart, inside or outside the box."""
         rnd = self.rnd
         count = rnd.choice((1, 2, rnd.randrange(1, 6), self.most_atoms))
         corner = [sigma * rnd.choice((0, -0.5, rnd.uniform(-20, 20))) for _ in range(3)]
@@ -113,7 +113,7 @@ class Chance:
         return self.spoilt("".join(texts)) if rnd.random() < 0.08 else "".join(texts)
 
     def spoilt(self, body: str) -> str:
-        """A body with a word in place of another, without its end, or without its last line feed."""
+        """A body with one word replaced, without its end, or without its last line feed."""
         way = self.rnd.randrange(3)
         if way == 0:
             words = re.split(r"( |\n)", body)
@@ -149,7 +149,7 @@ class Chance:
         return self.line(verb, self.name(), self.rnd.choice((0, 1, 1, 2, self.rnd.randrange(MOST_STEPS))))
 
     def tug(self) -> str:
-        """A small one, a large one, or one at the limits, whose image is half the ring."""
+        """A small tug, a large one, or one at the limits, whose image is half the ring."""
         size = self.rnd.choice((5, 1000, 10**6, 2**31 - 1))
         limits = (-(2**31), -(2**31), 2**31 - 1, 0, 0, 2**31) if self.rnd.random() < 0.2 else (self.rnd.randint(-size, size), 0)
         return self.line("TUG", self.name(), self.atom(), *(self.rnd.choice(limits) for _ in range(3)))
@@ -190,7 +190,7 @@ class Chance:
 
 
 def flip(rnd: random.Random, sent: bytes) -> bytes:
-    """Another bit in a byte."""
+    """The stream with one bit flipped."""
     changed = bytearray(sent)
     changed[rnd.randrange(len(changed))] ^= 1 << rnd.randrange(8)
     return bytes(changed)
@@ -216,7 +216,7 @@ CHANGES = (flip, flip, put, leave_out, repeat)
 
 
 def bounded(sent: bytes, most: int) -> bytes:
-    """The same with few steps in place of many, so that no stream takes long. What is refused stays so."""
+    """The stream with fewer steps in a command, so that it does not take long. Refused numbers of steps stay."""
 
     def few(found: "re.Match[bytes]") -> bytes:
         return found[1] + (found[2] if not most < int(found[2]) <= 10**6 else b"%d" % (int(found[2]) % (most + 1)))

@@ -1,4 +1,4 @@
-"""Streams of commands with the replies that are expected, and how a program is played them."""
+"""Streams of commands with their expected replies, and functions that play them against a program."""
 import contextlib
 import gzip
 import hashlib
@@ -21,24 +21,24 @@ FOLDER = pathlib.Path(__file__).resolve().parent / "streams"
 # How many sessions, atoms and branches a user may have.
 Quota = Tuple[int, int, int]
 USUAL: Quota = (8, 16384, 16)
-# So many lines of SHOW one after the other are told as a hash.
+# At least so many consecutive lines of SHOW are replaced by a hash.
 MANY = 16
 PLACES = re.compile(rb"(?:OK SHOW [^\n]*\n){%d,}" % MANY)
 FOLDED = re.compile(rb"sha256 [0-9a-f]{64} of ([0-9]+) lines\n")
 MAX_SHOW = 137
-# So many bytes may be told beyond what is expected before the program is stopped, so that one that never ends fills no memory.
+# A program is stopped after so many bytes more than expected, so that one that never ends fills no memory.
 MORE = 1 << 16
 PIECE = 1 << 16
 SECONDS_AFTER_END = 1.0
 
 
 class CannotStart(Exception):
-    """The command is that of no program."""
+    """The command cannot be started."""
 
 
 @dataclass(frozen=True)
 class Stream:
-    """What is sent to a program of a quota, and what it is to reply, in which places may be folded to hashes."""
+    """The bytes sent to a program with a quota, and the expected replies, in which lines of SHOW may be folded to hashes."""
 
     name: str
     sent: bytes
@@ -48,11 +48,11 @@ class Stream:
     files: Tuple[pathlib.Path, ...] = ()
 
     def most(self) -> int:
-        """So many bytes of replies are read, and no more."""
+        """The most bytes of replies that are read."""
         return len(self.replies) + MAX_SHOW * sum(int(found[1]) for found in FOLDED.finditer(self.replies)) + MORE
 
     def words(self) -> List[str]:
-        """The options of a program that has another quota than the usual one."""
+        """The options of a program for its quota; none for the usual one."""
         names = ("--sessions", "--atoms", "--branches")
         return [] if self.quota == USUAL else [word for pair in zip(names, map(str, self.quota)) for word in pair]
 
@@ -67,18 +67,18 @@ def folded(replies: bytes) -> bytes:
 
 
 def referred(sent: bytes, quota: Quota = USUAL) -> bytes:
-    """What the reference replies."""
+    """The replies of the reference."""
     return b"".join(replies_to(io.BytesIO(sent), User(quota)))
 
 
 def contents(path: pathlib.Path) -> bytes:
-    """What stands in a file, which may be compressed."""
+    """The contents of a file, which may be compressed."""
     data = path.read_bytes()
     return gzip.decompress(data) if path.suffix == ".gz" else data
 
 
 def stored(word: str = "") -> Iterator[Stream]:
-    """The streams of the folder whose names have a word, in the order of their names."""
+    """The streams of the folder whose names contain a word, sorted by name."""
     files = {re.sub(r"\.gz$", "", path.relative_to(FOLDER).as_posix()): path for path in FOLDER.glob("*/*")}
     for name in sorted(name[:-3] for name in files if name.endswith(".in") and word in name):
         quota = tuple(map(int, contents(files[f"{name}.quota"]).split())) if f"{name}.quota" in files else USUAL
@@ -89,7 +89,7 @@ def stored(word: str = "") -> Iterator[Stream]:
 
 
 def told_by(command: Sequence[str], stream: Stream, seconds: float) -> Tuple[bytes, str]:
-    """What a program replies to a stream, and how it ended if not with status 0. Raises `CannotStart`."""
+    """The replies of a program to a stream, and how it ended if not with status 0. Raises `CannotStart`."""
     try:
         program = subprocess.Popen(
             [*command, *stream.words()], stdin=subprocess.PIPE, stdout=subprocess.PIPE, bufsize=0, start_new_session=True
@@ -122,7 +122,7 @@ def send(pipe: BinaryIO, data: bytes) -> None:
 
 
 def take_in(pipe: BinaryIO, told: bytearray, most: int) -> None:
-    """Reads what a program writes, to its end or until that is more than so many bytes."""
+    """Reads the output of a program, to its end or until it has more than `most` bytes."""
     with pipe:
         while len(told) <= most:
             piece = pipe.read(PIECE)
@@ -143,7 +143,7 @@ def has_ended(program: "subprocess.Popen[bytes]", reader: threading.Thread, seco
 
 
 def stop(program: "subprocess.Popen[bytes]") -> None:
-    """Ends a program that has not ended, with what it has begun."""
+    """Kills a program that has not ended, and the processes that it started."""
     if program.returncode is None:
         with contextlib.suppress(OSError):
             os.killpg(program.pid, signal.SIGKILL) if hasattr(os, "killpg") else program.kill()
@@ -151,7 +151,7 @@ def stop(program: "subprocess.Popen[bytes]") -> None:
 
 
 def replay(command: Sequence[str], stream: Stream) -> str:
-    """The command line that plays a stored stream again, and the file of what it is to reply."""
+    """The command line that plays a stored stream again, and the file of the expected replies."""
     sent, replies = (shlex.quote(shortest(path)) for path in stream.files)
     program = shlex.join([*command, *stream.words()])
     again = f"zcat {sent} | {program}" if sent.endswith(".gz") else f"{program} < {sent}"
@@ -159,13 +159,13 @@ def replay(command: Sequence[str], stream: Stream) -> str:
 
 
 def shortest(path: pathlib.Path) -> str:
-    """A path as seen from here, or from the root if it is not below."""
+    """A path relative to the current folder, or from the root if it is not below that."""
     below = os.path.relpath(path)
     return str(path) if below.startswith(os.pardir) else below
 
 
 def difference(stream: Stream, told: bytes, ended: str = "") -> Optional[str]:
-    """What is told in place of what is expected, at the first byte that differs."""
+    """A report on the first byte that differs from the expected replies, or on a program that failed; else None."""
     told = folded(told) if stream.is_folded else told
     if told == stream.replies:
         return f"{stream.name}: the replies agree, but the program {ended}" if ended else None
@@ -178,7 +178,7 @@ def difference(stream: Stream, told: bytes, ended: str = "") -> Optional[str]:
 
 
 def line_of(text: bytes, number: int) -> Optional[bytes]:
-    """A line of a text, if it has so many."""
+    """A line of a text, or None if the text has fewer."""
     lines = text.split(b"\n")
     return lines[number] if number < len(lines) - 1 or number == len(lines) - 1 and lines[number] else None
 
@@ -189,7 +189,7 @@ def shown(text: Optional[bytes], most: int = 200) -> str:
 
 
 def command_of(stream: Stream, line: int) -> Optional[bytes]:
-    """The line of the command whose reply has this line, if there is one."""
+    """The line of the command whose reply has this line, or None."""
     numbers = numbers_of_replies(stream.replies)
     wanted = next((number for at, number in enumerate(numbers) if at == line), None)
     if wanted is None or line_of(stream.replies, line) is None:
@@ -201,7 +201,7 @@ def command_of(stream: Stream, line: int) -> Optional[bytes]:
 
 
 def numbers_of_replies(replies: bytes) -> Iterator[int]:
-    """For each line of replies the number of the reply that it is of. A folded line is of the first one of its places."""
+    """For each line of replies, the number of its reply. A folded line has the number of the first reply that it replaces."""
     number, more = -1, 0
     for line in replies.split(b"\n"):
         if more:

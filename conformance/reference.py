@@ -22,7 +22,7 @@ Row = Tuple[bytes, Place]
 
 
 class Refused(Exception):
-    """What is refused: the number and the name of the refusal, and the line of a body if there is one."""
+    """A refusal: its number and name, and the line of a body if there is one."""
 
 
 def unless(holds: bool, refusal: str) -> None:
@@ -48,12 +48,12 @@ def has_shape(shape: str, word: bytes) -> bool:
 
 
 def number_or_zero(word: bytes) -> int:
-    """The whole number that a word says. For a word that is none it is 0, which no place takes."""
+    """The whole number in a word, or 0, which is not valid anywhere, if the word is not a number."""
     return int(word) if has_shape("number", word) else 0
 
 
 def nano_of(word: bytes, bad_number: str = "33 XYZ_NUMBER", out_of_range: str = "34 XYZ_RANGE") -> int:
-    """The billionths that a decimal number says, halves away from zero."""
+    """A decimal number in billionths, rounded to the nearest, halves away from zero."""
     found = re.fullmatch(SHAPES["decimal"], word)
     if found is None or len(word) > 40:
         raise Refused(bad_number)
@@ -77,7 +77,7 @@ def image(a: int, b: int) -> int:
 
 
 def units_of(edge: int, length: int) -> int:
-    """How many ring units a length is, rounded down."""
+    """A length in ring units, rounded down."""
     return length * RING // edge
 
 
@@ -105,7 +105,7 @@ class Class(NamedTuple):
 
 
 def class_of_numbers(edge: int, sigma: bytes, strength: bytes, weight: bytes) -> Class:
-    """The class of three words, or the first refusal of them."""
+    """The class of three words. Raises their first refusal."""
     numbers = Class(units_of(edge, nano_of(sigma, "37 SIGMA", "37 SIGMA")), number_or_zero(strength), number_or_zero(weight))
     unless(65536 <= numbers.sigma and 5 * numbers.sigma < RING, "37 SIGMA")
     unless(1 <= numbers.strength <= 2**24, "38 STEP_FACTOR")
@@ -114,7 +114,7 @@ def class_of_numbers(edge: int, sigma: bytes, strength: bytes, weight: bytes) ->
 
 
 class Composition(NamedTuple):
-    """The classes of 0, 1 and 2 atoms of the second species; and for each atom 1 if it is of the second, else 0."""
+    """The classes of pairs with 0, 1 and 2 atoms of the second species; and for each atom 1 if it is of the second, else 0."""
 
     classes: Sequence[Class]
     seconds: Sequence[int]
@@ -130,9 +130,9 @@ class Simulation(NamedTuple):
 
 
 def pairs_in_reach(atoms: Composition, frame: Frame) -> Iterator[Tuple[int, int, Place, Class, int]]:
-    """Each pair of atoms j < i that interacts, which has a bin below 800: the images of i - j, its class and its bin.
+    """Each pair of atoms j < i that interacts, with a bin below 800: i, j, the images of i - j, its class and its bin.
 
-    Nearly all of the time is spent here, so images are written out, and pairs beyond 800 / 128 < 7 squares of sigma get no bin.
+    Nearly all of the time is spent here. So images are written out, and no bin is computed beyond 7 squares of sigma (800 / 128 < 7).
     """
     half, far = 2**31, 7 * max(each.sigma for each in atoms.classes) ** 2
     for i, (xi, yi, zi) in enumerate(frame):
@@ -149,9 +149,9 @@ def pairs_in_reach(atoms: Composition, frame: Frame) -> Iterator[Tuple[int, int,
 
 
 def forces(atoms: Composition, frame: Frame) -> List[List[int]]:
-    """For each atom the sum of the pushes of all others: entry times step factor times image, in units of 2^-56, toward zero.
+    """For each atom, the sum of the pushes of all others: entry times step factor times image over 2^56, rounded toward zero.
 
-    What j pushes i, i pushes j the other way: the images of j - i are the negatives, and rounding is toward zero.
+    The push on j is the negative of the push on i: the images of j - i are the negatives, and rounding is toward zero.
     """
     sums = [[0, 0, 0] for _ in frame]
     for i, j, images, pair, k in pairs_in_reach(atoms, frame):
@@ -173,19 +173,19 @@ def stepped(atoms: Composition, sim: Simulation) -> Simulation:
 
 
 def words_of(line: bytes) -> Words:
-    """The longest parts without a space or a tab. A carriage return at the end of the line is part of none."""
+    """The longest parts without a space or a tab. A carriage return at the end of the line is left out."""
     line = line[:-1] if line.endswith(b"\r") else line
     return [part for part in line.replace(b"\t", b" ").split(b" ") if part]
 
 
 def lines_of(text: bytes) -> List[Words]:
-    """The words of each part between line feeds. What follows the last one is a line if it has a byte."""
+    """The words of each part between line feeds. Text after the last one is a line if it is not empty."""
     parts = text.split(b"\n")
     return [words_of(part) for part in (parts if parts[-1] else parts[:-1])]
 
 
 def row_of(species: Words, words: Words) -> Row:
-    """The atom that a line says. Its symbol is one of the species, or any if there are none."""
+    """The atom of a line. Its symbol must be one of the species, or may be any if there are none."""
     unless(len(words) >= 4, "31 XYZ_SHORT")
     unless(has_shape("symbol", words[0]), "32 XYZ_SYMBOL")
     unless(not species or words[0] in species, "39 XYZ_SPECIES")
@@ -215,13 +215,13 @@ def frame_at(lines: List[Words], at: int, species: Words, atoms: Optional[int] =
 
 @dataclass
 class User:
-    """The most sessions, atoms and branches, and the sessions. Commands are methods, which return what follows the name."""
+    """The most sessions, atoms and branches, and the sessions. Commands are methods, which return the reply after the name."""
 
     most: Tuple[int, int, int]
     sessions: "Dict[str, Session]" = field(default_factory=dict)
 
     def load(self, name: str, edge_word: bytes, *words: bytes) -> str:
-        """The words of a LOAD are those of one class without a weight; those of a LOADMIX, two symbols and three classes."""
+        """A LOAD has the words of one class without a weight. A LOADMIX has two symbols and the words of three classes."""
         *numbers, mode, body = words
         species, numbers = (numbers[:2], numbers[2:]) if len(numbers) > 2 else ([], [*numbers, b"256"])
         unless(name not in self.sessions, "11 EXISTS")
@@ -284,7 +284,7 @@ class Session:
         return branch
 
     def tug(self, i: str, *displacement: str) -> str:
-        """The place of the atom one step before is moved back by the displacement."""
+        """Moves the previous place of the atom back by the displacement."""
         unless(int(i) < len(self.symbols), "14 NO_ATOM")
         prev = list(self.sim.prev)
         prev[int(i)] = tuple((before - int(moved)) % RING for before, moved in zip(prev[int(i)], displacement))
@@ -292,7 +292,7 @@ class Session:
         return f"{int(i)} {self.sim.step}"
 
     def measure(self) -> str:
-        """The sum of the images of cur - prev, that of their squares, and that of the energies of pairs, each by its weight."""
+        """The sums of the images of cur - prev, of their squares, and of the energies of pairs, each times its weight."""
         images = [[image(now, before) for now, before in zip(*places)] for places in zip(self.sim.cur, self.sim.prev)]
         x, y, z = (sum(parts) for parts in zip(*images))
         kinetic = sum(part * part for each in images for part in each)
@@ -359,7 +359,7 @@ def items_of(stream: BinaryIO) -> Iterator[Tuple[Words, bytes, str]]:
 
 
 def performed(user: User, words: Words, body: bytes, fault: str) -> str:
-    """What a line of these words does: its reply, or its first refusal. A line with a fault has no words."""
+    """Performs the words of a line: returns the reply, or raises the first refusal. A line with a fault has no words."""
     unless(bool(words), fault)
     verb, *others = words
     shapes = [each.split() for each, verbs in COMMANDS.items() if verb in verbs]

@@ -5,7 +5,7 @@ from typing import Dict, Iterable, Iterator, List, Set, Tuple
 
 from playing import Stream
 
-# The words that follow OK for the first time in the streams of a stage.
+# The words that first follow OK in the streams of this stage.
 NEW: Dict[str, Set[bytes]] = {
     "lines": {b"LIST", b"BYE"},
     "loads": {b"LOAD", b"SHOW", b"DUMP", b"DROP"},
@@ -20,9 +20,9 @@ NEW: Dict[str, Set[bytes]] = {
 STAGES = tuple(NEW)
 DONE = re.compile(rb"^OK ([A-Z]+)", re.M)
 STEPS = re.compile(rb"^OK (?:ADVANCE|START) \S+ ([0-9]+)$", re.M)
-# Streams of one step go no further than to step 2, and long runs beyond 999, where a wrong push has spread to all atoms.
+# Streams of one step reach step 2 at most. Long runs go beyond step 999, where a wrong push has spread to all atoms.
 FEW, MANY = 2, 999
-# Streams of more bytes, sent or replied, try limits.
+# Streams with more bytes, sent or replied, test limits.
 LARGE = 100_000
 
 

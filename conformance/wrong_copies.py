@@ -19,7 +19,7 @@ from playing import Stream, folded, stored  # noqa: E402
 TEXT = (pathlib.Path(__file__).resolve().parent / "reference.py").read_text()
 SLOW = ("runs/", "files/salt", "files/argon", "tables/limits", "tables/sessions", "ends/sessions", "ends/not_read_on", "motion/bins")
 
-# A text of the reference, and what stands there in each copy, by what is wrong with it.
+# A text of the reference, and its replacement in each copy, by the copy's fault.
 REPLACED: Dict[str, Dict[str, str]] = {
     "push = int_div(PUSHES[k] * pair.strength * images[axis], 2**56)": {
         "a push is rounded down": "push = PUSHES[k] * pair.strength * images[axis] // 2**56"
@@ -93,7 +93,7 @@ REPLACED: Dict[str, Dict[str, str]] = {
     },
 }
 
-# What is wrong where these two statements of the reference, one after the other, are exchanged.
+# The fault of a copy, and the two successive statements of the reference that are exchanged in it.
 EXCHANGED: Dict[str, Tuple[str, str]] = {
     "a used-up quota is found before a name that is taken": (
         'unless(name not in self.sessions, "11 EXISTS")',
@@ -111,12 +111,12 @@ EXCHANGED: Dict[str, Tuple[str, str]] = {
 
 
 def exchanged(first: str, second: str) -> Tuple[str, str]:
-    """Two statements as they stand in the reference, and the second one before the first."""
+    """Two statements with the text between them, and the same with the two exchanged."""
     between = TEXT.partition(first)[2].partition(second)[0]
     return first + between + second, second + between + first
 
 
-# What is wrong, what stands in the reference, and what stands there in the copy.
+# The fault of a copy, the text of the reference, and its replacement in the copy.
 WRONG: List[Tuple[str, str, str]] = [
     *((what, old, new) for old, copies in REPLACED.items() for what, new in copies.items()),
     *((what, *exchanged(first, second)) for what, (first, second) in EXCHANGED.items()),
@@ -124,13 +124,13 @@ WRONG: List[Tuple[str, str, str]] = [
 
 
 def quick_streams() -> List[Stream]:
-    """Those that the reference plays in no time, the shortest ones first."""
+    """The streams that the reference plays quickly, the shortest first."""
     streams = [stream for stream in stored() if not stream.name.startswith(SLOW)]
     return sorted(streams, key=lambda stream: len(stream.sent))
 
 
 def copy_with(old: str, new: str) -> Dict[str, object]:
-    """The names of a copy of the reference with one part in place of another."""
+    """The namespace of a copy of the reference with one text replaced by another."""
     if TEXT.count(old) != 1:
         raise ValueError(f"the reference has {TEXT.count(old)} times {old!r}")
     module = types.ModuleType("wrong_copy")
@@ -140,7 +140,7 @@ def copy_with(old: str, new: str) -> Dict[str, object]:
 
 
 def is_caught(copy: Dict[str, object], stream: Stream) -> bool:
-    """Whether the copy replies something else, or nothing at all."""
+    """Whether the copy has other replies, or raises an error."""
     try:
         told = b"".join(copy["replies_to"](io.BytesIO(stream.sent), copy["User"](stream.quota)))  # type: ignore[operator]
     except Exception:

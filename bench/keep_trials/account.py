@@ -10,35 +10,35 @@ sys.path.append(str(TOP / "conformance"))
 from reference import User, replies_to  # noqa: E402
 
 NAMES = ("a", "b", "c_-9")
-# What is asked to find out where a user stands.
+# Commands that show the state of a user.
 QUESTIONS = [b"LIST\n", *(f"{verb} {name}\n".encode() for name in NAMES for verb in ("LIST", "MEASURE", "DUMP"))]
 
 
 class Wrong(Exception):
-    """Something was told that cannot be."""
+    """A reply that is not possible."""
 
 
 class Account:
-    """A user as it may stand: one state, or several after replies were lost, until replies tell which it is."""
+    """The possible states of a user: one, or several after lost replies until other replies show which it is."""
 
     def __init__(self, quota: Quota):
         self._states = [User(quota)]
 
     def hear(self, item: bytes, reply: bytes) -> None:
-        """Takes the reply to an item. Raises `Wrong` if no state has it."""
+        """Takes the reply to an item. Raises `Wrong` if it fits no state."""
         replies = [next(replies_to(io.BytesIO(item), state)) for state in self._states]
         self._states = [state for state, each in zip(self._states, replies) if each == reply]
         if not self._states:
             raise Wrong(f"{reply[:200]!r} to {item[:200]!r}, and not {replies[0][:200]!r}")
 
     def lose(self, items: Sequence[bytes]) -> None:
-        """The replies to items were lost: all of them were done, or some of the first, or none."""
+        """Replies to items were lost: all items were done, or the first ones, or none."""
         states = (each for state in self._states for each in states_after(state, items))
         self._states = [*{known(state): state for state in states}.values()]
 
 
 def known(state: User) -> str:
-    """All that is known of a user, by which states are told apart."""
+    """All data of a user, by which states are distinguished."""
     rows = [(name, each.edge, each.symbols, each.atoms, each.sim, each.saved) for name, each in state.sessions.items()]
     return repr(rows)
 

@@ -1,4 +1,4 @@
-"""A PostgreSQL whose databases are only for trials. It ends with this process, however that ends."""
+"""A PostgreSQL for trials only. It ends with this process, however the process ends."""
 import contextlib
 import ctypes
 import glob
@@ -16,26 +16,26 @@ from typing import Any, Dict, List, Optional, Sequence
 from keep_trials.keeper import SECONDS, until
 
 SET_PDEATHSIG = 1
-# What is written need not outlast the machine.
+# Data need not survive a crash of the machine.
 SETTINGS = {"fsync": "off", "full_page_writes": "off", "listen_addresses": "", "max_connections": "100", "shared_buffers": "32MB"}
 
 
 def missing() -> str:
-    """What is not installed that a cluster needs, or nothing."""
+    """Why there can be no cluster, or an empty string."""
     if importlib.util.find_spec("psycopg2") is None:
         return "psycopg2 is not installed"
     return "" if folder_of_programs() else "PostgreSQL is not installed"
 
 
 def folder_of_programs() -> Optional[str]:
-    """Where the programs of the latest PostgreSQL are."""
+    """The folder with the latest PostgreSQL's programs."""
     found = sorted(glob.glob("/usr/lib/postgresql/*/bin/initdb"), key=lambda path: float(path.split("/")[4]))
     path = found[-1] if found else shutil.which("initdb")
     return path and os.path.dirname(path)
 
 
 def user_of_cluster() -> Dict[str, Any]:
-    """As whom it runs, since root may not."""
+    """The user to run it as, since root may not."""
     if os.getuid():
         return {}
     for name in ("postgres", "nobody"):
@@ -46,10 +46,10 @@ def user_of_cluster() -> Dict[str, Any]:
 
 
 class Cluster:
-    """A PostgreSQL with many databases, which is reached by a socket in its folder."""
+    """A PostgreSQL with many databases, reached by a socket in its folder."""
 
     def __init__(self, of: "Optional[Cluster]" = None):
-        """One that is new, or the standby of another one."""
+        """A new cluster, or the standby of another one."""
         self._programs = folder_of_programs()
         self._as = user_of_cluster()
         self._numbers = itertools.count(1)
@@ -63,7 +63,7 @@ class Cluster:
             self.begin()
 
     def follow(self, other: "Cluster") -> None:
-        """Becomes the standby of another one, with nothing of its own. From then on that writes nothing without it."""
+        """Drops its data, and becomes the standby of another cluster, which commits nothing without it from then on."""
         shutil.rmtree(self.folder / "data", ignore_errors=True)
         way = f"host={other.folder} user=keep application_name=standby"
         self._run("pg_basebackup", "-D", str(self.folder / "data"), "-R", "-c", "fast", "-d", way)
@@ -73,14 +73,14 @@ class Cluster:
         until(lambda: other.ask("postgres", "select sync_state from pg_stat_replication") == [("sync",)])
 
     def promote(self) -> None:
-        """Goes on in the place of the one that it follows, and waits for no standby."""
+        """Takes over from the cluster that it follows, and waits for no standby."""
         assert self.ask("postgres", "select pg_promote()") == [(True,)]
 
     def _run(self, program: str, *words: str) -> None:
         subprocess.run([f"{self._programs}/{program}", *words], stdout=subprocess.DEVNULL, check=True, timeout=SECONDS, cwd="/", **self._as)
 
     def begin(self) -> None:
-        """Begins it, and waits until it answers."""
+        """Starts it, and waits until it answers."""
         words = [f"--{name}={value}" for name, value in SETTINGS.items()]
         with open(self.folder / "log", "ab") as log:
             self.child = subprocess.Popen(
@@ -96,7 +96,7 @@ class Cluster:
         return False
 
     def address(self, database: str, *others: "Cluster") -> str:
-        """How a database is reached, here or at others."""
+        """The address of a database, here or at others."""
         return f"postgresql://keep@/{database}?host={','.join(str(each.folder) for each in (self, *others))}"
 
     def new(self, *others: "Cluster") -> str:
@@ -106,7 +106,7 @@ class Cluster:
         return self.address(name, *others)
 
     def ask(self, database: str, words: str, values: Sequence[Any] = ()) -> List[Any]:
-        """What some words find in a database of this name, or at this address. Raises RuntimeError if it does not answer."""
+        """The result of a query in a database of this name or address. Raises RuntimeError if it does not answer."""
         import psycopg2
 
         address = database if "://" in database else self.address(database)
@@ -132,5 +132,5 @@ class Cluster:
 
 
 def die_with_parent() -> None:
-    """Has the system end the process as soon as its parent has ended."""
+    """Makes the system end the process as soon as its parent has ended."""
     ctypes.CDLL(None).prctl(SET_PDEATHSIG, signal.SIGQUIT)

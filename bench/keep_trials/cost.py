@@ -1,4 +1,4 @@
-"""The time of a front beside that of a server: commands one at a time, and many users at once."""
+"""The times of a front and of a server: commands one at a time, and many users at once."""
 import contextlib
 import pathlib
 import socket
@@ -27,7 +27,7 @@ Ways = Dict[str, Callable[[], Dict[str, float]]]
 
 
 class Talk:
-    """A conversation of a user who is in, with two atoms."""
+    """A conversation of a connected user, with two atoms."""
 
     def __init__(self, stream: socket.socket, name: str):
         self._stream, self._lines = stream, stream.makefile("rb")
@@ -56,7 +56,7 @@ class Talk:
 
 
 def ways_of(program: str, syncs: Sequence[str], folder: pathlib.Path, commands: int, before: Optional[str]) -> Ways:
-    """Each way to a server, and what measures it: that of `before` is another `tools/keep`."""
+    """The function that measures each way to a server; `before` is another `tools/keep`."""
     ways: Ways = {"without the tool": partial(of_server, program, commands)}
     tools = {"": TOOL, **({", before": (sys.executable, before)} if before else {})}
     for sync in syncs:
@@ -68,7 +68,7 @@ def ways_of(program: str, syncs: Sequence[str], folder: pathlib.Path, commands: 
 
 
 def cost(found: Findings, ways: Ways, rounds: int) -> Iterator[str]:
-    """Measures all ways in turn, keeps the least of each figure, and tells it."""
+    """Measures all ways in turn, and stores and yields the least of each figure."""
     for way, measured in in_turn(ways, rounds, to_and_fro=True).items():
         for name in measured[0]:
             unit = "ms" if name.startswith("a lesson") else "us"
@@ -91,7 +91,7 @@ def of_database(program: str, folder: pathlib.Path, commands: int) -> Dict[str, 
 
 
 def of_keeper(keeper: Keeper, commands: int) -> Dict[str, float]:
-    """Commands one at a time, the processor time of the front for each, and how long users wait who work at the same time."""
+    """Commands one at a time, the front's processor time for each, and the waits of users who work at the same time."""
     until(keeper.is_ready)
     talk = Talk(keeper.raw(NAMES[0]), NAMES[0])
     before = processor_seconds(keeper.child)
@@ -103,7 +103,7 @@ def of_keeper(keeper: Keeper, commands: int) -> Dict[str, float]:
 
 
 def of_server(program: str, commands: int) -> Dict[str, float]:
-    """The same commands at a server by itself."""
+    """The same commands without a front."""
     child, port = begun(program, user_line("user0", TOKEN, USUAL), options_of(2, 1, None))
     with contextlib.closing(socket.create_connection(("127.0.0.1", port))) as stream:
         stream.setsockopt(socket.IPPROTO_TCP, socket.TCP_NODELAY, 1)
@@ -116,12 +116,12 @@ def of_server(program: str, commands: int) -> Dict[str, float]:
 
 
 def of_talk(talk: Talk, commands: int) -> Dict[str, float]:
-    """The median of each command, in microseconds."""
+    """The median time of each command, in microseconds."""
     return {name: statistics.median(talk.time_of(item) for _ in range(commands)) for name, item in COMMANDS.items()}
 
 
 def times_of_a_lesson(talk: Talk, begin: float) -> List[float]:
-    """How long each of one user's ADVANCEs takes, which come at a steady rate."""
+    """The time of each ADVANCE of one user, who sends them at a steady rate."""
     times = []
     for turn in range(SECONDS_OF_A_LESSON * ADVANCES_A_SECOND):
         time.sleep(max(begin + turn / ADVANCES_A_SECOND - time.monotonic(), 0))
@@ -130,7 +130,7 @@ def times_of_a_lesson(talk: Talk, begin: float) -> List[float]:
 
 
 def of_lesson(keeper: Keeper, names: Sequence[str]) -> Dict[str, float]:
-    """How many milliseconds replies take while all users ask for some ADVANCEs a second, each at times of its own."""
+    """Milliseconds of replies while all users send ADVANCEs at the same rate, each user at different times."""
     talks = [Talk(keeper.raw(name), name) for name in names]
     begin = time.monotonic() + 1
     with ThreadPoolExecutor(len(names)) as threads:

@@ -14,7 +14,7 @@ STATUS = "select text from note where front > 0 and name = 'status.json' order b
 
 
 class Front(Keeper):
-    """`tools/keep` at a database."""
+    """`tools/keep` over a database."""
 
     def __init__(
         self, top: pathlib.Path, cluster: Cluster, store: str, program: str, users: Dict[str, Quota], options: Sequence[str],
@@ -43,14 +43,14 @@ class Fronts:
         self._next = itertools.cycle(self.each)
 
     def raw(self, name: str) -> socket.socket:
-        """A connection to the next front that has said who it is."""
+        """A connection to the next front that has sent its HELLO."""
         return next(self._next).raw(name)
 
     def is_ready(self) -> bool:
         return all(front.is_ready() for front in self.each)
 
     def kill_one(self, rnd: random.Random, of_servers: float) -> None:
-        """Kills a front with its server, or so often of 1 a server alone, which is begun again."""
+        """Kills and restarts a front with its server, or, with probability `of_servers`, kills a server alone."""
         front = rnd.choice(self.each)
         if rnd.random() < of_servers:
             front.kill_one_server(rnd)

@@ -21,13 +21,13 @@ Kept = TypeVar("Kept", bound="Keeper")
 
 
 def patched(words: str) -> List[str]:
-    """The tool after some words of Python."""
+    """The tool, run after some Python code."""
     run = f"import runpy, sys; sys.path.insert(0, {str(TOP / 'tools')!r})\n{words}\n"
     return [sys.executable, "-c", f"{run}runpy.run_path({str(TOP / 'tools' / 'keep')!r}, None, '__main__')"]
 
 
 def until(holds: Callable[[], Any]) -> Any:
-    """Waits until something holds, and returns what it is."""
+    """Waits until `holds()` is true, and returns its value."""
     end = time.monotonic() + SECONDS
     while not (found := holds()):
         if time.monotonic() > end:
@@ -37,7 +37,7 @@ def until(holds: Callable[[], Any]) -> Any:
 
 
 def is_alive(process: int) -> bool:
-    """Whether a process runs: one that has ended and was not waited for does not."""
+    """Whether a process runs; a zombie does not."""
     try:
         return pathlib.Path(f"/proc/{process}/stat").read_text().rpartition(")")[2].split()[0] != "Z"
     except OSError:
@@ -45,14 +45,14 @@ def is_alive(process: int) -> bool:
 
 
 class Keeper:
-    """`tools/keep` in front of a program, for users of one token, each with a quota."""
+    """`tools/keep` in front of a program, for users with the same token, each with a quota."""
 
     def __init__(
         self, top: pathlib.Path, program: str, users: Dict[str, Quota], options: Sequence[str] = (), tool: Sequence[str] = TOOL,
         more: Sequence[str] = ("--workers", "2"), prepare: Optional[Callable[[], None]] = None, store: str = "",
     ):  # fmt: skip
-        """`more` are the words of the server behind its users, and `prepare` is called in the process of the front. What is kept is in
-        a folder if no other store is said."""
+        """`more` are the server's words after its users, and `prepare` is called in the process of the front. The store is a folder if
+        no other one is given."""
         self.folder, self.users, self.log = top / "kept", top / "users", top / "log"
         self.store = store or str(self.folder)
         self.program, self.options, self.tool, self.more, self.prepare = program, options, tool, more, prepare
@@ -66,7 +66,7 @@ class Keeper:
         self.users.chmod(0o600)
 
     def begin(self) -> None:
-        """Begins the front, and waits until it listens."""
+        """Starts the front, and waits until it listens."""
         kept = ["127.0.0.1:0", self.store, "--log", str(self.log), *self.options]
         words = [*self.tool, *kept, "--", self.program, "serve", "--users", str(self.users), *self.more]
         before = len(self.events("listens"))
@@ -79,7 +79,7 @@ class Keeper:
             self.port = int(str(self.events("listens")[-1]["at"]).rpartition(":")[2])
 
     def events(self, event: str) -> List[Dict[str, Any]]:
-        """The events of a kind that are in the log so far."""
+        """The events of this kind in the log so far."""
         lines = self.log.read_text().splitlines() if self.log.exists() else []
         return [told for line in lines if (told := json.loads(line))["event"] == event]
 
@@ -96,20 +96,20 @@ class Keeper:
         return process
 
     def is_ready(self) -> bool:
-        """Whether there is a server, and each user that is not stopped may come in at once."""
+        """Whether there is a server, and each user that is not stopped is let in at once."""
         known = self.known()
         is_there = known["server"] is not None and known["process"] == self.child.pid
         return is_there and all(each["state"] in ("ready", "stopped") for each in known["users"].values())
 
     def kill_server(self) -> int:
-        """Kills the server, waits until another one is there, and returns that."""
+        """Kills the server, waits for another one, and returns its process."""
         before = self.server()
         os.kill(before, signal.SIGKILL)
         process: int = until(lambda: (now := int(self.known()["server"] or 0)) != before and now)
         return process
 
     def kill_one_server(self, rnd: random.Random) -> None:
-        """Kills one of the servers, and waits until there is another one in its place."""
+        """Kills one of the servers, and waits until another one replaces it."""
         restarts = self.known().get("restarts", 0)
         processes = until(lambda: [each["process"] for each in self.known()["servers"] if each["process"]])
         with contextlib.suppress(ProcessLookupError):
@@ -117,21 +117,21 @@ class Keeper:
             until(lambda: self.known().get("restarts", 0) > restarts)
 
     def kill(self) -> None:
-        """Kills the front, and waits until the server is gone with it."""
+        """Kills the front, and waits until its server has ended too."""
         server = self.known()["server"]
         self.child.kill()
         self.child.wait(SECONDS)
         until(lambda: server is None or not is_alive(server))
 
     def raw(self, name: str, token: str = TOKEN) -> socket.socket:
-        """A connection that has said who it is."""
+        """A connection that has sent its HELLO."""
         stream = socket.create_connection(("127.0.0.1", self.port), SECONDS)
         stream.setsockopt(socket.IPPROTO_TCP, socket.TCP_NODELAY, 1)
         stream.sendall(f"HELLO {name} {token}\n".encode())
         return stream
 
     def told(self, sent: bytes, name: str, token: str = TOKEN) -> bytes:
-        """What is replied to some bytes, behind which nothing comes."""
+        """The replies to some bytes, after which the input ends."""
         with self.raw(name, token) as stream:
             stream.sendall(sent)
             stream.shutdown(socket.SHUT_WR)

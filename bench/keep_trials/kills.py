@@ -16,21 +16,21 @@ from keep_trials.visitor import Entrance, Visitor, quota_of
 USERS = 8
 SECONDS_BETWEEN = (0.02, 0.4)
 SECONDS_AFTER_PROMOTION = 2.0
-# How often users break their connections off, and whether a kill may end these.
+# The probability that users break off connections, and whether a kill may cut them.
 KINDS = {"server": (0.0, False), "ends": (0.15, False), "both": (0.0, True)}
-# Of two fronts over PostgreSQL one is killed with its server, or now and then its server alone; or the database, which its standby
-# follows.
+# FRONTS kills one of two fronts over PostgreSQL with its server, or (OF_SERVERS) a server alone. DATABASES kills a database that has
+# a standby.
 FRONTS, DATABASES, OF_SERVERS = "fronts", "databases", 0.2
-# How often a kill waits until all is put back, so that others come in the middle of that.
+# The share of kills that wait until everything is ready again; the others come before that.
 OFTEN_READY = 0.75
-# A front that takes a snapshot after a few records or a moment of computing, so that kills come within many of them, and whose servers
-# lend few names, so that users have them in turn.
+# A front that takes a snapshot after few records or little computing, so that many kills come during a snapshot. Its servers have few
+# names, so that users have them in turn.
 OFTEN = patched("from ljtools.keeping import server, user; del server.NAMES[2:]\n" "user.MAX_RECORDS, user.SECONDS_OF_BUDGET = 25, 0.05")
 
 
 def kill(program: str, kind: str, kills: int, seed: str, options: Sequence[str] = (), is_often: bool = False) -> Dict[str, int]:
-    """Has users work while so many kills of a kind happen, with many snapshots or as many as is usual. Returns what was done. Raises
-    the first fault that a user found."""
+    """Lets users work during `kills` kills of a kind, with many snapshots or the usual number. Returns what was done. Raises the
+    first fault that a user found."""
     users = {name: quota_of(seed, name) for name in (f"user{number}" for number in range(USERS))}
     rnd, tool = random.Random(seed), OFTEN if is_often else TOOL
     with tempfile.TemporaryDirectory() as top:
@@ -48,7 +48,7 @@ def kill(program: str, kind: str, kills: int, seed: str, options: Sequence[str] 
 def work(
     entrance: Entrance, kills: int, seed: str, rnd: random.Random, breaks: float, may_be_cut: bool, kill_one: Callable[[], None]
 ) -> Dict[str, int]:
-    """Has users come in while so many kills happen. Returns what they did."""
+    """Lets users work during `kills` kills. Returns what they did."""
     visitors = [Visitor(entrance, f"user{number}", seed, breaks, may_be_cut) for number in range(USERS)]
     for visitor in visitors:
         visitor.start()
@@ -63,7 +63,7 @@ def work(
 
 
 def kill_first(clusters: List[Cluster]) -> None:
-    """Kills a database, has its standby go on, and then the other way round."""
+    """Kills a database, promotes its standby, and swaps their roles."""
     first, second = clusters
     first.end(signal.SIGQUIT)
     second.promote()
@@ -73,7 +73,7 @@ def kill_first(clusters: List[Cluster]) -> None:
 
 
 def kill_and_begin(keeper: Keeper, kind: str, rnd: random.Random) -> None:
-    """Kills a server, or the front with all of them."""
+    """Kills a server, or kills and restarts the front with all servers."""
     if kind == "both":
         keeper.kill()
         keeper.begin()
@@ -82,7 +82,7 @@ def kill_and_begin(keeper: Keeper, kind: str, rnd: random.Random) -> None:
 
 
 def ended(visitors: List[Visitor]) -> Dict[str, int]:
-    """Ends all visitors, and returns what they did. Raises the fault of the first one that has one."""
+    """Ends all visitors, and returns what they did. Raises the first fault of a visitor."""
     for visitor in visitors:
         visitor.end()
     words = ("commands", "checks", "connections")

@@ -39,14 +39,14 @@ class Player:
                 self._told += data
 
     def send(self, number: int) -> None:
-        """Sends a piece, unless the connection has ended. The last one is followed by the end."""
+        """Sends a piece, unless the connection has ended. The last one ends the input."""
         with contextlib.suppress(OSError):
             self._socket.sendall(self._pieces[number])
             if number == len(self._pieces) - 1:
                 self._socket.shutdown(socket.SHUT_WR)
 
     def found(self) -> str:
-        """The wrong replies, when all have come."""
+        """The wrong replies, once all have arrived."""
         self._reader.join(SECONDS_OF_A_STREAM)
         self._socket.close()
         told = bytes(self._told)
@@ -56,7 +56,7 @@ class Player:
 
 
 def play(program: str, streams: Sequence[Stream], kills: int = KILLS, options: Sequence[str] = ()) -> Iterator[str]:
-    """Plays streams, as many at once as there are users, and kills the server after each piece. Tells what differs."""
+    """Plays streams, as many at once as there are users, and kills the server between pieces. Yields the differences."""
     for first in range(0, len(streams), AT_ONCE):
         yield from play_at_once(program, streams[first : first + AT_ONCE], kills, options)
 

@@ -21,23 +21,23 @@ MOST_AT_ONCE = 20
 
 
 def quota_of(seed: str, name: str) -> Quota:
-    """The quota of a user, which is that of each other one too."""
+    """The quota of a user, which every second user shares."""
     quota: Quota = Chance(f"{seed} {int(name[-1]) % 2}").quota
     return quota
 
 
 class Entrance(Protocol):
-    """Where a visitor comes in."""
+    """Where a visitor connects."""
 
     def raw(self, name: str) -> socket.socket:
-        """A connection that has said who it is."""
+        """A connection that has sent its HELLO."""
 
     def is_ready(self) -> bool:
-        """Whether who comes is let in at once."""
+        """Whether a visitor is let in at once."""
 
 
 class Visitor(threading.Thread):
-    """Visits a front until it is told to end. `breaks` says how often it breaks its connection off, of 1."""
+    """Visits a front until it is ended. `breaks` is the probability, per round, of breaking off its connection."""
 
     def __init__(self, entrance: Entrance, name: str, seed: str, breaks: float, may_be_cut: bool):
         super().__init__(daemon=True)
@@ -69,7 +69,7 @@ class Visitor(threading.Thread):
         return [each.raw for each in iter(reader.next, None) if not each.last_reply]
 
     def _visit(self) -> None:
-        """A connection with some rounds of items. If it ends before it should, what was done is asked on the next one."""
+        """A connection with some rounds of items. If it ends too early, the next one asks what was done."""
         try:
             with self._joined() as stream:
                 for _ in range(self._rnd.randrange(1, 30)):
@@ -86,7 +86,7 @@ class Visitor(threading.Thread):
             self._ask_in_new_connection(QUESTIONS)
 
     def _break_off(self, stream: socket.socket) -> None:
-        """Sends items, and goes away in one way or another before all replies have come."""
+        """Sends items, reads some of the replies, and closes or resets the connection."""
         items = self.items()
         heard = self._rnd.randrange(len(items) + 1)
         stream.sendall(b"".join(items))
@@ -97,7 +97,7 @@ class Visitor(threading.Thread):
         self._ask_in_new_connection(QUESTIONS)
 
     def _ask_in_new_connection(self, items: Sequence[bytes]) -> None:
-        """Asks where the user stands, as often as it takes until that is told."""
+        """Asks for the user's state in new connections, until one gets all replies."""
         while True:
             with contextlib.suppress(OSError, EOFError), self._joined() as stream:
                 self._ask(stream, items)
@@ -130,7 +130,7 @@ class Visitor(threading.Thread):
         self._hear(stream, items)
 
     def _hear(self, stream: socket.socket, items: Sequence[bytes], more: Sequence[bytes] = ()) -> None:
-        """Hears the replies to items, behind which more were sent. What is not heard is lost."""
+        """Reads the replies to items. Unread replies, and those to the `more` items sent after, are lost."""
         reader, left = ReplyReader(), list(items)
         try:
             while left:
@@ -142,7 +142,7 @@ class Visitor(threading.Thread):
             self._account.lose([*left, *more])
 
     def _take(self, left: List[bytes], replies: Sequence[bytes]) -> None:
-        """Takes replies to the first of the items that are left, which are then left no more."""
+        """Takes replies to the first of the items that are left, and removes these items."""
         for reply in replies[: len(left)]:
             self._account.hear(left.pop(0), reply)
             self.commands += 1
@@ -158,7 +158,7 @@ class Visitor(threading.Thread):
 
 
 def first_line(stream: socket.socket) -> bytes:
-    """The first line that comes, byte by byte, or what comes of it."""
+    """The first line, read byte by byte, or the part of it that arrives."""
     line = b""
     with contextlib.suppress(OSError):
         while not line.endswith(b"\n") and (byte := stream.recv(1)):

@@ -21,7 +21,7 @@ STEP = 2.0  # in fs
 
 
 def analysed(path: pathlib.Path) -> Tuple[float, Any]:
-    """The diffusion of a trajectory in 10^-5 cm^2/s, by its slope from 2 to 10 ps, and its g(r)."""
+    """The diffusion of a trajectory in 10^-5 cm^2/s, by its MSD from 2 to 10 ps, and its g(r)."""
     from ljclient.analysis import METAL, Frame, Msd, Rdf
 
     moved, pairs = Msd(lags=100, fit=(2000, 10_000)), Rdf(bins=130, r_max=13)

@@ -1,4 +1,4 @@
-"""A liquid that LAMMPS makes of a crystal, and the same one as commands for the program."""
+"""A liquid that LAMMPS melts from a crystal, and the same liquid as commands for the program."""
 from __future__ import annotations
 
 import pathlib
@@ -16,12 +16,12 @@ from ljclient.session import Session  # noqa: E402
 
 DENSITY, DT = 0.8442, 0.005
 H = round(2**32 * DT**2)
-# The lines of the atoms of a frame, as XYZ text has them.
+# The atom lines of a frame in XYZ text.
 Frame = List[str]
 
 
 class Crystal(NamedTuple):
-    """What is melted: a lattice, how many cells of it stand along each axis, and how many atoms a cell has."""
+    """The crystal to melt: a lattice, the number of cells along each axis, and the number of atoms of a cell."""
 
     lattice: str
     cells: int
@@ -33,7 +33,7 @@ class Crystal(NamedTuple):
 
 
 class Liquid(NamedTuple):
-    """What LAMMPS has made: a file that it goes on from, the last two frames, and the potential energy of an atom."""
+    """The liquid that LAMMPS made: its restart file, the last two frames, and the potential energy of an atom."""
 
     restart: str
     before: Frame
@@ -48,7 +48,7 @@ class Liquid(NamedTuple):
         return self._replace(before=list(order._for_server(self.before)), present=list(order._for_server(self.present)))
 
     def in_space(self) -> Liquid:
-        """The same atoms in the order in which the client has them."""
+        """The same atoms in the client's spatial order."""
         rows = [[round(1e9 * float(word)) for word in line.split()[1:]] for line in self.present]
         return self.in_order(Order(by_halves([(x, y, z) for x, y, z in rows])))
 
@@ -62,7 +62,7 @@ class Liquid(NamedTuple):
         return f"LOAD a {self.edge} 1 {H} pair {len(body)}\n{body}".encode()
 
     def stream(self, steps: int) -> bytes:
-        """The commands that load it and make so many steps."""
+        """The commands that load it and make `steps` steps."""
         return self.load() + f"ADVANCE a {steps}\n".encode()
 
     def loaded(self, user: User) -> Session:
@@ -75,13 +75,13 @@ def text_of(frame: Frame) -> str:
 
 
 def lammps(file: str, variables: Dict[str, object], *words: str, is_shown: bool = False) -> List[str]:
-    """The command that has LAMMPS run one of the files of this folder, and print what it does, or nothing."""
+    """The command that runs a file of this folder in LAMMPS, which prints its progress if `is_shown`."""
     said = [word for name, value in variables.items() for word in ("-var", name, str(value))]
     return ["lmp", "-log", "none", *([] if is_shown else ["-screen", "none"]), *words, "-in", str(HERE / file), *said]
 
 
 def made(folder: pathlib.Path, crystal: Crystal) -> Liquid:
-    """Has LAMMPS make the liquid, whose files are kept in a folder."""
+    """Makes the liquid with LAMMPS, and keeps its files in a folder."""
     paths = {name: folder / name for name in ("frames", "restart", "energies")}
     subprocess.run(lammps("liquid.in", {**paths, "lattice": crystal.lattice, "cells": crystal.cells}), check=True, cwd=folder)
     blocks = paths["frames"].read_text().split("ITEM: ATOMS id x y z\n")[1:]

@@ -26,12 +26,12 @@ REFUSALS = {
     90: "MEMORY",
 }
 
-# A reply: what stands after its first words as a pattern, or the number of a refusal.
+# A reply: a pattern for the part after OK and the command, or the number of a refusal.
 Form = Union[bytes, int]
 
 
 def documented(data: bytes, account: "Account") -> Iterator[bytes]:
-    """For each item of a stream the form of its reply, as a pattern, up to the last reply."""
+    """The pattern of the reply to each item of a stream, up to the last reply."""
     at = 0
     for _ in range(10**6):
         end = data.find(b"\n", at, at + 65536)
@@ -88,7 +88,7 @@ def has_shape(shape: bytes, word: bytes) -> bool:
 
 @dataclass
 class Session:
-    """How many atoms a session has, at which step it is, which way it goes, and the step and the way of what is saved."""
+    """The number of atoms, the step and the direction of a session, and the step and direction of each branch."""
 
     atoms: int
     step: int = 0
@@ -97,8 +97,8 @@ class Session:
 
 
 class Account:
-    """What a user of the usual quota has. Each command gives the forms that its reply may have, of which one may be a change
-    that waits for it."""
+    """The sessions of a user with the usual quota. Each command returns the possible forms of its reply; `change` is made if
+    the reply is OK."""
 
     def __init__(self) -> None:
         self.sessions: Dict[bytes, Session] = {}

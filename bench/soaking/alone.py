@@ -9,7 +9,7 @@ from shared.program import Quota, run_words
 from shared.texts import shown
 from soaking.words import PATIENCE, SESSIONS, Fault, first_words, reply_end
 
-# A step of 130 atoms has so many tiles.
+# The number of tiles of a step of 130 atoms.
 MOST_TILES = 6
 
 
@@ -43,8 +43,8 @@ class Alone:
 
 
 class Tiles:
-    """How many tiles a server computes for items: those that were answered, and at most those that may have been. Steps that
-    were started may be pending at the end, and the tiles of a step be computed once more for the next connection."""
+    """The tiles that a server computes for items: at least `sure`, and at most `unsure` more. Started steps may be pending at
+    the end of a connection, and the tiles of a step may be computed again for the next connection."""
 
     def __init__(self) -> None:
         self.sure, self.unsure, self.is_started = 0, 0, False

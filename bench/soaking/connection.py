@@ -11,19 +11,19 @@ from soaking.words import PATIENCE, Fault, reply_end
 
 
 def connected_from_anywhere(port: int, room: Optional[int] = None) -> socket.socket:
-    """A connection from any loopback address: one alone has too few ports for so many connections in a minute."""
+    """A connection from a random loopback address, since one has too few ports for so many connections a minute."""
     return connected(port, PATIENCE, room, f"127.0.0.{random.randrange(1, 255)}")
 
 
 class Connection:
-    """A connection, with all that it was told."""
+    """A connection, with all bytes received."""
 
     def __init__(self, port: int, room: Optional[int] = None) -> None:
         self.socket = connected_from_anywhere(port, room)
         self.seen, self.is_over, self.is_said = bytearray(), False, False
 
     def send(self, data: bytes, size: int = 1 << 20, pause: float = 0) -> None:
-        """Sends bytes in pieces. Where the other end has ended the connection, what it told is still to be read."""
+        """Sends bytes in pieces. If the other end has closed the connection, its replies can still be read."""
         try:
             for at in range(0, len(data), size):
                 self.socket.sendall(data[at : at + size])
@@ -54,7 +54,7 @@ class Connection:
             self.hear()
 
     def hear_reply(self, at: int) -> int:
-        """Reads on to the end of the reply that begins at `at`, and returns where that is."""
+        """Reads to the end of the reply that begins at `at`, and returns where it ends."""
         end = reply_end(self.seen, at)
         while end < 0 and not self.is_over:
             self.hear()

@@ -51,7 +51,7 @@ class Plan:
         self.said = whole[: rnd.randrange(len(whole) + 1)] if self.breaks and self.breaks != "deaf" else whole
 
     def whole_items(self) -> Tuple[List[bytes], bool]:
-        """The items that are said whole, and whether the last words are too."""
+        """The items that are sent whole, and whether any of `last_said` is sent."""
         ends = list(itertools.accumulate(map(len, self.items)))
         count = sum(end <= len(self.said) for end in ends)
         return self.items[:count], count == len(self.items) and len(self.said) > (ends or [0])[-1]

@@ -5,7 +5,7 @@ from typing import Any, Callable, Iterable, List, Sequence, Tuple
 
 
 def started(work: Callable[..., None], shares: Iterable[Tuple[Any, ...]]) -> List[Pipe]:
-    """A process for each of these shares of the work, which is told a pipe as well; and the other ends of the pipes."""
+    """The pipes to new processes, one for each share of the work; the last argument of a process is the other end."""
     pipes = []
     for share in shares:
         ours, theirs = multiprocessing.Pipe()
@@ -15,7 +15,7 @@ def started(work: Callable[..., None], shares: Iterable[Tuple[Any, ...]]) -> Lis
 
 
 def tell_faults(faults: Sequence[str], kept: str) -> bool:
-    """Prints the faults, and what was kept of them. Returns whether there are any."""
+    """Prints the faults, and where they are kept. Returns whether there are any."""
     for fault in faults:
         print(f"fault: {fault}")
     print(f"{len(faults)} faults" + (f", {kept}" if faults else ""))

@@ -1,4 +1,4 @@
-"""Random streams of bytes into `run`, each in a process of its own under a limit of memory and of time."""
+"""Random streams of bytes for `run`, each in its own process with a limit of memory and of time."""
 import argparse
 import os
 import re
@@ -17,7 +17,7 @@ from soaking.streams import Streams
 from soaking.words import PATIENCE, Fault, reply_end
 
 FIGURES = ["streams", "bytes", "replies", "replies of no memory", "ends without memory", "most milliseconds"]
-# A process that has found more faults than that tries no more.
+# A process stops after more faults than this.
 MOST_FAULTS = 20
 
 
@@ -31,7 +31,7 @@ def idle_memory(program: str) -> int:
 
 
 def run_bounded(program: str, data: bytes, kilobytes: int) -> Ended:
-    """What a run of these bytes ends with, which has so much memory."""
+    """How a run over these bytes ends, with a limit of memory."""
     words = [program, "run"]
     with subprocess.Popen(words, stdin=subprocess.PIPE, stdout=subprocess.PIPE, stderr=subprocess.PIPE) as child:
         resource.prlimit(child.pid, resource.RLIMIT_AS, (kilobytes << 10, kilobytes << 10))
@@ -39,7 +39,7 @@ def run_bounded(program: str, data: bytes, kilobytes: int) -> Ended:
 
 
 def check_run(data: bytes, ended: Ended) -> None:
-    """Raises a fault where a run did not end as it is documented."""
+    """Raises a fault if a run did not end as documented."""
     if ended == NO_MEMORY:
         return
     status, out, err = ended
@@ -57,7 +57,7 @@ def check_run(data: bytes, ended: Ended) -> None:
 
 
 def try_streams(options: argparse.Namespace, first: int, folder: str, deadline: float, pipe: Pipe) -> None:
-    """The process that tries every so many-th stream."""
+    """One of n processes, which tries every n-th stream."""
     streams, idle = Streams(options.seed), idle_memory(options.program)
     figures = dict.fromkeys(FIGURES, 0)
     faults: list[str] = []
@@ -80,7 +80,7 @@ def try_streams(options: argparse.Namespace, first: int, folder: str, deadline: 
 
 
 def keep(folder: str, number: int, data: bytes, told: bytes) -> None:
-    """Keeps the stream of a fault, and what it was told, in files."""
+    """Stores the stream of a fault, and its replies, in files."""
     for name, kept in [("in", data), ("out", told)]:
         with open(os.path.join(folder, f"stream_{number}.{name}"), "wb") as file:
             file.write(kept)

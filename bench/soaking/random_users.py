@@ -18,7 +18,7 @@ SERVED = re.compile(rb"served (\d+) connections, (\d+) tiles\n")
 
 
 def soak_server(options: argparse.Namespace) -> bool:
-    """Begins a server, and visits it as random users. Returns whether a fault was found."""
+    """Starts a server, and visits it as random users. Returns whether a fault was found."""
     server = Server(options, options.connections + options.connections // 10 + 2000)
     folder = options.keep or tempfile.mkdtemp(prefix="soak_")
     job = Job(options, server.port, folder)
@@ -36,7 +36,7 @@ def soak_server(options: argparse.Namespace) -> bool:
 
 
 def rounds(options: argparse.Namespace, server: Server, job: Job, pipes: Sequence[Pipe]) -> List[str]:
-    """Has all connections, in rounds with a rest after each. Returns the faults of the server."""
+    """Makes all connections, in rounds with a rest after each. Returns the faults of the server."""
     crowds = max(1, options.connections // 20 // CROWD)
     each = max(1, (options.connections - crowds * CROWD) // ROUNDS // options.users)
     idle = server.held_at_rest()
@@ -64,7 +64,7 @@ def rounds(options: argparse.Namespace, server: Server, job: Job, pipes: Sequenc
 
 
 def crowd_in(server: Server, crowds: int, pipes: Sequence[Pipe]) -> List[str]:
-    """Opens so many crowds, and waits until all clients are done with their round. Returns the faults."""
+    """Opens `crowds` crowds, and waits until all clients are done with their round. Returns the faults."""
     faults = []
     while crowds or not all(pipe.poll() for pipe in pipes):
         time.sleep(0.3)
@@ -78,7 +78,7 @@ def crowd_in(server: Server, crowds: int, pipes: Sequence[Pipe]) -> List[str]:
 
 
 def grown(held: Held, idle: Held) -> List[str]:
-    """A fault where there are more or fewer descriptors and threads than at first."""
+    """A fault if the numbers of descriptors and threads are not as at first."""
     is_as_before = (held.descriptors, held.threads) == (idle.descriptors, idle.threads)
     return [] if is_as_before else [f"the server holds {held} at rest"]
 
@@ -100,7 +100,7 @@ def last_words(server: Server, pipes: Sequence[Pipe], start: float) -> List[str]
 
 
 def faults_at_end(server: Server, found: Sequence[Found], is_counted: bool) -> List[str]:
-    """Ends the server, and returns what is wrong with what it says then. The tiles are compared where they are counted."""
+    """Ends the server, and returns the faults of its status and output. The tiles are compared if `is_counted`."""
     status, out, err = server.finish(total(found, "connections"))
     print(f"the server says: {out.decode().strip()}")
     served = SERVED.fullmatch(out)

@@ -12,7 +12,7 @@ from shared.serving import MAX_OPEN, NotBegun, begun, options_of, user_line
 from soaking.connection import connected_from_anywhere
 from soaking.words import PATIENCE, Fault, user_of
 
-# Of a crowd at least so many connections are turned away.
+# At least this many connections of a crowd are turned away.
 TURNED_AWAY = 16
 CROWD = MAX_OPEN + TURNED_AWAY
 
@@ -29,7 +29,7 @@ class Held(NamedTuple):
 
 
 class Server:
-    """A server of random users, which ends after so many connections, and how many were made beside those of the users."""
+    """A server for random users that ends after `bound` connections; `made` counts the connections besides the users' own."""
 
     def __init__(self, options: argparse.Namespace, bound: int) -> None:
         self.workers: int = options.workers
@@ -49,12 +49,12 @@ class Server:
         return Held(status_of(folder, "VmRSS"), descriptors_of(self.child.pid), status_of(folder, "Threads"))
 
     def held_at_rest(self) -> Held:
-        """What it holds once all workers are there and no connection is open."""
+        """What the server holds once all workers run and no connection is open."""
         wait_until(lambda: self.held().threads == self.workers + 1, PATIENCE)
         return self.held()
 
     def crowd(self) -> None:
-        """Opens more connections than there may be at once: of those that say nothing, all above the most are closed."""
+        """Opens more silent connections than may be open at once, and checks that those above the limit are closed."""
         crowd = [connected_from_anywhere(self.port) for _ in range(CROWD)]
         self.made += len(crowd)
         closed = closed_of(crowd)
@@ -64,14 +64,14 @@ class Server:
             raise Fault(f"of {len(crowd)} connections {closed} are turned away")
 
     def finish(self, made: int) -> Ended:
-        """Makes the connections that are left, and returns what the server ended with."""
+        """Makes the remaining connections, and returns how the server ended."""
         for _ in range(self.bound - made - self.made):
             connected_from_anywhere(self.port).close()
         return end_of(self.child, seconds=PATIENCE)
 
 
 def closed_of(crowd: List[socket.socket]) -> int:
-    """How many of these connections are closed without a byte, as soon as enough of them are."""
+    """How many of these connections are closed without a byte; waits until there are enough."""
     end = time.monotonic() + PATIENCE
     closed: List[socket.socket] = []
     while len(closed) < TURNED_AWAY and time.monotonic() < end:
@@ -88,7 +88,7 @@ def told_at_end(one: socket.socket) -> bytes:
 
 
 class Watch(threading.Thread):
-    """Notes the most that a server holds."""
+    """Records the most that a server holds."""
 
     def __init__(self, server: Server) -> None:
         super().__init__(daemon=True)

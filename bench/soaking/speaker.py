@@ -146,7 +146,7 @@ class Speaker:
         )
 
     def bent(self) -> bytes:
-        """A line that was changed somewhere, which is one item still."""
+        """A line with random changes that is still one item."""
         line = bytearray(self.rnd.choice([self.advance, self.tug, self.show, self.restore, self.reverse])()[:-1])
         for _ in range(self.rnd.randrange(1, 4)):
             line[self.rnd.randrange(len(line))] = self.rnd.choice(b" \t\r\0-+.09Az\x7f\x80\xff")
@@ -158,7 +158,7 @@ class Speaker:
 
 
 def probes() -> List[bytes]:
-    """Items that ask where a user stands, and leave it there: what it has, and places in both frames."""
+    """Items that read a user's state without changing it: sessions, branches, places in both frames."""
     asked = [b"LIST\n"]
     for name in SESSIONS:
         shows = [b"SHOW %s 0\n" % name, b"SHOW %s 1\n" % name]

@@ -11,7 +11,7 @@ KEEPS_STATE = (b"LIST", b"MEASURE", b"SHOW", b"DUMP")
 
 
 class Standing:
-    """What a user is known to have said, what it may have said after that (the tail), and a `run` that was said the same."""
+    """The known items of a user, items that it may have sent after them (the tail), and a `run` with the known ones."""
 
     def __init__(self, program: str, quota: Quota) -> None:
         self.alone = Alone(program, quota)
@@ -21,7 +21,7 @@ class Standing:
         self.commands = self.asked = 0
 
     def ask(self, item: bytes) -> bytes:
-        """Notes an item that was answered, and returns the reply of the `run`."""
+        """Records an answered item, and returns the reply of the `run`."""
         reply = self.alone.ask(item)
         self.known.append(item)
         self.tiles.note(item, reply)
@@ -29,7 +29,7 @@ class Standing:
         return reply
 
     def agree(self, item: bytes, seen: bytes, at: int) -> int:
-        """Compares the reply to an item that was answered, as far as it came through, and returns where it ends."""
+        """Compares the reply to an answered item, as far as it arrived, and returns where it ends."""
         reply = self.ask(item)
         told = seen[at : at + len(reply)]
         if told != reply[: len(told)] or len(told) < len(reply) and at + len(told) < len(seen):
@@ -37,8 +37,8 @@ class Standing:
         return at + len(told)
 
     def find(self, plan: Plan, seen: bytes, at: int) -> int:
-        """Finds after how many items of the tail the user stands as it was told, and goes there. Returns where the replies
-        to its questions end."""
+        """Brings the `run` to the state that the replies to the probes show, by the first items of the tail. Returns where these
+        replies end."""
         told = replies_from(seen, at, len(plan.probes))
         done = self.first_agreeing(plan.probes, told)
         if done is None:
@@ -52,7 +52,7 @@ class Standing:
         return at + sum(map(len, told))
 
     def first_agreeing(self, asked: List[bytes], told: List[bytes]) -> Optional[int]:
-        """After how many items of the tail these questions have these replies, if there is such a number."""
+        """After how many items of the tail the `run` gives these replies to these questions, or None."""
         is_moved = True
         for done in range(len(self.tail) + 1):
             if is_moved and [self.alone.ask(probe) for probe in asked] == told:
@@ -65,7 +65,7 @@ class Standing:
 
 
 def replies_from(seen: bytes, at: int, count: int) -> List[bytes]:
-    """So many replies, of which the first begins at `at`."""
+    """The next `count` replies, from position `at` on."""
     replies = []
     for _ in range(count):
         end = reply_end(seen, at)

@@ -21,7 +21,7 @@ class Streams:
             self.kept.append(b"LOAD a 60 3.4 131072 rest %d\n" % len(body) + body + b"ADVANCE a 1\nMEASURE a\nDUMP a\n")
 
     def stream(self, number: int) -> Tuple[bytes, int]:
-        """The stream of this number, and how many kilobytes of memory it is run in beyond what an idle run has."""
+        """The stream of this number, and its limit of memory in kilobytes, beyond the memory of an idle run."""
         rnd = random.Random(f"{self.seed} stream {number}")
         data = self.dialogue(rnd)
         for _ in range(rnd.choice([0, 1, 1, 2, 3, 5, 9, 30])):
@@ -96,7 +96,7 @@ def splice(rnd: random.Random, data: bytes, streams: Streams) -> bytes:
 
 
 def number_out(rnd: random.Random, data: bytes, _: Streams) -> bytes:
-    """Puts a limit in place of a number."""
+    """Replaces a number by a limit."""
     found = list(itertools.islice(re.finditer(rb"[0-9]+", data), 200))
     if not found:
         return data
@@ -146,7 +146,7 @@ CHANGES = [flip, flip, put, cut, leave_out, repeat, splice, number_out, number_o
 
 
 def bounded(data: bytes) -> bytes:
-    """The same with few steps in place of many, so that no stream computes for long."""
+    """The same stream with fewer steps, so that no stream computes for long."""
 
     def few(found: Match[bytes]) -> bytes:
         return found[1] + (b"%d" % (int(found[2]) % 20) if 20 < int(found[2]) <= 10**6 else found[2])

@@ -16,12 +16,12 @@ from soaking.speaker import Speaker
 from soaking.standing import Standing
 from soaking.words import Fault, user_of
 
-# What is counted of a user, by its name.
+# The counts of a user, by their names.
 Figures = Dict[str, int]
 
 
 class Job:
-    """What the processes of clients are to do."""
+    """The work of the client processes."""
 
     def __init__(self, options: argparse.Namespace, port: int, folder: str) -> None:
         self.program, self.seed, self.port, self.folder = options.program, options.seed, port, folder
@@ -30,7 +30,7 @@ class Job:
 
 
 class User:
-    """A user, with the connection that was the last, one that may be ahead, and those that say nothing."""
+    """A user, with its last plan, its next connection if that waits already, and its silent connections."""
 
     def __init__(self, job: Job, number: int) -> None:
         self.job, self.number = job, number
@@ -55,7 +55,7 @@ class User:
         return Connection(self.job.port, room)
 
     def round(self, connections: int) -> None:
-        """So many connections, the last of which asks where the user stands and ends well."""
+        """A number of connections; the last asks for the user's state and is not broken off."""
         if self.fault:
             return
         plan: Optional[Plan] = None
@@ -82,7 +82,7 @@ class User:
         return Plan(self.rnd, self.speaker, self.job.mean, self.before, last)
 
     def visit(self, plan: Plan, connection: Optional[Connection], is_last: bool = False) -> Connection:
-        """Has a connection, and compares what it was told."""
+        """Makes a connection, and compares its replies."""
         if not is_last:
             self.pass_by()
         self.ahead = None
@@ -104,7 +104,7 @@ class User:
         return connection
 
     def let_in(self, plan: Plan, connection: Optional[Connection]) -> Connection:
-        """A connection that is told the welcome, or at least may be. One that is closed without a byte is tried again."""
+        """A connection with a welcome; a hasty plan does not wait for it. One closed without a byte is tried again."""
         for _ in range(1000):
             connection = connection or self.knock(plan)
             if plan.breaks == "hasty":
@@ -119,8 +119,8 @@ class User:
         raise Fault("not let in")
 
     def queue_up(self, plan: Plan) -> Optional[List[bytes]]:
-        """Sometimes the next connection comes while this one is there: it waits, or goes away while it waits. Returns
-        what one that went away may have said."""
+        """Sometimes opens the next connection while this one is open: it waits, or leaves while it waits. Returns the
+        items that one that left may have sent."""
         way = self.rnd.random()
         if way < 0.2:
             after = Plan(self.rnd, self.speaker, self.job.mean, plan, False)
@@ -136,7 +136,7 @@ class User:
         return None
 
     def pass_by(self) -> None:
-        """Connections that are let in by no name: denied, silent, or gone before the first line ends."""
+        """Connections that give no valid name: denied, silent, or closed before the first line ends."""
         way = self.rnd.random()
         if way < 0.06:
             self.be_denied()
@@ -150,7 +150,7 @@ class User:
             self.leave_unheard(self.idle.pop())
 
     def leave_unheard(self, connection: Connection) -> None:
-        """Ends a connection that has said no line, and is told nothing."""
+        """Ends a connection that sent no line and must get no reply."""
         way = self.rnd.choice(["close", "reset", "half"])
         if way == "half":
             connection.half_close()
@@ -188,7 +188,7 @@ class User:
             raise Fault(f"{shown(line)} is told {shown(bytes(connection.seen))}")
 
     def converse(self, plan: Plan, connection: Connection) -> None:
-        """Says what is planned, and hears the replies as far as is planned."""
+        """Sends the planned items, and reads the replies as far as planned."""
         at = len(self.welcome())
         if plan.breaks == "hasty":
             connection.hear_for(self.rnd.choice([0, 0, 0.001, 0.005]))
@@ -212,7 +212,7 @@ class User:
         connection.close()
 
     def say(self, plan: Plan, connection: Connection, at: int) -> None:
-        """Sends what is to be said: each item after the reply to the one before, or in pieces."""
+        """Sends the planned bytes: each item after the reply to the one before, or in pieces."""
         data = plan.said
         if plan.is_in_step:
             for item in plan.whole_items()[0][: -1 if plan.breaks else None]:
@@ -224,7 +224,7 @@ class User:
         connection.send(data, max(plan.size, len(data) // 2000), 0.0005 if plan.is_slow else 0)
 
     def compare(self, plan: Plan, connection: Connection) -> None:
-        """Compares what was told with what `run` replies."""
+        """Compares the replies with those of `run`."""
         self.standing.tiles.connection_ends()
         seen, welcome = bytes(connection.seen), self.welcome()
         if seen[: len(welcome)] != welcome[: len(seen)]:
@@ -246,7 +246,7 @@ class User:
         self.finish(plan, seen[at:], items[done:], is_last_said)
 
     def finish(self, plan: Plan, rest: bytes, items: List[bytes], is_last_said: bool) -> None:
-        """Compares what was told after the replies, and keeps the items that may be answered."""
+        """Compares the bytes after the replies, and keeps the items without replies as the tail."""
         last = plan.last_told if is_last_said or not plan.breaks else b""
         if plan.breaks and last.startswith(rest) or not items and rest == last:
             if plan.breaks:
@@ -255,8 +255,8 @@ class User:
             raise Fault(f"told {shown(rest)} at the end in place of {shown(last)}, {len(items)} items are not answered")
 
     def keep(self, plan: Optional[Plan], connection: Optional[Connection]) -> None:
-        """Keeps the dialogue of a fault in files: what the user is known to have said, what it may have said after that, and
-        the connection of the fault."""
+        """Stores the dialogue of a fault in files: the known items of the user, the tail, and the connection of the
+        fault."""
         folder = os.path.join(self.job.folder, f"user_{self.number}")
         os.makedirs(folder, exist_ok=True)
         parts = {"known": b"".join(self.standing.known), "tail": b"".join(self.standing.tail)}
@@ -281,13 +281,13 @@ class User:
         }
 
     def leave(self) -> None:
-        """Ends the `run`. What the user may have said last may have been computed."""
+        """Ends the `run`. The server may have computed the items of the tail."""
         self.standing.tiles.may_be(self.standing.tail)
         self.standing.alone.close()
 
 
 def visit_all(job: Job, numbers: Sequence[int], pipe: Pipe) -> None:
-    """The process of some users: for each number of connections that comes, a round of them, and what came of it."""
+    """A process of some users: runs a round for each number of connections received, and sends its results."""
     users = [User(job, number) for number in numbers]
     with ThreadPoolExecutor(len(users)) as threads:
         while (connections := pipe.recv()) is not None:

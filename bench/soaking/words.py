@@ -4,19 +4,19 @@ from typing import List, Tuple
 
 from shared.program import Quota
 
-# Each wait ends within so many seconds.
+# The limit of each wait, in seconds.
 PATIENCE = 60
 SESSIONS = (b"a", b"b", b"c_-9")
-# The quotas that users have by turns.
+# The quotas of users, in turn.
 QUOTAS: List[Quota] = [(2, 130, 3), (3, 200, 4), (1, 64, 1), (2, 4, 0), (3, 400, 6), (0, 0, 0)]
 
 
 class Fault(Exception):
-    """What is not as it is documented."""
+    """A deviation from the documentation."""
 
 
 def words_of(line: bytes) -> List[bytes]:
-    """The words of a line: blanks are spaces and tabs, and a CR at its end is of no word."""
+    """The words of a line, separated by spaces and tabs, without a CR at its end."""
     line = line[:-1] if line.endswith(b"\r") else line
     return [word for word in re.split(rb"[ \t]+", line) if word]
 

@@ -1,4 +1,4 @@
-"""What conformance/run tells of a port that is just begun: its stages, the first difference, and how to play it again."""
+"""What conformance/run prints for a port that is just begun: its stages, the first difference, and how to replay it."""
 import re
 import shlex
 import subprocess
@@ -18,7 +18,7 @@ from stages import NEW, STAGES, by_stages  # noqa: E402
 
 
 def told(*words: Any) -> Tuple[Any, Any]:
-    """The status of `run` over these words, and the lines that it prints."""
+    """The status of `run` with these arguments, and the lines that it prints."""
     command = [FOLDER / "run", "--seconds", str(SECONDS), *words]
     done = subprocess.run(command, cwd=FOLDER, capture_output=True, text=True, timeout=10 * SECONDS)
     return done.returncode, (done.stdout + done.stderr).splitlines()
@@ -63,7 +63,7 @@ def test_the_first_difference_stops_it() -> None:
     ],
 )
 def test_the_line_of_replay_plays_the_stream_again(word: Any, edit: Any, pipe: Any) -> None:
-    """The quota of the stream included."""
+    """With the quota of the stream."""
     status, lines = told("--only", word, *port(edit))
     (seen,) = [line.split(": ", 1)[1] for line in lines if line.startswith("    told    : ")]
     (replay,) = [line.split(": ", 1)[1] for line in lines if line.startswith("    replay  : ")]
@@ -80,7 +80,7 @@ def test_all_stages_are_told_that_differ() -> None:
 
 
 def test_one_that_never_ends_its_replies() -> None:
-    """It is stopped, and no more is kept than 64 kB beyond what is expected."""
+    """It is stopped when its replies are more than 64 kB longer than expected."""
     stream = Stream("s", b"LIST\n", b"OK LIST 0\n")
     replies, ended = told_by(["yes", "OK LIST 0"], stream, SECONDS)
     most = len(stream.replies) + 65536
@@ -92,7 +92,7 @@ def test_one_that_never_ends_its_replies() -> None:
 
 
 def test_places_that_are_folded_are_not_too_many() -> None:
-    """A stream of 4,000 places, which stand as a hash in the file of replies."""
+    """A stream of 4,000 places, which are a hash in the file of replies."""
     (stream,) = stored("files/argon_4000")
     assert len(stream.replies) < 300
     assert told("--only", "files/argon_4000", PROGRAM, "run") == (0, ["limits: 1 of 1 agree", "1 streams agree, 0 differ"])
@@ -114,7 +114,7 @@ def test_one_that_reads_nothing_and_ends() -> None:
 
 
 def test_the_command_is_shown_as_it_was_sent() -> None:
-    """A line with a fault has no words, and is shown all the same."""
+    """A line with a fault has no words, but is shown."""
     stream = Stream("s", b"LIST\n  NONE\ta \r\n", b"OK LIST 0\nERR 06 COMMAND\n")
     assert "command : '  NONE\\ta \\r'" in present(difference(stream, b"OK LIST 0\nERR 03 SYNTAX\n"))
     lines = present(difference(Stream("s", b"LOAD a\n", b"ERR 04 BODY\n"), b"")).splitlines()

@@ -18,7 +18,7 @@ SECONDS = 600
 
 class Program(unittest.TestCase):
     def played(self, command: Any, *words: Any) -> Any:
-        """The status and the last line of a command of the folder, of which all lines are shown if it fails."""
+        """The last line of a command of the folder, which must succeed. All lines are shown if it fails."""
         line = [sys.executable, str(FOLDER / command), *words, PROGRAM, "run"]
         done = subprocess.run(line, stdout=subprocess.PIPE, stderr=subprocess.STDOUT, text=True, timeout=SECONDS)
         self.assertEqual(done.returncode, 0, done.stdout)
@@ -84,7 +84,7 @@ class Differences(unittest.TestCase):
         self.assertEqual(list(numbers_of_replies(self.REPLIES))[:9], [0, 1, 2, 2, 3, 3, 3, 3, 4])
         places = b"OK SHOW a 0 0 0 0 0\n" * 20
         told = b"OK LIST 0\n" + folded(places) + b"OK BYE\n"
-        # The hash is that of sha256sum of these 400 bytes.
+        # The hash was computed by sha256sum from these 400 bytes.
         self.assertEqual(folded(places), b"sha256 6e5297e498bffffa793d832fda371cdcfa95faf85c31c31e22ad6c4bfdcf673d of 20 lines\n")
         self.assertEqual(list(numbers_of_replies(told))[:3], [0, 1, 21])
         self.assertEqual(folded(places[:300]), places[:300])

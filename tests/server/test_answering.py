@@ -12,7 +12,7 @@ from shared.tiles import tiles_of
 from shared.words import hello, token, user, welcome
 
 
-# One step, and its energies, which are those of another tile.
+# One step, and its energies, which take another tile.
 STEPPED = [*IN_PARTS[:3], (b"MEASURE a\n", b"OK MEASURE a 1 2 0 0 0 693842 -5399727\n")]
 
 DIALOGUE = [
@@ -60,13 +60,13 @@ def test_the_stored_examples_are_answered(serve: Servers, name: str) -> None:
 
 
 def test_a_mixture_of_more_than_a_block_is_answered(serve: Servers) -> None:
-    """As the reference tells."""
+    """The replies are the reference's."""
     talk = over_blocks()
     is_told_to_one(serve, talk.stream(), talk.replies())
 
 
 def is_told_to_one(serve: Servers, data: bytes, replies: bytes) -> None:
-    """A server whose one connection sends these bytes and is told these replies."""
+    """The only connection of a server sends these bytes and gets these replies."""
     server = serve(user("A"), 1, workers=3)
     client = server.connect()
     client.send(hello("A") + data)

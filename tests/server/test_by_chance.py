@@ -1,4 +1,4 @@
-"""Dialogues of several users by chance, each over connections one after the other, beside a run alone of each user."""
+"""Random dialogues of several users, each over successive connections, compared with a run of each user alone."""
 import random
 from concurrent.futures import ThreadPoolExecutor
 from typing import Callable, Dict, List, Sequence
@@ -16,7 +16,7 @@ WAIT_FOR_ALL = "".join(f"ADVANCE {session} 0\n" for session in RANDOM_SESSIONS).
 
 
 class Dialogue:
-    """What a connection sends after HELLO, how it ends, and what it is told at the end beside the replies of `run`."""
+    """The bytes that a connection sends after HELLO, how it ends, and its last replies, which `run` does not have."""
 
     def __init__(self, rnd: random.Random) -> None:
         self.items = b"".join(random_item(rnd) for _ in range(rnd.randrange(4, 24))) + WAIT_FOR_ALL
@@ -75,7 +75,7 @@ def random_load(rnd: random.Random, session: str) -> str:
 
 
 def random_mixture(rnd: random.Random, session: str) -> str:
-    """The same of two species, or with atoms of a third one."""
+    """A random load of two species, or with atoms of a third one."""
     line, _, text = random_load(rnd, session).partition("\n")
     _, _, edge, sigma, strength, mode, size = line.split()
     symbols = rnd.choice(["XY", "XY", "XY", "XYZ"])
@@ -121,7 +121,7 @@ def test_replies_are_those_of_a_run_alone(serve: Servers, seed: int) -> None:
 
 
 def visit_in_turn(server: Server, name: str, dialogues: Sequence[Dialogue]) -> List[bytes]:
-    """Opens a user's connections in turn, each when the one before was let in. Returns what each was told."""
+    """Opens a user's connections in turn, each after the previous one was let in. Returns the replies to each."""
     told: List[bytes] = []
     waiting = knock(server, name, dialogues[0])
     for number, dialogue in enumerate(dialogues):
@@ -147,7 +147,7 @@ def knock(server: Server, name: str, dialogue: Dialogue) -> Client:
 
 
 def told_between(name: str, told: Sequence[bytes], dialogues: Sequence[Dialogue]) -> bytes:
-    """All that a user was told after each HELLO and before the ends."""
+    """The replies to a user, without those to HELLO and the last ones."""
     between = b""
     for text, dialogue in zip(told, dialogues):
         front, end = welcome(name), dialogue.last_words

@@ -1,4 +1,4 @@
-"""Users whose clients connect more often than connections may wait: who is turned away, and who finds a place all the same."""
+"""Users with more connections than may wait: who is turned away, and who gets a place despite that."""
 import select
 import time
 from typing import List
@@ -11,12 +11,12 @@ from shared.serving import DENIED, MAX_OPEN
 from shared.words import AT_ONCE, hello, user, welcome
 
 
-# So many connections of a user wait while another one is in. One more is turned away.
+# How many connections of a user wait while another one is in. One more is turned away.
 MAX_WAITING = 8
 
 
 def asks(server: Server, name: str, more: bytes = b"") -> Client:
-    """A connection that has said who it is, and has looked for no answer."""
+    """A connection that has sent HELLO, and has read no reply."""
     client = server.connect()
     client.send(hello(name) + more)
     return client
@@ -29,7 +29,7 @@ def waits(server: Server, name: str) -> Client:
 
 
 def test_eight_connections_of_a_user_wait(serve: Servers) -> None:
-    """The next ones are closed without a byte, whatever they sent behind HELLO. A wrong token is denied as ever."""
+    """The next ones are closed without a byte, whatever they sent after HELLO. A wrong token is denied as usual."""
     server = serve(user("A"), 40)
     first = server.enter("A")
     waiting = [waits(server, "A") for _ in range(MAX_WAITING)]
@@ -65,7 +65,7 @@ def test_one_more_waits_once_one_has_left(serve: Servers) -> None:
 
 
 def test_others_are_let_in_beside_sixty_four_connections_of_one_user(serve: Servers) -> None:
-    """All that do not wait are closed, and leave their places at once, although their clients keep them open."""
+    """All connections that do not wait are closed and free their places at once, though their clients keep them open."""
     server = serve(user("A") + user("B"), 200)
     first = server.enter("A")
     crowd = [asks(server, "A") for _ in range(MAX_OPEN - 1)]
@@ -78,7 +78,7 @@ def test_others_are_let_in_beside_sixty_four_connections_of_one_user(serve: Serv
 
 
 def ended(clients: List[Client]) -> List[Client]:
-    """Those whose connections the server has ended, once it has ended all but eight."""
+    """The clients whose connections the server has ended, once it has ended all but eight."""
     end = time.monotonic() + AT_ONCE
     gone: List[Client] = []
     while len(gone) < len(clients) - MAX_WAITING and time.monotonic() < end:
@@ -91,7 +91,7 @@ def ended(clients: List[Client]) -> List[Client]:
 
 
 def test_those_turned_away_leave_nothing_behind(serve: Servers, pytestconfig: pytest.Config) -> None:
-    """Many in turn, while eight wait: no memory, no descriptor and no thread stays."""
+    """Many are turned away while eight wait. No memory, no descriptor and no thread stays."""
     turned = int(pytestconfig.getoption("--connections"))
     server = serve(user("A"), turned + 40)
     first = server.enter("A")

@@ -1,4 +1,4 @@
-"""The tables of dialogues over `ljserve serve`, a user for each of them, and the state that they leave.
+"""The tables of dialogues over `ljserve serve`, with a user for each dialogue, and the state that they leave.
 
 The dialogues of a batch are played on one server at the same time, and each is a case of its own.
 """
@@ -19,14 +19,14 @@ from shared.texts import must_be
 TOKEN = "t" * 32
 MOST_USERS = 64
 AT_ONCE = 4
-# The most bytes of a piece that is sent; None is for a whole stream.
+# The most bytes of a piece that is sent. None is for a whole stream.
 SIZES = (None, 1, 7)
 SERVED = re.compile(rb"served (\d+) connections, \d+ tiles\n")
 
 
 @dataclass(frozen=True)
 class Visited:
-    """What a connection is told, whether it ended well, and whether by itself while its input was open."""
+    """The replies to a connection, whether it ended well, and whether by itself while its input was open."""
 
     told: bytes
     ended_well: bool
@@ -35,7 +35,7 @@ class Visited:
 
 @dataclass(frozen=True)
 class Batch:
-    """Dialogues of a table, from one on, which come in pieces of a size to a server over a pool, or over the usual one."""
+    """Dialogues of a table from number `first` on, sent in pieces of `size` to a server with a pool, or with the default one."""
 
     table: str
     first: int
@@ -56,14 +56,14 @@ class Batch:
 
 @dataclass(frozen=True)
 class Played:
-    """What the users of a batch were told, of a dialogue and of LIST on a second connection; and how the server ended."""
+    """The replies to each user of a batch, to a dialogue and to LIST on a second connection, and how the server ended."""
 
     visits: List[Tuple[Visited, Visited]]
     ended: Ended
 
 
 def visited(port: int, pieces: Iterator[bytes], replies: int, ends_itself: bool) -> Visited:
-    """Says these pieces on a connection of its own."""
+    """Sends these pieces on a connection of its own."""
     with connected(port) as connection:
         exchange = Exchange(connection, connection.fileno(), pieces)
         is_over = exchange.is_over(replies, ends_itself)
@@ -76,7 +76,7 @@ def greeted(number: int, pieces: Iterator[bytes]) -> Iterator[bytes]:
 
 
 def play(port: int, number: int, dialogue: Dialogue, size: Optional[int]) -> Tuple[Visited, Visited]:
-    """What the user of this number is told of a dialogue, and of LIST on a second connection."""
+    """The replies to the user of this number, to a dialogue and to LIST on a second connection."""
     name, ends_itself = f"OK HELLO u{number}\n", dialogue.ending is not Ending.INPUT
     first = visited(port, greeted(number, dialogue.pieces(size)), len(name + dialogue.replies), ends_itself)
     return first, visited(port, greeted(number, iter([b"LIST\nBYE\n"])), 0, True)
@@ -99,7 +99,7 @@ def kept() -> Dict[Batch, Played]:
 
 @pytest.fixture
 def batch_played(program: Program, kept: Dict[Batch, Played], batch: Batch) -> Played:
-    """A batch, which is played once for its cases, since these come one after the other."""
+    """A batch, which is played once for all its cases, since these run one after the other."""
     if batch not in kept:
         kept.clear()
         kept[batch] = played(program, batch)
@@ -107,7 +107,7 @@ def batch_played(program: Program, kept: Dict[Batch, Played], batch: Batch) -> P
 
 
 def batches() -> Iterator[Batch]:
-    """All tables over the usual pool, and sessions side by side over each."""
+    """All tables with the default pool, and `sessions side by side` with each pool."""
     for size in SIZES:
         for table, dialogues in TABLES.items():
             pools = [None, *POOLS] if table == "sessions side by side" else [None]
@@ -115,7 +115,7 @@ def batches() -> Iterator[Batch]:
 
 
 def cases() -> Iterator[object]:
-    """Each dialogue of each batch. All cases of a batch are tried in one process."""
+    """Each dialogue of each batch. All cases of a batch run in one process."""
     for batch in batches():
         group = pytest.mark.xdist_group(f"{batch}, {batch.first}")
         for number, each in enumerate(batch.dialogues()):
@@ -125,7 +125,7 @@ def cases() -> Iterator[object]:
 
 @pytest.mark.parametrize("batch, number, dialogue", cases())
 def test_a_dialogue_and_its_state(batch_played: Played, batch: Batch, number: Optional[int], dialogue: Optional[Dialogue]) -> None:
-    """It is answered as it says, and leaves the state that it says. At last the server has served all connections."""
+    """A dialogue gets its replies, and leaves its state. At the end the server has served all connections."""
     if number is None or dialogue is None:
         status, out, err = batch_played.ended
         served = SERVED.fullmatch(out)

@@ -69,7 +69,7 @@ def test_a_client_that_does_not_read_may_go_away(serve: Servers) -> None:
 
 
 def test_tasks_that_are_left_take_no_room(serve: Servers) -> None:
-    """Each visit ends while up to 10 tasks of its user are in the pool, so the book of 1,024 is full if they stay in it."""
+    """Each visit ends while up to 10 tasks of its user are in the pool. The book of 1,024 would be full if they stayed."""
     visits = 160
     server = serve(user("A") + user("B"), visits + 2)
     first = server.enter("A")
@@ -160,7 +160,7 @@ GOOD_TOKEN = "0123456789abcdefghijKLMNOPQRSTUV"
 
 
 def test_tokens_are_32_letters_or_digits(serve: Servers) -> None:
-    """And none is told."""
+    """No reply has a token."""
     good = GOOD_TOKEN
     server = serve(f"A {good} 1 1 1\n".encode(), 2)
     client = server.connect()

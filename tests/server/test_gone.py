@@ -1,4 +1,4 @@
-"""Clients that go away while their connections wait, and clients that take long to say who they are."""
+"""Clients that go away while their connections wait, and clients that take long to send HELLO."""
 import time
 
 from shared.loads import LOAD, LOADED, liquid, tiles_of_step
@@ -7,15 +7,15 @@ from shared.serving import MAX_OPEN
 from shared.words import hello, measured, user, welcome
 
 
-# How many seconds a client has for its first line, and how long a connection may stay silent here after it.
+# How many seconds a client has for its first line, and how many a connection is silent here after it.
 FIRST_LINE = 30
 SILENCE = 40
-# Within so many seconds a connection that waits has looked whether its client is there.
+# Within how many seconds a connection that waits has checked whether its client is there.
 LOOKED = 5
 
 
 def test_clients_that_are_gone_give_up_their_places(serve: Servers) -> None:
-    """One user connects 63 times and gives up each time, while its first connection is in; another one finds a place."""
+    """One user connects 63 times and gives up each time, while its first connection is in. Another user gets a place."""
     server = serve(user("A") + user("B"), MAX_OPEN + 100)
     first = server.enter("A")
     first.says(LOAD, LOADED)
@@ -56,7 +56,7 @@ def test_each_way_to_go_gives_up_the_place(serve: Servers) -> None:
 
 
 def test_a_client_that_waited_may_be_silent(serve: Servers) -> None:
-    """It waits until the server has looked whether it is there. The short time that such a look takes is no limit once it is let in."""
+    """It waits until the server has checked whether it is there. The short time of such a check is no limit once it is let in."""
     server = serve(user("A"), 2)
     first = server.enter("A")
     waiting = server.connect()
@@ -87,7 +87,7 @@ def test_commands_sent_with_hello_are_done(serve: Servers) -> None:
 
 
 def test_a_first_line_comes_in_time_or_not_at_all(serve: Servers) -> None:
-    """A client that says nothing and one that sends a byte a second are closed after half a minute without a byte; one that was
+    """A client that says nothing and one that sends a byte a second are closed after half a minute without a reply. One that was
     let in may stay silent for longer, and so may one that waits."""
     server = serve(user("A"), 5)
     first = server.enter("A")
@@ -113,9 +113,9 @@ def test_a_first_line_comes_in_time_or_not_at_all(serve: Servers) -> None:
 
 
 def test_what_is_left_when_a_connection_ends_is_dropped(serve: Servers) -> None:
-    """Each of many connections has a step begun and leaves at once. A worker that is woken then finds nothing of it to compute,
-    where it does not come before the connection has ended. Other work on the machine makes that frequent, so only a worker that
-    computes all of them is at fault."""
+    """Each of many connections begins a step and leaves at once. A worker that is woken finds nothing of it to compute, unless
+    it comes before the connection has ended. Other work on the machine makes that frequent, so only a worker that computes
+    all of them is at fault."""
     rounds = 60
     server = serve(user("A"), rounds + 1, workers=1)
     first = server.enter("A")

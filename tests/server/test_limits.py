@@ -46,7 +46,7 @@ ONE_STEP = b"OK ADVANCE c 1\nOK MEASURE c 1 65 0 0 0 693842 -342445638\n"
 
 @pytest.mark.parametrize("asked, told, tiles", [(b"ADVANCE c 1\nMEASURE c\n", ONE_STEP, 4), (WALK, WALKED, 502)], ids=["step", "walk"])
 def test_tasks_are_computed_beside_two_workers(serve: Servers, asked: bytes, told: bytes, tiles: int) -> None:
-    """65 atoms in a row: each step has one task of the full block, and one of it and the atom beside it."""
+    """65 atoms in a row: each step has one task for the full block, and one for it and the atom beside it."""
     server = serve(user("u0"), 1, workers=2)
     client = server.enter("u0")
     client.says(load("c", CHAIN) + asked, b"OK LOAD c 0 65\n" + told)

@@ -1,8 +1,8 @@
-"""What a server notes of its connections, and a server that closes while a connection waits.
+"""The notes of a server about its connections, and a server that closes while a connection waits.
 
-The program's notes are off, and it closes early only where 4,096 results were not awaited. So this makes a copy of the sources
-whose notes go to standard error, and in which a read that fails closes the server; has `rt try` build it, which proves nothing; and
-serves with it over both kinds of pool.
+The program's notes are off, and it closes early only if 4,096 results were not awaited. So this makes a copy of the sources:
+its notes go to standard error, and a read that fails closes the server. The copy is built by `rt try`, which proves nothing,
+and serves with both kinds of pool.
 """
 import os
 import shutil
@@ -19,7 +19,7 @@ from shared.sockets import connected, free_port, is_listened_on, reset
 from visits import COME_AND_GO, HELLO, USERS
 
 BUILD_SECONDS = 900
-# What stands in the sources, each once, and what stands in its place in the copy.
+# Texts that the sources have once each, and their replacements in the copy.
 EDITS = (
     ("ljserve/src/main.rt", "use log::sink::Discard;", "use log::sink::Console;"),
     ("ljserve/src/main.rt", "LevelFilter::Off, Discard", "LevelFilter::Info, Console(rt)"),
@@ -50,7 +50,7 @@ pytestmark = [
 
 
 def rest(client: socket.socket) -> bytes:
-    """All that is told until the end, and a mark where no end comes."""
+    """All replies until the end, and a mark if no end comes."""
     told = b""
     try:
         while piece := client.recv(1 << 16):
@@ -61,12 +61,12 @@ def rest(client: socket.socket) -> bytes:
 
 
 def told(client: socket.socket, count: int) -> bytes:
-    """The first so many bytes that are told."""
+    """The first `count` bytes of replies."""
     return client.recv(count, socket.MSG_WAITALL)
 
 
 def come_and_go(port: int) -> List[bytes]:
-    """Connections one after the other, of which four tasks are computed for the second. Returns what each is told."""
+    """Makes successive connections. Four tasks are computed for the second. Returns the replies to each."""
     seen = []
     for visit in COME_AND_GO:
         with connected(port) as client:
@@ -77,8 +77,8 @@ def come_and_go(port: int) -> List[bytes]:
 
 
 def close_while_one_waits(port: int) -> List[bytes]:
-    """A is in and A waits, and B's connection is reset, which closes the server: the one that waits is closed without a byte,
-    and the one that is in goes on. Returns what those that are let in are told, the one that waits, and the one that goes on."""
+    """One connection of A is in, another waits, and B's is reset, which closes the server. The one that waits is closed without
+    a byte, and the first stays. Returns the first replies to A and B, the replies to the one that waits, and the rest to the first."""
     with connected(port) as first, connected(port) as second, connected(port) as third:
         first.sendall(HELLO)
         seen = [told(first, len(b"OK HELLO A\n"))]
@@ -93,7 +93,7 @@ def close_while_one_waits(port: int) -> List[bytes]:
 
 @dataclass(frozen=True)
 class Case:
-    """Connections to a server over a pool, and what they are told. The cases are served by their names' order."""
+    """Connections to a server with a pool, and their replies. The cases are served in the order of their names."""
 
     name: str
     pool: str
@@ -114,14 +114,14 @@ CASES = (
 
 @dataclass
 class Served:
-    """What the connections of each case were told, and what the server printed."""
+    """The replies to the connections of each case, and the output of the server."""
 
     told: Dict[str, List[bytes]]
     printed: Dict[str, str]
 
 
 def copy_edited(folder: Path) -> None:
-    """A copy of the crates with the edits in it."""
+    """Copies the crates, with the edits."""
     shutil.copytree(os.path.join(TOP, "crates"), folder / "crates", ignore=shutil.ignore_patterns("out"))
     for name in ("crates.txt", "HANDLES"):
         shutil.copy(os.path.join(TOP, name), folder)
@@ -131,7 +131,7 @@ def copy_edited(folder: Path) -> None:
 
 
 def write_cases(folder: Path) -> Dict[str, int]:
-    """A file of users and one of words for each case, as `rt try --cases` has them. Returns their ports."""
+    """Writes a file of users and one of arguments for each case, for `rt try --cases`. Returns their ports."""
     chosen = {}
     for case in CASES:
         chosen[case.name] = free_port()
@@ -142,7 +142,7 @@ def write_cases(folder: Path) -> Dict[str, int]:
 
 
 def parts_of(output: str) -> Dict[str, str]:
-    """What was printed for each case."""
+    """The output for each case."""
     parts = {}
     for part in output.split("== ")[1:]:
         name, _, text = part.partition("\n")
@@ -151,7 +151,7 @@ def parts_of(output: str) -> Dict[str, str]:
 
 
 def is_there(port: int, builder: "subprocess.Popen[bytes]") -> bool:
-    """Whether a server comes to listen on a port before the build ends."""
+    """Whether a server listens on a port before the build ends."""
     wait_until(lambda: is_listened_on(port) or builder.poll() is not None, BUILD_SECONDS)
     return is_listened_on(port)
 
@@ -190,7 +190,7 @@ def test_what_connections_are_told(served: Served, case: Case) -> None:
 
 @pytest.mark.parametrize("name, pool", [("1_notes", "lock"), ("2_notes", "queue")], ids=POOLS)
 def test_what_is_noted(served: Served, name: str, pool: str) -> None:
-    """These lines, and no token."""
+    """The notes are these lines, without a token."""
     text = served.printed[name]
     assert [line for line in (*NOTED, TASKS_NOTED[pool]) if line not in text] == []
     assert text.count("] ") == len(NOTED) + 1

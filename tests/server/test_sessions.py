@@ -1,4 +1,4 @@
-"""Several sessions of a user at work side by side, and the steps pending when a connection ends."""
+"""Several sessions of a user that advance side by side, and steps pending when a connection ends."""
 import re
 from concurrent.futures import ThreadPoolExecutor
 
@@ -13,7 +13,7 @@ from shared.words import user
 
 @pytest.mark.parametrize("workers", [1, 2, 4])
 def test_eight_sessions_of_a_user_are_told_what_each_is_alone(serve: Servers, workers: int) -> None:
-    """Eight sessions of several sizes, each of which goes on by steps of its own."""
+    """Eight sessions of several sizes. Each advances by its own number of steps."""
     chain = load("a", CHAIN)
     alone = b"LOAD a 256 1 1 rest 12\n1\nc\nX 1 2 3\n"
     loads = [load_argon("a"), LOAD, chain, liquid(512), alone, load_argon("a"), chain, LOAD]
@@ -36,12 +36,12 @@ def test_eight_sessions_of_a_user_are_told_what_each_is_alone(serve: Servers, wo
 
 
 def renamed(text: bytes, number: int) -> bytes:
-    """Commands or replies of the session `a` as those of another name."""
+    """Commands or replies of the session `a`, with another name for it."""
     return re.sub(rb"^(OK )?([A-Z]+) a\b", rb"\1\2 s%d" % number, text, flags=re.M)
 
 
 def test_one_session_is_shown_while_another_goes_on(serve: Servers) -> None:
-    """The large one is loaded first, so that its tasks come first."""
+    """The large session is loaded first, so that its tasks come first."""
     server = serve(user("A"), 1, workers=2)
     client = server.enter("A")
     client.says(load_argon("a"), b"OK LOAD a 0 256\n")
@@ -58,7 +58,7 @@ def test_one_session_is_shown_while_another_goes_on(serve: Servers) -> None:
 
 
 def test_pending_steps_are_done_for_the_next_connection(serve: Servers) -> None:
-    """Two steps are pending when a connection ends, whatever way. A step that was begun for it is begun anew for the next one."""
+    """Two steps are pending when a connection ends in any way. A step that was begun for it is begun again for the next one."""
     ways = [
         ("by BYE", b"BYE\n", b"OK BYE\n", Client.close),
         ("at the end of its input", b"", b"", Client.half_close),
@@ -103,7 +103,7 @@ def test_connections_come_and_go_while_a_session_goes_on(serve: Servers) -> None
     whole = serve.program.replies_alone(load_argon("a") + f"ADVANCE a {rounds * steps}\n".encode() + shows)
     client.says(shows, b"".join(whole.splitlines(True)[2:]))
     client.leaves()
-    # What a connection had posted is posted again for the next one: a step at the most; and some of the MEASUREs are answered.
+    # Tasks that a connection had posted are posted again for the next one, at most a step. Some of the MEASUREs are answered.
     server.finish(TILES * (rounds * steps + 1), more=TILES * (rounds + rounds // 3))
 
 

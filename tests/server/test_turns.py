@@ -1,4 +1,4 @@
-"""The order in which the connections of a user are served, and what holds back nobody else."""
+"""The order in which the connections of a user are served, and clients that hold back only their user."""
 import time
 
 import pytest
@@ -124,7 +124,7 @@ def test_a_client_that_does_not_read_holds_back_only_its_user(serve: Servers) ->
 
 @pytest.mark.parametrize("count, rounds", [(28, 16), (2, 64)])
 def test_users_come_in_turn_round_after_round(serve: Servers, count: int, rounds: int) -> None:
-    """Each user's next connection waits while all are inside, who leave from the last user to the first. Every other user has
+    """Each user's next connection waits while all users are in. They leave from the last to the first. Every other user has
     a session of its own name. A connection counts as open until its thread has ended."""
     names = [f"u{number:02}" for number in range(count)]
     lists = {name: f"OK LIST 1\n{name} 0 2 0\n".encode() for name in names[::2]}

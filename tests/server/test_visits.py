@@ -1,4 +1,4 @@
-"""Connections that come one after the other to one server, of which some fail as tests/fail_streams.c has it."""
+"""Successive connections to one server, where some fail as in tests/fail_streams.c."""
 from operator import attrgetter
 from typing import Any, Dict
 

@@ -1,4 +1,4 @@
-"""Words, files and addresses with which no server begins, and outputs that fail."""
+"""Arguments, files and addresses with which no server starts, and outputs that fail."""
 import os
 import socket
 from typing import Any, Iterator, List, Tuple
@@ -126,7 +126,7 @@ def close_streams() -> None:
 
 
 def test_closed_streams_are_no_sockets(serve: Servers) -> None:
-    """No file and no socket of a server has the number of a stream that was closed as it began."""
+    """No file and no socket of a server has the number of a stream that was closed at its start."""
     server = serve(USER, 1, stdin=None, stdout=None, stderr=None, preexec_fn=close_streams)
     client = server.enter("A")
     folder = f"/proc/{server.child.pid}/fd"
@@ -144,7 +144,7 @@ def test_an_address_is_free_after_the_end(serve: Servers) -> None:
 
 
 def run_on(serve: Servers, port: int) -> Ended:
-    """What a server on this port ends with, after a connection without a line."""
+    """The status and outputs of a server on this port, after a connection without a line."""
     child = launched(serve.program.path, USER, port, options_of(2, 1, serve.pool))
     if child.poll() is None:
         connected(port).close()

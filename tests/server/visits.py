@@ -1,4 +1,4 @@
-"""Connections to a server one after the other: what each is told, and how many tiles are computed."""
+"""Successive connections to a server: the replies to each, and how many tiles are computed."""
 from dataclasses import dataclass
 from typing import Tuple
 
@@ -12,7 +12,7 @@ USERS = b"# name, token, sessions, atoms, branches\nA " + b"a" * 32 + b" 4 128 4
 
 @dataclass(frozen=True)
 class Visit:
-    """What is said on a connection and what is told, and what fails of it, as tests/fail_streams.c has it."""
+    """The bytes sent on a connection, its replies, and what fails of it, as in tests/fail_streams.c."""
 
     said: bytes
     told: bytes
@@ -21,7 +21,7 @@ class Visit:
 
 @dataclass(frozen=True)
 class Series:
-    """Connections one after the other to one server, and how many tiles are computed for all of them."""
+    """Successive connections to one server, and how many tiles are computed for all of them."""
 
     name: str
     visits: Tuple[Visit, ...]
@@ -29,7 +29,7 @@ class Series:
 
 
 def two_blocks(way: bytes, size: int) -> bytes:
-    """A LOAD of so many bytes: two full blocks, all atoms of each at one place, the second one so far along x."""
+    """A LOAD of `size` bytes: two full blocks, all atoms of each at one place, the second block `way` along x."""
     return b"LOAD f 256 1 131072 rest %d\n128\nfar\n" % size + b"X 0 0 0\n" * 64 + b"X %s 0 0\n" % way * 64
 
 
@@ -37,7 +37,7 @@ def one_visit(name: str, said: bytes, told: bytes, tiles: int) -> Series:
     return Series(name, (Visit(HELLO + said, b"OK HELLO A\n" + told),), tiles)
 
 
-# One that says BYE, one that has four tiles computed and ends, one that is denied, and one that says nothing.
+# One says BYE, one ends after four tiles were computed, one is denied, and one says nothing.
 COME_AND_GO = (
     Visit(HELLO + b"BYE\n", b"OK HELLO A\nOK BYE\n"),
     Visit(
@@ -50,7 +50,7 @@ COME_AND_GO = (
 
 SERIES = (
     one_visit("a connection is served", LOAD + b"ADVANCE a 1\nBYE\n", b"OK LOAD a 0 2\nOK ADVANCE a 1\nOK BYE\n", 1),
-    # The connection after one that fails finds no ticket of the user's before its own, and the state as it was.
+    # The connection after one that fails finds no ticket of the user before its own, and the state unchanged.
     Series(
         "connections fail before they are let in, or as they are told so",
         (
@@ -82,7 +82,7 @@ SERIES = (
         b"OK LOAD f 0 128\nOK ADVANCE f 1\nOK MEASURE f 1 128 0 0 0 0 14412589418304\n",
         4,
     ),
-    # At the cutoff of 2.5 sigma no pair interacts, and just below it each pair of the two does.
+    # At the cutoff of 2.5 sigma no pair interacts, and just below it each pair across the two does.
     one_visit(
         "blocks at the cutoff",
         two_blocks(b"2.5", 1160) + b"ADVANCE f 1\n",

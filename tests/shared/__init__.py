@@ -1,1 +1,1 @@
-"""What the programs of tests/ and of bench/ share."""
+"""Code that the programs of tests/ and of bench/ share."""

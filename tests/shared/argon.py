@@ -14,15 +14,15 @@ def load_argon(name: str) -> bytes:
 
 
 def paced_steps(client: Client, seconds: float) -> Tuple[int, int]:
-    """Advances the session `a` from step 0. Returns how far, and how many steps take about so many seconds."""
+    """Advances the session `a` from step 0. Returns by how many steps, and how many steps take about `seconds`."""
     start = time.monotonic()
     client.says(b"ADVANCE a 500\n", b"OK ADVANCE a 500\n")
     return 500, int(500 * seconds / (time.monotonic() - start)) + 1
 
 
 def long_advance(client: Client) -> Tuple[int, int]:
-    """Has the session `a` advance from step 0 until an ADVANCE still runs after a moment. Returns how far it was gone before
-    that one, and by how many steps that one goes on."""
+    """Advances the session `a` from step 0 until an ADVANCE still runs after a moment. Returns the step before that ADVANCE,
+    and its number of steps."""
     done, steps = 0, 4000
     while True:
         client.send(f"ADVANCE a {steps}\n".encode())

@@ -1,4 +1,4 @@
-"""Sends a stream in pieces and receives what is told at the same time, for the players of dialogues."""
+"""Sends a stream in pieces and receives replies at the same time, for the players of dialogues."""
 import os
 import select
 import socket
@@ -7,14 +7,14 @@ from typing import Iterable, Iterator, Optional
 
 from shared.program import SECONDS, SLOWNESS
 
-# How long one is looked at that is to wait for more input, and how long replies are waited for before the input ends.
+# How long a program is watched that should wait for more input, and how long to wait for replies before the input ends.
 MOMENT = 0.01
 PATIENCE = 2.0 * SLOWNESS
 CHUNK = 1 << 16
 
 
 class Exchange:
-    """What is sent on a socket, and told on a descriptor, which may be the same."""
+    """Bytes sent on a socket, and replies on a descriptor, which may be the same."""
 
     def __init__(self, sender: socket.socket, output: int, pieces: Iterable[bytes]) -> None:
         sender.setblocking(False)
@@ -27,8 +27,8 @@ class Exchange:
         return next(self.pieces, None)
 
     def is_over(self, replies: int, ends_itself: bool) -> bool:
-        """Sends and receives until the end of what is told, and answers whether it comes within the time limit. The
-        input is kept open, or ends once that many bytes are told."""
+        """Sends and receives until the end of the replies, and returns whether it comes within the time limit. The
+        input is kept open if `ends_itself`, or ends once `replies` bytes have come."""
         end = time.monotonic() + SECONDS
         while self.goes_on(replies, ends_itself):
             if time.monotonic() > end:
@@ -62,7 +62,7 @@ class Exchange:
             self.piece = None
 
     def receive(self) -> bool:
-        """Takes what is told. Answers false at the end."""
+        """Receives replies. Returns false at the end."""
         try:
             data = os.read(self.output, CHUNK)
         except ConnectionResetError:

@@ -1,6 +1,6 @@
-"""Frames by chance, of atoms of one species and of two, and what becomes of them.
+"""Random frames of atoms of one species and of two, and talks about them.
 
-The counts of tiles are those that blocks of 64 atoms have, in their order, where the atoms lie as the layouts say.
+The numbers of tiles hold for blocks of 64 atoms in their order, with the atoms placed by the layouts.
 """
 import random
 from dataclasses import dataclass
@@ -9,13 +9,13 @@ from typing import List, Sequence, Tuple
 from reference import RING, Class, Frame, Place, pairs_in_reach
 from shared.talks import Talk
 
-# Sixteen of them are the edge of the box.
+# The edge of the box is 16 of them.
 SIGMA = 1 << 28
 CUTOFF = 5 * (SIGMA // 2)
 ORIGIN = (0, 0, 0)
 BLOCK = 64
 
-# Three blocks, and four.
+# Atoms of three blocks, and of four.
 COUNTS = (130, 200)
 
 MOST_STRENGTH = 1 << 24
@@ -24,7 +24,7 @@ MOST_WEIGHT = 1 << 16
 
 @dataclass(frozen=True)
 class Layout:
-    """`run` atoms in each of four cubes of this width in turn, and the fewest and the most tiles of each count."""
+    """`run` atoms in each of four cubes of `width` in turn, and the fewest and the most tiles for each of COUNTS."""
 
     corners: Tuple[Place, Place, Place, Place]
     run: int
@@ -54,16 +54,16 @@ def one_cube(corner: Place, width: int) -> Layout:
 
 
 def clusters(run: int, dice: random.Random) -> Layout:
-    """So many atoms after the other in each of four places."""
+    """`run` successive atoms in each of four random places, in turn."""
     corners = anywhere(dice), anywhere(dice), anywhere(dice), anywhere(dice)
     return Layout(corners, run, 2 * SIGMA, ((3, 6), (4, 10)))
 
 
 def two_groups(run: int, apart: int, dice: random.Random) -> Layout:
-    """Two groups of 1,024 units, the second one from so many units on along x.
+    """Two groups of 1,024 units, the second one `apart` units further along x.
 
-    If they begin 2.5 sigma apart, their pairs lie on both sides of the cutoff. 1,024 units further apart all pairs
-    of both are out of reach: if each block is of one group, 2 of 6 tiles are then left out, and 4 of 10.
+    If they begin 2.5 sigma apart, their pairs are on both sides of the cutoff. 1,024 units further apart, all pairs
+    across them are out of reach: if each block is of one group, 2 of 6 tiles are then left out, and 4 of 10.
     """
     first = anywhere(dice)
     second = along(first, (apart, 0, 0))
@@ -72,26 +72,26 @@ def two_groups(run: int, apart: int, dice: random.Random) -> Layout:
 
 
 def in_six_sigma(count: int, dice: random.Random) -> Tuple[Frame, Frame]:
-    """Two frames of so many atoms in a cube of six sigma, across the edge of the box."""
+    """Two frames of `count` atoms in a cube of six sigma, across the edge of the box."""
     present = [near((RING - SIGMA, 0, RING // 2), 6 * SIGMA, dice) for _ in range(count)]
     return [near(place, 1 << 20, dice) for place in present], present
 
 
 def pairs_of_blocks_in_reach(talk: Talk) -> int:
-    """How many pairs of blocks hold two atoms within reach of each other."""
+    """The number of pairs of blocks with two atoms within reach of each other."""
     session = talk.session
     return len({(i // BLOCK, j // BLOCK) for i, j, *_ in pairs_in_reach(session.atoms, session.sim.cur)})
 
 
 def class_by_chance(dice: random.Random) -> Class:
-    """A class of up to two sigma, and of a weight of any size."""
+    """A random class of up to two sigma, with any weight."""
     weight = dice.choice((1, 255, 256, 257, MOST_WEIGHT, dice.randrange(1, MOST_WEIGHT)))
     strength = dice.choice((1, MOST_STRENGTH, dice.randrange(1, MOST_STRENGTH)))
     return Class(dice.randrange(SIGMA // 8, 2 * SIGMA), strength, weight)
 
 
 def species_by_chance(count: int, dice: random.Random) -> List[int]:
-    """By turns, by blocks, of one species but for one atom, all of one, or by chance."""
+    """Species in turn, by blocks, the same except for one atom, all the same, or random."""
     one = dice.randrange(count)
     return dice.choice(
         (
@@ -106,13 +106,13 @@ def species_by_chance(count: int, dice: random.Random) -> List[int]:
 
 
 def of_classes(before: Frame, present: Frame, dice: random.Random) -> Talk:
-    """A talk of a mixture by chance."""
+    """A talk of a random mixture."""
     classes: Sequence[Class] = [class_by_chance(dice) for _ in range(3)]
     return Talk.of_two(before, present, classes, species_by_chance(len(present), dice))
 
 
 def there_and_back(talk: Talk, dice: random.Random) -> Talk:
-    """Three steps on, and back exactly; then a tug, and two steps on."""
+    """Three steps forward, and exactly back; then a tug, and two steps."""
     first = talk.session.sim
     talk.measure()
     for _ in range(2):
@@ -131,7 +131,7 @@ def there_and_back(talk: Talk, dice: random.Random) -> Talk:
 
 
 def saved(talk: Talk, dice: random.Random) -> Talk:
-    """What is saved comes back with its species: after tugs, steps and a turn back the energy is that of before."""
+    """A branch is restored with its species: after tugs, steps and a reversal, the energy is as before."""
     talk.advance(1)
     talk.branch("k")
     talk.measure()

@@ -1,4 +1,4 @@
-"""Copies of the commands of bin/ in folders of their own, and the version that they tell."""
+"""Copies of the commands of bin/ in folders of their own, and the version that they print."""
 import os
 import re
 import shutil
@@ -10,13 +10,13 @@ from shared.program import SECONDS, TOP, Ended, contents
 
 
 def newest_version() -> str:
-    """The version whose changes stand first in the list of changes."""
+    """The version of the first changes in CHANGELOG.md."""
     found: str = re.findall(r"^## (\S+) - ", contents("CHANGELOG.md").decode(), re.MULTILINE)[0]
     return found
 
 
 def launched(folder: Path, words: Sequence[str], path: str = os.environ["PATH"], source: str = "bin/ljserve") -> Ended:
-    """The exit status, and what was written to each output, of a copy of a command in a folder's bin/."""
+    """The exit status and both outputs of a copy of a command in a folder's bin/."""
     launcher = folder / "bin" / os.path.basename(source)
     if not launcher.exists():
         launcher.parent.mkdir(parents=True, exist_ok=True)
@@ -26,7 +26,7 @@ def launched(folder: Path, words: Sequence[str], path: str = os.environ["PATH"],
 
 
 def put(text: str, path: Path, mode: int = 0o644) -> None:
-    """Writes a file, and the folder that it stands in."""
+    """Writes a file, and makes its folder."""
     path.parent.mkdir(parents=True, exist_ok=True)
     path.write_text(text)
     path.chmod(mode)

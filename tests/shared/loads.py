@@ -20,7 +20,7 @@ def load(name: str, body: str) -> bytes:
 LOAD = load("a", DIMER)
 LOADED = b"OK LOAD a 0 2\n"
 
-# Commands in parts that end anywhere, and what is told of each part before the next one comes. Their one step has a tile.
+# Commands in parts that end anywhere, and the replies to each part before the next one comes. Their one step has a tile.
 IN_PARTS = [
     (LOAD, LOADED),
     (b"ADVANCE a 1\n", b"OK ADVANCE a 1\n"),
@@ -36,7 +36,7 @@ IN_PARTS = [
 
 
 def liquid_stream(atoms: Union[int, str], *words: str) -> bytes:
-    """What `bench/liquid` prints for so many atoms, by these words."""
+    """The output of `bench/liquid` for this number of atoms, with these options."""
     command = [sys.executable, os.path.join(TOP, "bench", "liquid"), str(atoms), *words]
     return subprocess.run(command, check=True, stdout=subprocess.PIPE, timeout=SECONDS).stdout
 
@@ -48,7 +48,7 @@ def liquid(atoms: int, name: str = "a") -> bytes:
 
 
 def tiles_of_step(atoms: int) -> int:
-    """How many tiles a step has where all blocks of 64 atoms are within reach of each other: one for each pair of them,
-    and one for each with itself, but for a last one of one atom."""
+    """The number of tiles of a step if all blocks of 64 atoms are within reach of each other: one for each pair of blocks,
+    and one for each block by itself, except for a last block of one atom."""
     blocks, is_last_alone = -(-atoms // 64), atoms % 64 == 1
     return blocks * (blocks + 1) // 2 - is_last_alone

@@ -1,4 +1,4 @@
-"""Talks that are played to a program, over `run` and by schedules that count tiles."""
+"""Plays talks to a program, by `run` and by schedules that count tiles."""
 import random
 from typing import Sequence, Tuple
 
@@ -7,12 +7,12 @@ from shared.program import Program
 from shared.talks import Exchange, Talk, by_chance, lines_that_run, one_by_one, schedule_of, tiles_of, told_to_a
 from shared.texts import must_be
 
-# As many tasks as a step of four blocks has.
+# The number of tasks of a step of four blocks.
 ROUNDS = 10
 
 
 def stepped(talk: Talk) -> Talk:
-    """A session with a step of each kind."""
+    """A talk with a step of each kind."""
     talk.measure()
     talk.advance(1)
     talk.show(len(talk.session.symbols) - 1)
@@ -24,14 +24,14 @@ def must_end_well(status: object, err: bytes) -> None:
 
 
 def must_tell(program: Program, talk: Talk) -> None:
-    """All is replied as the reference tells."""
+    """All replies are the reference's."""
     status, told, err = program.run(["run"], talk.stream())
     must_end_well(status, err)
     must_be(told, talk.replies())
 
 
 def must_have_tiles(program: Program, exchanges: Sequence[Exchange], tiles: int) -> None:
-    """A step of each kind has so many tiles, and all is replied as it is to be."""
+    """A step of each kind has `tiles` tiles, and all replies are as expected."""
     status, printed, err = program.replay_of(schedule_of(exchanges, iter([one_by_one(tiles + 1)] * 2)))
     found, told = tiles_of(printed.decode(), lines_that_run(exchanges), tiles + 1)
     must_end_well(status, err)
@@ -40,8 +40,8 @@ def must_have_tiles(program: Program, exchanges: Sequence[Exchange], tiles: int)
 
 
 def must_tell_in_any_order(program: Program, talk: Talk, tiles: Tuple[int, int], dice: random.Random) -> None:
-    """The atoms are measured, moved on and shown, alone and with results that come in an order by chance, and a step has
-    as many tiles as that, and no fewer than pairs of blocks are within reach."""
+    """The atoms are measured, advanced and shown, by `run` and with results in random order. The number of tiles of a step
+    is in the range `tiles`, and at least the number of pairs of blocks within reach."""
     least, most = max(tiles[0], pairs_of_blocks_in_reach(talk)), tiles[1]
     talk.measure()
     talk.advance(1)

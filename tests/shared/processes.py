@@ -1,4 +1,4 @@
-"""Processes that are to end."""
+"""Processes that should end."""
 import subprocess
 from typing import Tuple, Union
 
@@ -6,7 +6,7 @@ from shared.program import SECONDS
 
 
 def finished(child: "subprocess.Popen[bytes]") -> Tuple[Union[int, str], bytes]:
-    """The exit status, and what was written to standard error. A child that goes on is killed."""
+    """The exit status and the standard error of a child. It is killed if it does not end in time."""
     status: Union[int, str]
     try:
         status = child.wait(SECONDS)

@@ -1,4 +1,4 @@
-"""The built program: where it is, one run of it, and what its processes hold. Needs Linux, where /proc tells the latter."""
+"""The built program: where it is, one run of it, and what its processes hold. Needs Linux: the latter is read from /proc."""
 import os
 import re
 import subprocess
@@ -9,11 +9,11 @@ from dataclasses import dataclass
 from typing import Any, Callable, Iterator, List, Optional, Sequence, Tuple, Union
 
 TOP = os.path.dirname(os.path.dirname(os.path.dirname(os.path.abspath(__file__))))
-# So many times slower may the program be than one for this machine, as under qemu: the tests wait for so much longer.
+# How many times slower the program may be than a native one, such as under qemu. The tests wait that much longer.
 SLOWNESS = float(os.environ.get("LJSERVE_SLOWNESS", "1"))
 SECONDS = 20 * SLOWNESS
 
-# The exit status of a process, or that it did not end in time, and what it wrote to each output.
+# The exit status of a process, or that it did not end in time, and its two outputs.
 Ended = Tuple[Union[int, str], bytes, bytes]
 # How many sessions, atoms and branches a user may have.
 Quota = Tuple[int, int, int]
@@ -25,7 +25,7 @@ NO_MEMORY: Ended = (3, b"", b"ljserve: no memory\n")
 
 
 def program_at(word: Optional[str]) -> str:
-    """The path of the program of this name, or else of the built one, which is built where it is missing or outdated."""
+    """The path of the program of this name, or of the built one, which is built if it is missing or outdated."""
     if word:
         return os.path.abspath(word)
     own = {**{name: word for name, word in os.environ.items() if name != "LJSERVE"}, "LJSERVE_CPU": "v2"}
@@ -34,14 +34,14 @@ def program_at(word: Optional[str]) -> str:
 
 
 def contents(*path: str) -> bytes:
-    """What stands in a file of this repository."""
+    """The bytes of a file of this repository."""
     with open(os.path.join(TOP, *path), "rb") as file:
         return file.read()
 
 
 @contextmanager
 def file_of(data: bytes) -> Iterator[str]:
-    """The path of a file of these bytes, which is there for as long as it is used."""
+    """The path of a temporary file of these bytes."""
     with tempfile.NamedTemporaryFile() as file:
         file.write(data)
         file.flush()
@@ -61,7 +61,7 @@ class Program:
     path: str
 
     def run(self, words: Sequence[Union[str, bytes]], data: bytes = b"", **streams: Any) -> Ended:
-        """How a run over this input ends."""
+        """The status and outputs of a run over this input."""
         streams = {"stdout": subprocess.PIPE, "stderr": subprocess.PIPE, **streams}
         if "stdin" not in streams:
             streams["input"] = data
@@ -72,7 +72,7 @@ class Program:
         return done.returncode, done.stdout or b"", done.stderr or b""
 
     def replay_of(self, schedule: bytes, **streams: Any) -> Ended:
-        """How a replay of a schedule of these bytes ends."""
+        """The status and outputs of a replay of this schedule."""
         with file_of(schedule) as path:
             return self.run(["replay", path], **streams)
 
@@ -85,7 +85,7 @@ class Program:
 
 
 def end_of(child: "subprocess.Popen[bytes]", data: Optional[bytes] = None, seconds: float = SECONDS) -> Ended:
-    """How a process ends over the rest of its input. One that goes on is killed."""
+    """The status and outputs of a process, after the rest of its input. It is killed if it does not end in time."""
     status: Union[int, str]
     try:
         out, err = child.communicate(data, timeout=seconds)
@@ -98,7 +98,7 @@ def end_of(child: "subprocess.Popen[bytes]", data: Optional[bytes] = None, secon
 
 
 def wait_until(holds: Callable[[], bool], seconds: float = SECONDS) -> bool:
-    """Returns whether this comes to hold within the time limit."""
+    """Returns whether a condition holds within the time limit."""
     end = time.monotonic() + seconds
     while not holds():
         if time.monotonic() > end:
@@ -108,7 +108,7 @@ def wait_until(holds: Callable[[], bool], seconds: float = SECONDS) -> bool:
 
 
 def status_of(folder: str, word: str) -> int:
-    """The number that /proc tells by this word of a process or a thread, whose folder there this is."""
+    """The number of a field in the status of a process or a thread, given its folder in /proc."""
     with open(f"{folder}/status", encoding="utf-8") as file:
         found = re.search(rf"^{word}:\s*(\d+)", file.read(), re.M)
     if found is None:

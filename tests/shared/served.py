@@ -1,4 +1,4 @@
-"""Servers that a test begins, and the connections to them as their clients see them."""
+"""Servers that a test starts, and the connections of clients to them."""
 import select
 import socket
 import subprocess
@@ -24,7 +24,7 @@ class Client:
         self.socket.sendall(data)
 
     def piece(self) -> bytes:
-        """The next bytes that come, and none at the end."""
+        """The next bytes, or none at the end."""
         try:
             piece = self.socket.recv(1 << 16)
             self.end = None if piece else "end"
@@ -35,7 +35,7 @@ class Client:
         return piece
 
     def lines(self, count: int) -> bytes:
-        """So many lines, as far as they come within the time limit."""
+        """The next `count` lines, or those that come within the time limit."""
         while self.ahead.count(b"\n") < count and (piece := self.piece()):
             self.ahead += piece
         parts = self.ahead.split(b"\n", count)
@@ -59,12 +59,12 @@ class Client:
         must_be(self.lines(reply.count(b"\n")), reply, f"the reply to {shown(data)}")
 
     def is_told_last(self, reply: bytes) -> None:
-        """Just these bytes must come, and then the end."""
+        """Exactly these bytes must come, and then the end."""
         must_be(self.rest(), reply, "the last that is told")
         assert self.end == "end", f"the connection ends by {self.end} after {shown(reply)}"
 
     def is_quiet(self, seconds: float = 0.2) -> bool:
-        """Whether nothing comes for so long."""
+        """Whether nothing comes for `seconds`."""
         return not self.ahead and not select.select([self.socket], [], [], seconds)[0]
 
     def leaves(self) -> None:
@@ -83,7 +83,7 @@ class Client:
 
 
 class Server:
-    """A server on a port, which ends after so many connections."""
+    """A server on a port, which ends after `connections` connections."""
 
     def __init__(self, child: "subprocess.Popen[bytes]", port: int, connections: int) -> None:
         self.child, self.port = child, port
@@ -103,7 +103,7 @@ class Server:
         return client
 
     def let_in(self, name: str) -> Client:
-        """A connection as this user, asked for until there is room for one more."""
+        """A connection as this user, tried until there is room for it."""
         end = time.monotonic() + AT_ONCE
         client, line = self.knock(name)
         while line == b"" and time.monotonic() < end:
@@ -113,7 +113,7 @@ class Server:
         return client
 
     def knock(self, name: str) -> Tuple[Client, bytes]:
-        """A connection as this user, and the first line that it is told, if any."""
+        """A connection as this user, and its first line of replies, if any."""
         client = self.connect()
         try:
             client.send(hello(name))
@@ -122,15 +122,15 @@ class Server:
             return client, b""
 
     def finish(self, tiles: int, more: int = 0) -> None:
-        """Opens and closes the connections that are left. The server must have computed so many tiles then, or a few more,
-        which were begun for a connection that did not wait for them."""
+        """Opens and closes the connections that are left. The server must have computed `tiles` tiles, or up to `more` in
+        addition, which were begun for a connection that did not wait for them."""
         status, out, err = self.ended()
         wanted = [f"served {self.connections} connections, {tiles + wasted} tiles\n".encode() for wasted in range(more + 1)]
         about = f"the server ends with {status}, {out!r}, {err!r}, in place of {wanted[0]!r} to {wanted[-1]!r}"
         assert status == 0 and out in wanted and err == b"", about
 
     def ended(self) -> Ended:
-        """What the server ends with, once all connections are made and closed."""
+        """The status and outputs of the server, after all connections were made and closed."""
         for client in self.clients:
             client.close()
         for _ in range(self.left):
@@ -138,11 +138,11 @@ class Server:
         return self.wait()
 
     def wait(self) -> Ended:
-        """What the server ends with."""
+        """The status and outputs of the server."""
         return end_of(self.child)
 
     def kill(self) -> None:
-        """Ends the server if it goes on, and closes the connections to it."""
+        """Kills the server if it still runs, and closes the connections to it."""
         if self.child.poll() is None:
             self.child.kill()
             self.child.communicate()
@@ -154,7 +154,7 @@ class Server:
         return descriptors_of(self.child.pid), self.threads()
 
     def threads(self) -> int:
-        """How many threads the program has. qemu, where it runs the program, has one more of its own."""
+        """How many threads the program has, without qemu's own thread if qemu runs the program."""
         return self.status("Threads") - int(is_emulated(self.child.pid))
 
     def status(self, word: str) -> int:
@@ -162,25 +162,25 @@ class Server:
 
 
 class Servers:
-    """The servers of a program over a kind of pool, or over the one that a server has if none is named."""
+    """The servers of a program with a kind of pool, or with the default one."""
 
     def __init__(self, program: Program, pool: Optional[str]) -> None:
         self.program, self.pool = program, pool
         self.begun: List[Server] = []
 
     def __call__(self, users: bytes, connections: int, workers: int = 2, **streams: Any) -> Server:
-        """A server of the users that these lines say, which ends after so many connections."""
+        """A server with the users of these lines, which ends after `connections` connections."""
         child, port = begun(self.program.path, users, options_of(workers, connections, self.pool), **streams)
         server = Server(child, port, connections)
         self.begun.append(server)
         return server
 
     def ended_with(self, users_file: str, address: str) -> Ended:
-        """What a server of this file of users ends with that cannot begin on this address."""
+        """The status and outputs of a server with this file of users that cannot start on this address."""
         return self.program.run(["serve", "--listen", address, "--users", users_file, *options_of(2, 1, self.pool)])
 
     def ended_on(self, users: bytes, address: str) -> Ended:
-        """The same of the users that these lines say."""
+        """The same for the users of these lines."""
         with file_of(users) as path:
             return self.ended_with(path, address)
 

@@ -8,14 +8,14 @@ from shared.sockets import free_port, is_listened_on
 CANNOT_LISTEN = b"ljserve: cannot listen\n"
 DENIED = b"ERR 01 DENIED\n"
 POOLS = ["lock", "queue"]
-# The one that a server has where none is named.
+# The default pool of a server.
 USUAL_POOL = "lock"
 # How many connections may be open at once.
 MAX_OPEN = 64
 
 
 class NotBegun(Exception):
-    """What a server ended with that does not listen."""
+    """The status and outputs of a server that ended before it listened."""
 
 
 def user_line(name: str, token: str, quota: Quota) -> bytes:
@@ -24,13 +24,13 @@ def user_line(name: str, token: str, quota: Quota) -> bytes:
 
 
 def options_of(workers: int, connections: int, pool: Optional[str] = None) -> List[str]:
-    """The options of a server which ends after so many connections. Where no kind of pool is named, none is said."""
+    """The options of a server that ends after `connections` connections. Without a pool, there is no --pool."""
     options = ["--workers", str(workers), "--connections", str(connections)]
     return options if pool is None else [*options, "--pool", pool]
 
 
 def launched(program: str, users: bytes, port: int, options: Sequence[str], **streams: Any) -> "subprocess.Popen[bytes]":
-    """A server on this port of the users that these lines say, as soon as it listens or has ended."""
+    """A server on this port with the users of these lines, as soon as it listens or has ended."""
     streams = {"stdin": subprocess.DEVNULL, "stdout": subprocess.PIPE, "stderr": subprocess.PIPE, **streams}
     with file_of(users) as path:
         words = [program, "serve", "--listen", f"127.0.0.1:{port}", "--users", path, *options]
@@ -40,7 +40,7 @@ def launched(program: str, users: bytes, port: int, options: Sequence[str], **st
 
 
 def begun(program: str, users: bytes, options: Sequence[str], **streams: Any) -> "Tuple[subprocess.Popen[bytes], int]":
-    """A server that listens, and its port: a free one, on which another program is quicker at times."""
+    """A server that listens, and its port. Tries another port if another program was quicker."""
     while True:
         port = free_port()
         child = launched(program, users, port, options, **streams)

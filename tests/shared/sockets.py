@@ -1,4 +1,4 @@
-"""Ports of 127.0.0.1, and connections to them. Needs Linux: who listens is read from /proc."""
+"""Ports of 127.0.0.1, and connections to them. Needs Linux: listening ports are read from /proc."""
 import os
 import secrets
 import socket
@@ -9,15 +9,15 @@ from typing import Iterator, Optional
 
 from shared.program import SECONDS
 
-# Linux's number of an option that not each Python names: a bound address takes no port before it is connected.
+# Linux's number of an option that some Pythons do not name: a bound address takes no port before it connects.
 IP_BIND_ADDRESS_NO_PORT = 24
 
-# Ports below those that Linux gives to connections, of which each process of pytest-xdist has a share.
+# Ports below those that Linux gives to connections. Each process of pytest-xdist has a share of them.
 FIRST_PORT, SHARE, SHARES = 10_000, 1_400, 16
 
 
 def ports() -> Iterator[int]:
-    """The ports of this process, from one by chance on, over and over."""
+    """The ports of this process in a cycle, from a random one on."""
     share = int(os.environ.get("PYTEST_XDIST_WORKER", "gw0")[2:]) % SHARES
     first, at = FIRST_PORT + share * SHARE, secrets.randbelow(SHARE)
     return cycle([*range(first + at, first + SHARE), *range(first, first + at)])
@@ -27,7 +27,7 @@ PORTS = ports()
 
 
 def free_port() -> int:
-    """A port that is free, and that no other process of pytest-xdist takes before it is listened on."""
+    """A free port, which no other process of pytest-xdist takes before it is used."""
     while True:
         port = next(PORTS)
         with suppress(OSError), socket.socket() as taken:
@@ -42,8 +42,8 @@ def is_listened_on(port: int) -> bool:
 
 
 def connected(port: int, seconds: float = SECONDS, room: Optional[int] = None, source: Optional[str] = None) -> socket.socket:
-    """A connection to a port, each of whose waits has this time limit. `room` is how many bytes wait to be received at
-    most, and `source` the address that the connection comes from."""
+    """A connection to a port, with a time limit of `seconds` for each wait. `room` is the size of its receive buffer in
+    bytes, and `source` its own address."""
     stream = socket.socket()
     if room is not None:
         stream.setsockopt(socket.SOL_SOCKET, socket.SO_RCVBUF, room)
@@ -57,6 +57,6 @@ def connected(port: int, seconds: float = SECONDS, room: Optional[int] = None, s
 
 
 def reset(stream: socket.socket) -> None:
-    """Closes a connection so that the other end is told of a reset."""
+    """Closes a connection with a reset."""
     stream.setsockopt(socket.SOL_SOCKET, socket.SO_LINGER, struct.pack("ii", 1, 0))
     stream.close()

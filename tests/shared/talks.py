@@ -1,7 +1,7 @@
 """Commands to one session with the replies of the reference, as a stream, and as a schedule that counts tiles.
 
-A schedule has two users. A talks, and after each result that A has taken in, B asks for a list: so the replies to B
-before A's reply tell how many tiles A's step has.
+A schedule has two users. A talks, and B asks for a list after each result that A has taken in. So there are as many
+replies to B before A's reply as A's step has tiles.
 """
 import random
 from dataclasses import dataclass
@@ -12,10 +12,10 @@ from schedule_tables.runs import user_line
 from shared.program import USUAL
 
 NANO = 10**9
-# An edge of which a billionth is a unit of the ring, so that each place is a decimal number.
+# With this edge, a unit of the ring is a billionth, so that each place is a decimal number.
 EDGE = f"{RING // NANO}.{RING % NANO:09}"
 
-# The symbol of each species, and the classes of two whose pairs have the weight of one alone.
+# The symbol of each species, and the usual strength and weight of a class. This is the weight of one species alone.
 SYMBOLS = ("X", "Yy")
 USUAL_STRENGTH, USUAL_WEIGHT = 131_072, 256
 
@@ -30,7 +30,7 @@ def billionths(units: int) -> str:
 
 
 def text_of(frame: Frame, species: Sequence[int]) -> str:
-    """A frame of XYZ text, in a box of the edge above."""
+    """A frame as XYZ text, in a box of EDGE."""
     atoms = zip(species, frame)
     lines = (f"{SYMBOLS[kind]} {billionths(x)} {billionths(y)} {billionths(z)}\n" for kind, (x, y, z) in atoms)
     return f"{len(frame)}\nframe\n{''.join(lines)}"
@@ -50,7 +50,7 @@ class Exchange:
 
 
 class Talk:
-    """A session `a`: what it is asked, and what the reference replies."""
+    """The commands to a session `a`, and the replies of the reference."""
 
     def __init__(self, load: str) -> None:
         self.user = User(USUAL)
@@ -59,7 +59,7 @@ class Talk:
 
     @staticmethod
     def of_frames(before: Frame, present: Frame, species: Sequence[int], scale_words: str, verb: str) -> "Talk":
-        """A talk of atoms in the box of the edge above. The species of each is 0 or 1."""
+        """A talk of atoms in a box of EDGE. The species of each atom is 0 or 1."""
         mode, frames = ("rest", [present]) if before == present else ("pair", [before, present])
         body = "".join(text_of(frame, species) for frame in frames)
         return Talk(load_line("a", f"{EDGE} {scale_words}", mode, body, verb))
@@ -71,7 +71,7 @@ class Talk:
 
     @staticmethod
     def of_two(before: Frame, present: Frame, classes: Sequence[Class], species: Sequence[int]) -> "Talk":
-        """A talk of atoms of two species, with the numbers of each class."""
+        """A talk of atoms of two species, with these classes."""
         words = [*SYMBOLS, *(f"{billionths(each.sigma)} {each.strength} {each.weight}" for each in classes)]
         return Talk.of_frames(before, present, species, " ".join(words), "LOADMIX")
 
@@ -126,13 +126,13 @@ def greeting() -> str:
 
 
 def one_by_one(rounds: int) -> str:
-    """So many tasks, each taken in before the next one is posted. A's command is turned as soon as it can be."""
+    """`rounds` tasks, each taken in before the next one is posted. A's command is turned as soon as possible."""
     one = f"post 1\ntake 1 0\ncompute 1\ngive 1\nfetch 1 0\n{TICK}turn 1\n"
     return "turn 1\n" + one * rounds
 
 
 def by_chance(rounds: int, dice: random.Random) -> str:
-    """Up to 16 tasks, all posted and taken, whose results are given and fetched in an order by chance."""
+    """Up to 16 tasks, all posted and taken, whose results are given and fetched in random order."""
     workers = list(range(1, rounds + 1))
     lines = ["turn 1\n", "post 1\n" * rounds]
     for event in ("take", "compute", "give"):
@@ -143,7 +143,7 @@ def by_chance(rounds: int, dice: random.Random) -> str:
 
 
 def schedule_of(exchanges: Iterable[Exchange], tasks: Iterator[str]) -> bytes:
-    """The schedule in which A says these items; the tasks of each that runs are what comes next."""
+    """The schedule in which A sends these items. Each item that runs is followed by the next of `tasks`."""
     lines = [greeting()]
     for each in exchanges:
         lines.append(f"arrive 1 {each.item}next 1\n")
@@ -158,9 +158,9 @@ def lines_that_run(exchanges: Iterable[Exchange]) -> List[bool]:
 
 
 def tiles_of(printed: str, runs: Sequence[bool], rounds: int) -> Tuple[List[int], str]:
-    """How many tiles the steps of the items that run have, of a print of that schedule, and what A was told.
+    """The number of tiles of each item that runs, and the replies to A, from the output of that schedule.
 
-    Each item that runs has so many rounds, after each of which B asks.
+    Each item that runs has `rounds` rounds. B asks after each of them.
     """
     tiles: List[int] = []
     told, ticks = "", 0

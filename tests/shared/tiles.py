@@ -8,7 +8,7 @@ LOADS = (b"LOAD", b"LOADMIX")
 
 
 def tiles_of(data: bytes, replies: bytes) -> int:
-    """How many tiles are computed for a stream of whole items that is replied to so, if all blocks of a session lie
+    """The number of tiles computed for a stream of whole items with these replies, if all blocks of a session are
     within reach of each other."""
     tiles, lines = 0, iter(replies.split(b"\n"))
     atoms: Dict[bytes, int] = {}

@@ -1,8 +1,8 @@
-"""Users of a server, with what they say first and are told."""
+"""Users of a server, their first lines and the replies to these."""
 from shared.program import SLOWNESS, USUAL, Quota
 from shared.serving import user_line
 
-# Within so many seconds is at once.
+# The number of seconds that is at once.
 AT_ONCE = 5 * SLOWNESS
 
 
@@ -24,5 +24,5 @@ def user(name: str, quota: Quota = USUAL) -> bytes:
 
 
 def measured(momentum: int) -> bytes:
-    """The reply to MEASURE of the session that LOAD loads, after its atom 0 was given so much momentum."""
+    """The reply to MEASURE of the session that LOAD loads, after atom 0 was tugged by `momentum` along x."""
     return f"OK MEASURE a 0 2 {momentum} 0 0 {momentum * momentum} -5349132\n".encode()

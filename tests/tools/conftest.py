@@ -1,4 +1,4 @@
-"""What the tests of the tools share: a server, and a PostgreSQL of its own."""
+"""Fixtures that the tests of the tools share: a server, and a PostgreSQL."""
 import contextlib
 from typing import Any, Iterator
 

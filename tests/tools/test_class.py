@@ -1,4 +1,4 @@
-"""`tools/class` begins the server of a class, makes its users, and shows who is in until it is ended."""
+"""`tools/class` starts the server of a class, makes its users, and shows who is in until it is ended."""
 import contextlib
 import os
 import pathlib
@@ -27,7 +27,7 @@ ENDED = r"the class has ended, and everything is kept in class-kept: `tools/clas
 
 @pytest.fixture
 def begin(tmp_path: pathlib.Path) -> Iterator[Any]:
-    """Begins a class in a folder of its own, which is ended with the test."""
+    """Starts a class in a folder of its own, and ends it with the test."""
     begun = []
 
     def lesson(*words: Any) -> Any:
@@ -109,7 +109,7 @@ def test_ctrl_c_is_pressed_twice_where_users_are_in(terminal: Any) -> None:
 
 
 def test_a_flood_of_one_student_shuts_nobody_out(tmp_path: pathlib.Path) -> None:
-    """More than a server has places for. Of those who wait each has its own, and the others are closed."""
+    """There are more connections than a server has places. Each one that waits has a place, and the others are closed."""
     users_file(tmp_path, GOOD + f"ben {OTHER_TOKEN} 8 16384 16\n")
     words = [*CLASS, "--users", "mine", "--plain", *HERE, "--of-an-address", "100"]
     with contextlib.closing(Terminal(words, ENVIRONMENT, cwd=tmp_path)) as begun, contextlib.ExitStack() as flood:
@@ -130,7 +130,7 @@ def test_a_flood_of_one_student_shuts_nobody_out(tmp_path: pathlib.Path) -> None
 
 
 def test_connections_of_an_address_that_are_not_in(begin: Any) -> None:
-    """Also before they are encrypted. Those of other addresses come in, and so does this one when one of them has ended."""
+    """They count even before TLS. Other addresses come in, and so does this one when one of its connections has ended."""
     lesson = begin("ann", "ben", "--of-an-address", "3")
     with contextlib.ExitStack() as crowd:
         silent = [crowd.enter_context(socket.create_connection(("127.0.0.1", lesson.port), SECONDS)) for _ in range(3)]
@@ -249,7 +249,7 @@ def test_as_many_workers_as_processors(monkeypatch: pytest.MonkeyPatch, processo
 
 
 def test_the_address_that_students_reach(monkeypatch: pytest.MonkeyPatch) -> None:
-    """Where any address is listened on, it is the one of the way to others, and a machine without one is told."""
+    """If the class listens on any address, it is the one of the route to others. Without a route there is a fault."""
     module = tool()
     with socket.create_server(("127.0.0.1", 0)) as one:
         assert module.host_of(one) == "127.0.0.1"

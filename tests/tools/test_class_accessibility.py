@@ -1,4 +1,4 @@
-"""The page of a student for those who use no mouse, or do not see it, and in another language, in Chromium."""
+"""The page of a student in Chromium, for those who use no mouse or cannot see it, and in another language."""
 import pathlib
 from typing import Any
 
@@ -15,7 +15,7 @@ CATCH = "navigator.clipboard.writeText = (text) => ((window.copied = text), Prom
 
 
 def test_names_contrast_focus_language_and_link(tmp_path: pathlib.Path) -> None:
-    """The link of the slip may say a language. That of a scene has neither the token nor what the address had."""
+    """The link of the slip may have a language. The link of a scene has neither the token nor this language."""
     with begun(tmp_path, "ann") as lesson, Browser(1280, 900, "--ignore-certificate-errors") as browser:
         before, behind = link_of(lesson.slips(), "ann")
         browser.open(f"{before}?lang=de#{behind}")

@@ -14,7 +14,7 @@ from support import DIMER, EXAMPLES, dimer
 
 pytestmark = pytest.mark.skipif(not CHROMIUM, reason="Chromium is not installed")
 
-PICTURES = os.environ.get("LJVIEW_PICTURES")  # a folder to put what the page looks like into, where somebody wants to look
+PICTURES = os.environ.get("LJVIEW_PICTURES")  # a folder for pictures of the page, if somebody wants to look
 WIDE, PHONE = (850, 900), (390, 844)
 SIZES = pytest.mark.parametrize("size", [WIDE, PHONE], ids=["850", "390"])
 FITS = "document.documentElement.scrollWidth <= innerWidth"
@@ -30,7 +30,7 @@ def lesson(tmp_path_factory: pytest.TempPathFactory) -> Iterator[PagedLesson]:
 
 @pytest.fixture
 def browser(request: pytest.FixtureRequest) -> Iterator[Any]:
-    """A browser of a size, which takes the certificate of the class."""
+    """A browser of a size, which accepts the certificate of the class."""
     width, height = request.getfixturevalue("size") if "size" in request.fixturenames else WIDE
     with Browser(width, height, "--ignore-certificate-errors") as browser:
         browser.ask("Emulation.setDeviceMetricsOverride", width=width, height=height, deviceScaleFactor=1, mobile=width < 500)
@@ -144,7 +144,7 @@ def test_what_the_teacher_says_and_the_wall(lesson: PagedLesson, browser: Any, s
     assert not browser.faults
 
 
-# Whether a picture has another colour than that of its ground somewhere in the middle.
+# Whether a picture has more than eight colours.
 IS_DRAWN = """((canvas) => {
   const { width, height } = canvas;
   const words = new Uint32Array(canvas.getContext("2d").getImageData(0, 0, width, height).data.buffer);
@@ -153,20 +153,20 @@ IS_DRAWN = """((canvas) => {
 
 
 def described(browser: Any) -> List[str]:
-    """What the accessibility tree has: the role and the name of each part that is told."""
+    """The role and the name of each part of the accessibility tree that is not ignored."""
     nodes = browser.ask("Accessibility.getFullAXTree")["nodes"]
     return [f"{node['role']['value']} {node.get('name', {}).get('value', '')}" for node in nodes if not node["ignored"]]
 
 
 def escape(browser: Any) -> None:
-    """Presses the key that closes what is open."""
+    """Presses the Escape key."""
     for what in ("keyDown", "keyUp"):
         browser.ask("Input.dispatchKeyEvent", type=what, key="Escape", code="Escape", windowsVirtualKeyCode=27)
 
 
 @SIZES
 def test_a_look_on_at_a_student_by_the_keyboard(lesson: PagedLesson, browser: Any, size: Any) -> None:
-    """Tab leads to the students, Enter looks on, and Escape leads back."""
+    """Tab reaches the students, Enter opens the look, and Escape closes it."""
     with lesson.student("cleo") as user:
         user.ask_all(f"DROP {line.split()[0]}" for line in user.ask("LIST").lines)
         dimer(user, "near").advance(2)
@@ -194,7 +194,7 @@ def test_a_look_on_at_a_student_by_the_keyboard(lesson: PagedLesson, browser: An
     assert not browser.faults
 
 
-# The least contrast of texts with what is behind them, by WCAG 2.1, and the text that has it.
+# The least contrast of a text with its background, by WCAG 2.1, and that text.
 CONTRAST = """(() => {
   const pen = document.createElement("canvas").getContext("2d", { willReadFrequently: true });
   const rgb = (colour) => {
@@ -254,7 +254,7 @@ def test_the_focus_stays_when_the_wall_changes(lesson: PagedLesson, browser: Any
 
 @SIZES
 def test_a_page_goes_on_when_the_class_does(lesson: PagedLesson, browser: Any, size: Any) -> None:
-    """As it was at the last command, with what was typed, and without being loaded again."""
+    """It is as at the last command, with what was typed, and is not loaded again."""
     with lesson.student("ann") as user:
         user.ask_all(f"DROP {line.split()[0]}" for line in user.ask("LIST").lines)
         dimer(user, "a").advance(4)

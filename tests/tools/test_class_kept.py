@@ -1,4 +1,4 @@
-"""What a class keeps: users, tokens and sessions go on by the same words, however the class or its server has ended."""
+"""What a class keeps: users, tokens and sessions continue by the same command, however the class or its server has ended."""
 import contextlib
 import os
 import pathlib
@@ -26,7 +26,7 @@ FLOODS, VANISHES = 3, 7
 
 @pytest.fixture
 def begin(tmp_path: pathlib.Path) -> Iterator[Any]:
-    """Begins a class in a folder of its own, which is ended with the test."""
+    """Starts a class in a folder of its own, and ends it with the test."""
     begun = []
 
     def lesson(*words: Any) -> Any:
@@ -62,8 +62,8 @@ def student_of(lesson: Any, number: int, gate: threading.Barrier) -> Student:
 
 
 def test_twenty_students_go_on_when_the_class_is_killed(begin: Any) -> None:
-    """One of them floods it, one has vanished within a line. What each is told is what a program alone replies, except what was on its
-    way, and so is the frame at the end."""
+    """One of them floods it, and one vanishes within a line. Each gets the replies of a program alone, except those that were on their
+    way, and the same frame at the end."""
     lesson = begin(COUNT, "--of-an-address", "100")
     before = lesson.tokens()
     gate = threading.Barrier(COUNT + 1)
@@ -78,7 +78,7 @@ def test_twenty_students_go_on_when_the_class_is_killed(begin: Any) -> None:
 
 
 def secrets_in(text: str, tokens: Dict[str, str]) -> List[str]:
-    """The tokens that stand in a text, with blanks or without."""
+    """The tokens in a text, with blanks or without."""
     return [token for token in tokens.values() if token in re.sub(r"\s", "", text)]
 
 
@@ -135,7 +135,7 @@ def test_the_same_words_go_on_after_each_end(begin: Any, end: Any) -> None:
 
 
 def test_changed_users_stay_changed(begin: Any, tmp_path: pathlib.Path) -> None:
-    """Also those of a file, whose tokens are taken once."""
+    """Also those of a file, whose tokens are read only once."""
     file = tmp_path / "mine"
     file.touch(0o600)
     file.write_text(f"ann {TOKEN} 8 16384 16\n")
@@ -157,7 +157,7 @@ def test_changed_users_stay_changed(begin: Any, tmp_path: pathlib.Path) -> None:
 
 
 def test_a_class_that_was_ended_while_it_was_made_is_made_by_the_same_words(begin: Any, tmp_path: pathlib.Path) -> None:
-    """Behind each file that is written."""
+    """After each file that is written."""
     begin("ann").kill()
     before = sorted(os.listdir(tmp_path / "class-kept"))
     assert {"class.json", "class.pem", "kept.sqlite"} < set(before)
@@ -225,7 +225,7 @@ ANOTHER = "use another folder by --keep FOLDER\n"
 
 
 def files_of(folder: Any) -> Dict[str, Tuple[int, bytes]]:
-    """All files below a folder, but for those that a database has while it is open."""
+    """All files below a folder, except those that a database has while it is open."""
     paths = [path for path in folder.rglob("*") if path.is_file() and not path.name.endswith(("-wal", "-shm"))]
     return {str(path): (path.stat().st_mode, path.read_bytes()) for path in paths}
 

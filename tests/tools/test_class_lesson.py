@@ -1,4 +1,4 @@
-"""The lesson of a class: what its pages show of it and take, what prompts post, and the file of marks."""
+"""The lesson of a class: what its pages show and accept, what prompts post, and the file of marks."""
 import asyncio
 import contextlib
 import csv
@@ -27,7 +27,7 @@ TWO = SOLUTIONS["two_atoms"]
 
 @pytest.fixture
 def lesson(tmp_path: pathlib.Path) -> Iterator[PagedLesson]:
-    """A class of ann and ben, with two atoms by hand and marks."""
+    """A class of ann and ben, with the lesson of two atoms and marks."""
     with begun(tmp_path, "ann", "ben", "--lesson", LESSONS / "two_atoms.en", "--marks", "marks.csv") as lesson:
         yield lesson
 
@@ -46,7 +46,7 @@ class Pupil:
         return [step["done"] for step in self.progress["steps"]]
 
     def says(self, line: str) -> List[str]:
-        """Types a command, and returns its reply. The page is told of the lesson what has changed."""
+        """Types a command, and returns its reply. Updates the progress."""
         told: List[str] = self.page.ask("commands", commands=[[line, ""]])["told"][0]
         self.progress = self.known()
         return told
@@ -60,7 +60,7 @@ class Pupil:
         return json.loads(answer.text)
 
     def answers(self, text: str, step: str = "") -> str:
-        """Answers the question of a step, of this one if no other is said. Returns how that is taken."""
+        """Answers the question of a step, by default the current one. Returns how the answer is taken."""
         steps, at = self.progress["steps"], self.progress["at"]
         answer = self.posts("answer", step=step or steps[min(at, len(steps) - 1)]["key"], answer=text)
         self.progress = answer["progress"]
@@ -77,7 +77,7 @@ def rows_of(folder: Any, name: str = "marks.csv") -> Dict[str, List[str]]:
 
 @pytest.mark.parametrize("name", NAMES)
 def test_a_lesson_goes_to_its_end_on_a_page(tmp_path: pathlib.Path, name: str) -> None:
-    """Before each right answer a wrong one is given, and before each command another one that is answered."""
+    """A wrong answer comes before each right one, and another command, which is answered, before each command."""
     steps = lessons.read(LESSONS / f"{name}.de").steps
     with begun(tmp_path, "ann", "--lesson", LESSONS / f"{name}.de", "--marks", "marks.csv") as begun_lesson:
         pupil = Pupil(begun_lesson, "ann")
@@ -114,7 +114,7 @@ def test_pages_are_told_of_steps_that_are_done_at_the_prompt(lesson: PagedLesson
 
 
 def test_what_a_page_asks_by_itself_is_nothing_of_the_lesson(tmp_path: pathlib.Path) -> None:
-    """It dumps each frame that it shows, and the frame of the start is what a step expects."""
+    """It dumps each frame that it shows, and a step expects a dump of the first frame."""
     with begun(tmp_path, "ann", "--lesson", LESSONS / "melting.en") as lesson:
         pupil = Pupil(lesson, "ann")
         pupil.says(SOLUTIONS["melting"][0])
@@ -153,7 +153,7 @@ def test_the_words_of_the_prompt_on_a_page(lesson: PagedLesson) -> None:
 
 
 def test_what_a_page_knows_of_a_session_that_the_prompt_has_loaded(lesson: PagedLesson) -> None:
-    """Its scale, and that its way is not known there."""
+    """The page knows its scale, but not its way since it was loaded."""
     with lesson.student("ann") as user:
         dimer(user).advance(2)
         pupil = Pupil(lesson, "ann")
@@ -168,7 +168,7 @@ def test_what_a_page_knows_of_a_session_that_the_prompt_has_loaded(lesson: Paged
 
 
 def post_of(of_class: PagedLesson, path: str, **words: Any) -> Answer:
-    """What a prompt is answered that says the token of ann."""
+    """The answer to a prompt that posts with the token of ann."""
     return of_class.ask("POST", f"/{path}", {"name": "ann", "token": of_class.tokens()["ann"], **words})
 
 
@@ -197,7 +197,7 @@ def test_answers_by_the_token_of_a_slip(lesson: PagedLesson) -> None:
 
 
 def test_what_cannot_be_kept_is_told(lesson: PagedLesson) -> None:
-    """Where the folder is gone, as when its disk is."""
+    """The folder is gone, as if its disk was."""
     pupil = Pupil(lesson, "ann")
     for line in TWO[:2]:
         pupil.says(line)
@@ -223,7 +223,7 @@ def test_who_posts_too_often_waits_and_others_do_not(lesson: PagedLesson) -> Non
 
 
 def test_of_many_posts_at_once_the_last_are_refused(monkeypatch: pytest.MonkeyPatch) -> None:
-    """20 a second: so of 150 at one moment the 101 whose turn comes within 5 seconds are taken, each of another student too."""
+    """20 a second are taken. Of 150 at one moment, 101 have their turn within 5 seconds. A post of another student is taken too."""
     monkeypatch.syspath_prepend(str(TOP / "tools"))
     module, slept = importlib.import_module("ljtools.teaching.posts"), []
 
@@ -299,7 +299,7 @@ def test_scales_are_kept_until_a_session_is_loaded_again(lesson: PagedLesson) ->
 
 
 def words_of_prompt(lesson: PagedLesson) -> List[str]:
-    """What the slip of ann has for a prompt."""
+    """The words of a prompt, from the slip of ann."""
     (words,) = {line.strip() for line in lesson.slips().splitlines() if f":{lesson.port} ann" in line and "ljclient" in line}
     return [*PROMPT, *words.split()[3:]]
 
@@ -359,7 +359,7 @@ def test_the_text_of_the_teacher_is_shown_below_the_line(lesson: PagedLesson) ->
 
 
 def test_a_prompt_goes_on_when_the_pages_are_gone(lesson: PagedLesson) -> None:
-    """It is told once, and what was answered meanwhile is sent when they are back."""
+    """A message says so once, and answers given in the meantime are sent when they are back."""
     with prompt_of(lesson) as terminal:
         for line in (f".lesson {LESSONS / 'two_atoms.en'}", *TWO[:2]):
             says(terminal, line)
@@ -381,7 +381,7 @@ def test_a_prompt_goes_on_when_the_pages_are_gone(lesson: PagedLesson) -> None:
 
 
 def test_a_scale_is_known_to_the_next_connection(lesson: PagedLesson, tmp_path: pathlib.Path) -> None:
-    """At another machine, which has no notes of its own."""
+    """Also on another machine, which has no notes of its own."""
     load = f"LOAD argon {EXAMPLES / 'argon_256.xyz'} edge=21.04 dt=2fs argon"
     with prompt_of(lesson) as terminal:
         assert "OK LOAD argon 0 256" in says(terminal, load)
@@ -412,7 +412,7 @@ def test_a_wrong_page_is_told(capsys: pytest.CaptureFixture[str], words: List[st
 
 
 def test_marks_and_ticks_outlast_a_class_that_is_killed(lesson: PagedLesson) -> None:
-    """In the middle of a step, too: what was seen of it need not be done again."""
+    """Also in the middle of a step: commands of it that were seen need not be repeated."""
     pupil = Pupil(lesson, "ann")
     for line in (TWO[0], TWO[1], TWO[3], TWO[4], TWO[6], TWO[7]):
         pupil.says(line)
@@ -480,7 +480,7 @@ def test_the_wall_has_the_ticks(lesson: PagedLesson) -> None:
 
 
 def steps_shown(wall: Any) -> Any:
-    """The steps of ann in what the wall is told next, or nothing if that is about something else, such as a picture."""
+    """The steps of ann in the next message to the wall, or None if that is about something else, such as a picture."""
     rows = json.loads(wall.receive() or "").get("students", [])
     return next((row["steps"] for row in rows if row["name"] == "ann"), None)
 

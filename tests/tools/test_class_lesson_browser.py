@@ -14,9 +14,9 @@ from support import EXAMPLES
 
 pytestmark = pytest.mark.skipif(not CHROMIUM, reason="Chromium is not installed")
 
-PICTURES = os.environ.get("LJVIEW_PICTURES")  # a folder to put what the page looks like into, where somebody wants to look
+PICTURES = os.environ.get("LJVIEW_PICTURES")  # a folder for pictures of the page, if somebody wants to look
 LESSONS = EXAMPLES / "lessons"
-# Where the language is chosen: that of the page, or that of the lesson.
+# The control for the language of the page, or else of the lesson.
 LANGUAGE = "(document.getElementById('language') ?? document.getElementById('lesson-language'))"
 SENT = "document.querySelectorAll('#replies .sent')"
 SIZES = {"ann": (1280, 900), "ben": (850, 900), "cleo": (390, 844)}
@@ -30,7 +30,7 @@ def lesson(tmp_path_factory: pytest.TempPathFactory) -> Iterator[PagedLesson]:
 
 @pytest.fixture(params=SIZES)
 def browser(request: pytest.FixtureRequest, lesson: PagedLesson) -> Iterator[Any]:
-    """A German browser that has opened the page of a student, whose name its size tells."""
+    """A German browser that has opened the page of a student. Each size has its own student."""
     width, height = SIZES[request.param]
     with Browser(width, height, "--ignore-certificate-errors") as browser:
         browser.ask("Emulation.setDeviceMetricsOverride", width=width, height=height, deviceScaleFactor=1, mobile=width < 500)
@@ -80,12 +80,12 @@ def texts_of(language: str) -> Dict[str, str]:
 
 
 def shown(text: str) -> str:
-    """A text without the marks of what is typed."""
+    """A text without its backquotes."""
     return text.replace("`", "")
 
 
 def test_a_lesson_can_be_told_aloud(browser: Any) -> None:
-    """Each control has a role and a name, what is told is a region that is told, and keys reach all of it."""
+    """Each control has a role and a name, messages are in live regions, and keys reach all of it."""
     nodes = browser.ask("Accessibility.getFullAXTree")["nodes"]
     seen = [(node["role"]["value"], node.get("name", {}).get("value", "")) for node in nodes if not node.get("ignored")]
     assert not [role for role, name in seen if role in ("button", "combobox", "textbox", "radio") and not name]
@@ -107,7 +107,7 @@ def test_a_lesson_can_be_told_aloud(browser: Any) -> None:
 
 
 def contrasts(browser: Any) -> List[float]:
-    """The contrast of each text of the lesson and its ground, by WCAG."""
+    """The contrast of each text of the lesson with its background, by WCAG."""
     found: List[float] = browser.value(CONTRASTS)
     assert found
     return found

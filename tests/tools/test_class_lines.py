@@ -1,4 +1,4 @@
-"""Lines that are typed while a class runs: students are added, get new tokens, and have their connections ended."""
+"""Lines that are typed while a class runs: they add students, give them new tokens, and end their connections."""
 import contextlib
 import pathlib
 import re
@@ -38,7 +38,7 @@ def test_a_student_who_is_added_comes_in_and_the_others_stay(lesson: Any) -> Non
         assert ann.session("a", edge=256, sigma=1, h=131072).advance(1) == 2
     assert {name: token for name, token in lesson.tokens().items() if name != "cleo"} == tokens
     assert "<h2>cleo</h2>" in (lesson.folder / "slips.html").read_text()
-    # What is shown is in a pipe, which may be a log.
+    # The output is in a pipe, which may be a log.
     assert secrets_in(lesson.shown, lesson.tokens()) == []
 
 
@@ -118,7 +118,7 @@ def test_an_input_that_ends_ends_nothing(lesson: Any) -> None:
 
 
 def test_what_is_typed_stays_below_what_is_drawn(tmp_path: pathlib.Path) -> None:
-    """At a terminal a line is typed key by key, with corrections, while the lines above it are drawn anew; and the slip is shown."""
+    """At a terminal a line is typed key by key, with corrections, while the lines above it are redrawn. The slip is shown too."""
     words, shown = [*CLASS, "ann", "--listen", "127.0.0.1:0", "--workers", "1", "--no-page"], termios.ICANON | termios.ECHO
     with contextlib.closing(Terminal(words, ENVIRONMENT, cwd=tmp_path)) as terminal:
         terminal.until("students reach you at ")

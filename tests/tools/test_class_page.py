@@ -1,4 +1,4 @@
-"""The pages of `tools/class`: who is let in, what a page shares with a prompt, and what happens where one of both vanishes."""
+"""The pages of `tools/class`: who is let in, what a page shares with a prompt, and what happens if one of them vanishes."""
 import contextlib
 import importlib
 import json
@@ -45,7 +45,7 @@ def places(user: Any, name: str = "a", count: int = 2) -> List[Any]:
 
 
 def begin_anew(user: Any) -> Any:
-    """A dimer alone at the server."""
+    """A dimer, which is the only session of the user."""
     user.ask_all(f"DROP {line.split()[0]}" for line in user.ask("LIST").lines)
     return dimer(user)
 
@@ -125,7 +125,7 @@ def test_without_a_cookie_there_is_no_session(shared: PagedLesson) -> None:
 
 
 def test_a_flood_of_wrong_tokens_is_looked_at_no_more(lesson: PagedLesson) -> None:
-    """Of its address alone, and also a right one is not, so that nobody learns by it. Who is in stays."""
+    """Only its address is refused, even with a right token, so that nobody learns from it. Pages that are in stay."""
     with lesson.page("ann") as page:
         statuses = [lesson.enter("ann", f"{number:032}").status for number in range(30)]
         assert statuses == [403] * 20 + [429] * 10
@@ -160,7 +160,7 @@ def test_k_ends_pages_who_may_come_again(shared: PagedLesson) -> None:
 
 
 def test_pages_take_no_place_of_connections_that_are_not_in() -> None:
-    """As of students behind one address, of whom all have a page."""
+    """As with students behind one address who all have a page."""
     module = importlib.import_module("ljtools.watching")
     board = module.Board(None)
     for number in range(100):
@@ -181,7 +181,7 @@ def test_four_pages_of_a_student_are_open_at_most(shared: PagedLesson) -> None:
 
 
 def test_a_class_that_was_killed_goes_on_with_its_pages(lesson: PagedLesson) -> None:
-    """By the cookie of before. What the pages had loaded and saved is given up."""
+    """The cookie is still valid. What the pages had loaded and saved is dropped."""
     cookie = lesson.cookie("ann")
     with lesson.student("ann") as user:
         dimer(user)
@@ -222,7 +222,7 @@ def test_page_and_prompt_are_open_at_once(shared: PagedLesson) -> None:
 
 
 def test_looks_and_commands_at_once_are_those_of_one_after_the_other(shared: PagedLesson) -> None:
-    """The prompt goes on and back while the page looks at speeds and compares all places: each reply is as if it were alone."""
+    """The prompt advances and reverses while the page looks at speeds and compares all places. Each reply is as if it were alone."""
     with shared.student("ann") as user, shared.page("ann") as page:
         begin_anew(user)
         page.ask("load", session="a")
@@ -243,7 +243,7 @@ def test_looks_and_commands_at_once_are_those_of_one_after_the_other(shared: Pag
 
 
 def test_a_program_that_numbers_atoms_itself_is_not_disturbed(shared: PagedLesson) -> None:
-    """A page shows what it has, and changes nothing of it until the program has left."""
+    """A page shows the program's session, and does not change it until the program has left."""
     with shared.student("ann") as user:
         user.ask_all(f"DROP {line.split()[0]}" for line in user.ask("LIST").lines)
         atoms = [(float(10 * x), 0.0, 0.0) for x in range(9, 0, -1)]
@@ -274,7 +274,7 @@ def test_a_page_waits_for_a_long_command_of_the_prompt(shared: PagedLesson) -> N
 
 @pytest.mark.parametrize("what", ["speeds", "exact", "second", "save"])
 def test_a_page_that_vanishes_in_the_middle_leaves_nothing(shared: PagedLesson, what: str) -> None:
-    """Its connection is reset while it is answered. What it has asked for is done whole, and the prompt goes on."""
+    """Its connection is reset during the answer. Its request is completed, and the prompt continues."""
     with shared.student("ann") as user:
         begin_anew(user).advance(5)
         page = shared.page("ann")
@@ -302,7 +302,7 @@ def test_a_server_that_is_killed_in_the_middle_of_looks(lesson: PagedLesson) -> 
 
 
 def test_a_class_that_is_killed_in_the_middle_of_looks_keeps_none_half(lesson: PagedLesson) -> None:
-    """A look reverses the motion twice: both are kept, or none."""
+    """A look reverses the motion twice. Both reversals are kept, or none."""
     with lesson.student("ann") as user:
         dimer(user).advance(3)
         before, measured = places(user), user.ask("MEASURE a").words
@@ -365,7 +365,7 @@ def test_pages_are_told_that_the_class_has_ended(lesson: PagedLesson) -> None:
 
 
 def test_a_class_ends_while_a_page_waits_for_a_long_command(lesson: PagedLesson) -> None:
-    """Of what is under way nothing is kept."""
+    """Nothing of the running command is kept."""
     with lesson.student("ann") as user:
         user.load("argon", EXAMPLES / "argon_4000.xyz", edge=52.6, sigma=3.4, h=3706)
     page = lesson.page("ann")
@@ -394,7 +394,7 @@ def test_m_shows_a_text_on_all_pages(shared: PagedLesson) -> None:
 
 
 def row_of(wall: Any, name: str, holds: Any) -> Any:
-    """What the wall shows of a student, as soon as that holds."""
+    """The row of a student on the wall, as soon as a condition holds."""
     while True:
         told = json.loads(present(wall.receive()))
         rows = [row for row in told.get("students", []) if row["name"] == name and holds(row)]
@@ -444,7 +444,7 @@ def test_the_wall_shows_the_steps_of_a_lesson(tmp_path: pathlib.Path) -> None:
 
 
 def test_the_debian_package_has_the_files_of_the_page() -> None:
-    """A class that is installed has them where it looks for them."""
+    """An installed class has them where it looks for them."""
     rules = (TOP / "packaging" / "debian" / "rules").read_text()
     named = " ".join(module_of_page().OF_SHARED)
     assert f"cd packaging/page && install -m 644 {named} ../../debian/ljserve/usr/share/ljserve/packaging/page\n" in rules
@@ -467,7 +467,7 @@ def test_without_aiohttp_the_class_begins_all_the_same(monkeypatch: pytest.Monke
 
 
 def test_a_port_that_is_taken(monkeypatch: pytest.MonkeyPatch, capsys: pytest.CaptureFixture[str]) -> None:
-    """If it was said, nothing begins; and if it is the usual one, the class begins without pages."""
+    """If it was given, nothing starts. If it is the default port, the class starts without pages."""
     module = tool()
     with socket.create_server(("127.0.0.1", 0)) as taken:
         port = taken.getsockname()[1]

@@ -1,4 +1,4 @@
-"""When a picture of a session is taken: between two commands of its student, where no steps are pending, and never within a look."""
+"""When a picture of a session is taken: between two commands of its student, if no steps are pending, and never within a look."""
 import asyncio
 import importlib
 import random
@@ -16,7 +16,7 @@ from test_keep_user import Client, let_in, user
 sys.path.append(str(TOP / "tools"))
 __all__ = ["user"]
 DUMP = b"DUMP a\n"
-# Two atoms of 1.5 sigma apart in a box of 256, after 2 steps: docs/PROTOCOL.md, "A step in half a page".
+# Two atoms 1.5 sigma apart in a box of 256, after 2 steps: docs/PROTOCOL.md, "A step in half a page".
 AFTER_TWO = [1774, RING * 3 // 512 - 1774]
 
 
@@ -25,7 +25,7 @@ def pictures() -> Any:
 
 
 class Album:
-    """The pictures of a student of a front, whose commands it has heard."""
+    """The pictures of a student of a front. It hears the student's commands."""
 
     def __init__(self, user: Any) -> None:
         self.user, self.album = user, pictures().Album()
@@ -48,7 +48,7 @@ class Album:
 
 
 def test_a_picture_is_taken_between_two_commands() -> None:
-    """Its reply is told to nobody, and is no record."""
+    """Its reply is sent to nobody, and is no record."""
 
     async def test(front: Front, _: Page) -> None:
         album = Album(front.user)
@@ -102,7 +102,7 @@ def test_no_picture_is_taken_in_the_middle_of_a_long_command(user: Any) -> None:
 
 
 def test_no_picture_is_taken_within_a_look() -> None:
-    """Of a page, which is one transaction, or of a program, which has saved the session by a name of the client's own."""
+    """A look of a page is one transaction. A look of a program has saved the session by a name that the client reserves."""
 
     async def test(front: Front, page: Page) -> None:
         album = Album(front.user)
@@ -174,7 +174,7 @@ def test_a_server_that_ends_in_the_middle_of_a_picture() -> None:
 
 
 def test_what_is_due_is_what_has_changed() -> None:
-    """The session that was changed last, and each of a student who is looked at."""
+    """The session that was changed last, and all sessions of a student who is looked at."""
 
     async def test(front: Front, _: Page) -> None:
         album, load = Album(front.user), LOAD.replace(b"LOAD a", b"LOAD b", 1)
@@ -220,7 +220,7 @@ def test_what_pages_and_the_client_load_for_themselves_is_not_shown(name: str, i
 def test_an_atom_keeps_the_colour_of_where_it_was_at_first() -> None:
     async def test(front: Front, _: Page) -> None:
         album = Album(front.user)
-        load = LOAD.replace(b"Ar 1.5 0 0\n", b"Ar 200 0 0\n")  # of as many bytes
+        load = LOAD.replace(b"Ar 1.5 0 0\n", b"Ar 200 0 0\n")  # the same number of bytes
         front.comes(load)
         await front.settle()
         album.ask()
@@ -239,12 +239,12 @@ def test_an_atom_keeps_the_colour_of_where_it_was_at_first() -> None:
 def test_of_many_atoms_a_part_is_shown() -> None:
     rows = b"".join(b"Ar %d.000000 0.000000 8.000000\n" % (atom % 16) for atom in range(4000))
     places = pictures().places_in(b"OK DUMP a 0 4002\n4000\nstep 0\n" + rows, 16.0)
-    # Each 16th atom, which are 250.
+    # Every 16th atom, which makes 250.
     assert len(places) == 3 * 250 and set(places[::3]) == {0} and set(places[2::3]) == {1 << 15}
 
 
 class Users:
-    """Students of whom each has a session."""
+    """Students with one session each."""
 
     def __init__(self, count: int) -> None:
         self.asked: List[str] = []
@@ -275,7 +275,7 @@ def test_few_are_asked_at_once_and_each_in_turn(monkeypatch: pytest.MonkeyPatch)
 
 @pytest.mark.parametrize("seed", range(8))
 def test_pictures_change_no_reply(seed: int) -> None:
-    """Bytes come in pieces, replies and writes whenever, and pictures are asked for at any time."""
+    """Bytes come in pieces, and replies, writes and requests for pictures at any time."""
     source, story = random.Random(seed), Story(seed)
 
     async def test(front: Front, page: Page) -> None:

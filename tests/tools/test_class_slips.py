@@ -66,7 +66,7 @@ def bitmap(svg: str, scale: int = 4) -> bytes:
 
 @pytest.mark.skipif(shutil.which("zbarimg") is None, reason="zbarimg is not installed")
 def test_qr_codes_say_address_name_token_and_fingerprint(tmp_path: pathlib.Path) -> None:
-    """A program that is not ours reads them."""
+    """A third-party program reads them."""
     pytest.importorskip("qrcode", reason="qrcode is not installed")
     codes = re.findall("<svg.*?</svg>", module.page_of(USERS, WAY), re.S)
     assert len(codes) == 2
@@ -145,7 +145,7 @@ def test_the_fingerprint_is_that_which_openssl_tells(tmp_path: pathlib.Path) -> 
             cwd=tmp_path, input="", capture_output=True, text=True, timeout=SECONDS,
         )  # fmt: skip
         assert "Verification: OK" in connected.stdout and "TLSv1.3" in connected.stdout
-        # It has ended its side as TLS does it, of which asyncio may warn.
+        # openssl has ended its side of TLS, and asyncio may warn of that.
         lesson.until("not in ")
         assert "ssl" not in lesson.shown
     finally:

@@ -1,6 +1,6 @@
-"""A lesson as it goes: students at prompts and in browsers, three who do not behave, and a class that is killed in the middle.
+"""A whole lesson: students at prompts and in browsers, three who misbehave, and a class that is killed in the middle.
 
-The usual run has a part of them. The whole of it, within the time that it is to take, on a machine that does nothing else:
+The usual run has fewer students. The full run, with its time limit, needs a machine that does nothing else:
 
     python3 -m pytest -s tests/tools/test_class_trial.py --students 20
 """
@@ -19,17 +19,17 @@ from class_pages import PagedLesson, begun
 from support import SECONDS, wait_until
 from trial_students import AtPrompt, Floods, OnPage, Stops, Student, Vanishes, Way
 
-PICTURES = os.environ.get("LJVIEW_PICTURES")  # a folder to put what the wall looks like into, where somebody wants to look
+PICTURES = os.environ.get("LJVIEW_PICTURES")  # a folder for pictures of the wall, if somebody wants to look
 WIDTHS = (850, 390)
 BAD = (Floods, Stops, Vanishes)
 WHOLE, SECONDS_TO_GO_ON = 20, 2.0
-SECONDS_BEFORE_END = 0.05  # in which all have sent something
+SECONDS_BEFORE_END = 0.05  # time for all to send something
 FITS = "document.documentElement.scrollWidth <= innerWidth"
 pytestmark = pytest.mark.skipif(not CHROMIUM, reason="Chromium is not installed")
 
 
 class Trial:
-    """A lesson of so many students: three who do not behave, two at pages or three in ten, and the others at prompts."""
+    """A lesson of `count` students: three who misbehave, three in ten or at least two at pages, and the others at prompts."""
 
     def __init__(self, lesson: PagedLesson, count: int):
         self.lesson, self.goes_on = lesson, threading.Event()
@@ -53,7 +53,7 @@ class Trial:
             self.goes_on.wait(8 * SECONDS)
 
     def come_to_the_middle(self) -> None:
-        """Who vanished comes back when the teacher has ended that connection. Who stopped does not. All others go on from here."""
+        """The one who vanished comes back when the teacher has ended that connection. The one who stopped does not. All others continue."""
         self._wait(lambda: hasattr(self.vanishes.way, "left"))
         self.lesson.types(f"k {self.vanishes.name}")
         others = [student for student in self.students if student is not self.stops]
@@ -87,7 +87,7 @@ def sizes_of(browser: Any) -> Iterator[int]:
 
 
 def check_wall(wall: Any, students: List[Student]) -> None:
-    """All are in, with the step that they have come to and a picture of it."""
+    """The wall shows that all are in, with the step of each and a picture of it."""
     rows = "[...document.querySelectorAll('.student')].map((each) => each.querySelector('.name').textContent + ': ' + SESSIONS)"
     rows = rows.replace("SESSIONS", "[...each.querySelectorAll('.session')].map((row) => row.textContent).join()")
     wanted = [row_of(student) for student in students]
@@ -101,13 +101,13 @@ def check_wall(wall: Any, students: List[Student]) -> None:
 
 
 def row_of(student: Student) -> str:
-    """What the wall shows of the session of a student."""
+    """The row of a student's session on the wall."""
     atoms, step = student.alone[0].split()[4].decode(), student.end.split()[3].decode().replace("-", "\u2212")
     return f"{student.name}: a \u00b7 {atoms} atomsstep {step} "
 
 
 def test_all_go_on_when_the_class_is_killed_in_the_middle(tmp_path: Any, request: pytest.FixtureRequest, wall: Any) -> None:
-    """Each is told, byte for byte, what a program alone replies to the same commands."""
+    """Each gets, byte for byte, the replies of a program alone to the same commands."""
     count = request.config.getoption("students")
     with contextlib.ExitStack() as ends:
         lesson = ends.enter_context(begun(tmp_path, count, "--of-an-address", 1000))

@@ -1,4 +1,4 @@
-"""The wall of a class: pictures of the students' sessions, and a look on at one student."""
+"""The wall of a class: pictures of the students' sessions, and a look at one student."""
 import base64
 import contextlib
 import importlib
@@ -14,20 +14,20 @@ from ljclient import Refused
 from support import EXAMPLES, dimer, present
 from test_class import tool
 
-# Of two atoms that are 1.5 apart in a box of 256: of 65,536 places, and of 32 shades.
+# Two atoms 1.5 apart in a box of 256, as drawn: with 65,536 places and 32 shades.
 AT_REST = [0, 0, 0, 0, 384, 0, 0, 0]
 
 
 @pytest.fixture(scope="module")
 def lesson(tmp_path_factory: pytest.TempPathFactory) -> Iterator[PagedLesson]:
-    """A class that all tests share, each of which has students of its own."""
+    """A class that all tests share. Each test has its own students."""
     names = ["ann", "ben", "cleo", "dan", "eve", "fay", "gil"]
     with begun(tmp_path_factory.mktemp("class"), *names) as lesson:
         yield lesson
 
 
 class Wall:
-    """A wall that is open, and all that it was told."""
+    """An open wall, and all that was sent to it."""
 
     def __init__(self, lesson: PagedLesson) -> None:
         self.channel = lesson.wall()
@@ -42,7 +42,7 @@ class Wall:
         self.looks += [told["look"]] if "look" in told else []
 
     def picture(self, name: str, holds: Any = lambda picture: True) -> Any:
-        """The next picture of a student of which this holds."""
+        """The next picture of a student that fulfils a condition."""
         while True:
             found = [each for each in self.pictures if each["student"] == name and holds(each)]
             self.pictures.clear()
@@ -51,7 +51,7 @@ class Wall:
             self.hear()
 
     def look(self, holds: Any) -> Any:
-        """The next look on of which this holds."""
+        """The next look that fulfils a condition."""
         while not (self.looks and holds(self.looks[-1])):
             self.hear()
         return self.looks[-1]
@@ -87,7 +87,7 @@ def test_the_picture_of_a_session_follows_it(lesson: PagedLesson, wall: Wall) ->
 
 
 def test_a_wall_that_is_opened_later_has_the_picture_of_before(lesson: PagedLesson, wall: Wall) -> None:
-    """It is taken once as long as nothing changes, and its age is told."""
+    """It is taken only once while nothing changes, and it has its age."""
     with lesson.student("ben") as user:
         dimer(user)
         first = wall.picture("ben")

@@ -1,4 +1,4 @@
-"""HAProxy with the config of packaging/haproxy before three servers, whose files `tools/shards` has written."""
+"""HAProxy with the config of packaging/haproxy in front of three servers, with files by `tools/shards`."""
 import contextlib
 import json
 import os
@@ -27,9 +27,9 @@ CONFIG = TOP / "packaging" / "haproxy"
 LOADED = f"LOAD a 256 1 131072 rest 28\n{DIMER}".encode()
 HAPROXY = shutil.which("haproxy", path=f"{os.environ['PATH']}:/usr/sbin")
 SERVERS = 3
-# Those of HAProxy: for plain text, for TLS and for its metrics.
+# Ports of HAProxy: for plain text, for TLS and for its metrics.
 FRONTS = 3
-# What is waited for in seconds, in place of minutes.
+# Shorter times for the config, so that tests wait for seconds in place of minutes.
 SHORTER = {
     "inspect-delay 10s": "inspect-delay 2s",
     "timeout client 15s": "timeout client 3s",
@@ -49,7 +49,7 @@ def token(name: Any) -> str:
 
 
 def consecutive_ports() -> Any:
-    """The first of some ports that follow one another and are free."""
+    """The first of some consecutive free ports."""
     while True:
         first = free_port()
         with contextlib.suppress(OSError, OverflowError), contextlib.ExitStack() as taken:
@@ -59,7 +59,7 @@ def consecutive_ports() -> Any:
 
 
 class Farm:
-    """Three servers, over which users of some quotas are spread, and HAProxy before them with times that may be shorter."""
+    """Three servers with users of some quotas spread over them, and HAProxy in front with times that may be shorter."""
 
     def __init__(self, folder: Any, quotas: Any, shorter: Any) -> None:
         self.folder = folder / "shards"
@@ -84,11 +84,11 @@ class Farm:
         return self.first + number - 1
 
     def words(self, number: Any) -> Any:
-        """Those that a unit begins a server with."""
+        """The variables with which a unit starts a server."""
         return dict(line.split("=") for line in (self.folder / f"server{number}.env").read_text().splitlines())
 
     def begin(self, number: Any) -> None:
-        """Begins a server by its words, as the unit does."""
+        """Starts a server by its variables, as the unit does."""
         options = [word for name, value in self.words(number).items() for word in (f"--{name.lower()}", value)]
         self.begin_by(number, [PROGRAM, "serve", *options])
 
@@ -98,7 +98,7 @@ class Farm:
 
     @contextlib.contextmanager
     def kept(self, number: Any, folder: Any) -> Any:
-        """Has tools/keep own a server in the place of what is there, as the unit of a kept one does. The value is its folder."""
+        """Replaces a server by one of tools/keep, as the unit of a kept server does. The value is the folder of its store."""
         (command,) = re.findall("^ExecStart=(.*)$", (CONFIG / "ljserve-keep@.service").read_text(), re.M)
         words = {**self.words(number), "STATE_DIRECTORY": folder / "kept", "RUNTIME_DIRECTORY": folder, "METRICS": "127.0.0.1:0"}
         shutil.copy(words["USERS"], folder / "users")
@@ -147,7 +147,7 @@ class Farm:
         return self.context().wrap_socket(stream, server_hostname="localhost") if tls else stream
 
     def joined(self, name: Any, **words: Any) -> Tuple[Any, Any]:
-        """A connection of a user who was let in, with what reads its replies. One whose line came too late is made once more."""
+        """A connection of a user who was let in, and a reader of its replies. It is made again if its line came too late."""
         end = time.monotonic() + SECONDS
         while True:
             stream = self.connected(**words)
@@ -161,7 +161,7 @@ class Farm:
         return stream, replies
 
     def values(self, metric: str = "sessions_total") -> Dict[Any, Any]:
-        """What HAProxy tells Prometheus of its servers: the connections that each has had, or another metric."""
+        """A metric of HAProxy for each of its servers: the connections that it has had, or another one."""
         with urllib.request.urlopen(f"http://127.0.0.1:{self.metrics}/metrics", timeout=SECONDS) as answer:
             text = answer.read().decode()
         rows = re.findall(rf'^haproxy_server_{metric}{{proxy="server(\d)",server="server\d"}} (\d+)', text, re.M)
@@ -216,7 +216,7 @@ def farm(tmp_path_factory: Any) -> Any:
 
 @pytest.mark.parametrize("tls", [False, True], ids=["plain", "TLS"])
 def test_each_user_lands_at_its_own_server(farm: Any, tls: Any) -> None:
-    """What was loaded through HAProxy is at the user's server, asked without HAProxy, and at no other."""
+    """A session loaded through HAProxy is at the user's server, as seen without HAProxy, and at no other."""
     for number, names in farm.at.items():
         name = names[1 + tls]
         stream, replies = farm.joined(name, tls=tls, source="127.0.1.1")
@@ -263,7 +263,7 @@ def test_who_is_no_user_is_denied_and_comes_to_no_server(farm: Any) -> None:
 
 
 def test_no_token_is_logged(farm: Any) -> None:
-    """A name that is none may be a token, so it is not logged either."""
+    """An unknown name may be a token, so it is not logged either."""
     name = farm.at[1][5]
     with farm.connected(source="127.0.3.2") as stream:
         stream.sendall(f"HELLO {token('user99')} {token(name)}\n".encode())
@@ -275,7 +275,7 @@ def test_no_token_is_logged(farm: Any) -> None:
 
 
 def test_a_first_line_that_does_not_come(farm: Any) -> None:
-    """Neither one that says nothing, nor one that goes on byte by byte, nor a handshake of TLS that is not begun holds a place."""
+    """A client that sends nothing, one that sends byte by byte, and one that begins no TLS handshake hold no place."""
     before = farm.values()
     with farm.connected(source="127.0.4.1") as silent, farm.connected(source="127.0.4.1") as slow:
         with socket.create_connection(("127.0.0.1", farm.tls), SECONDS) as shy:
@@ -301,7 +301,7 @@ def test_plain_text_at_the_port_of_tls_and_an_unknown_certificate(farm: Any) -> 
 
 @pytest.mark.parametrize("tls", [False, True], ids=["plain", "TLS"])
 def test_who_says_nothing_more_is_let_be(farm: Any, tls: Any) -> None:
-    """A user who was let in may think for longer than a first line may take."""
+    """A user who was let in may be silent for longer than a first line may take."""
     stream, replies = farm.joined(farm.at[1][6 + tls], tls=tls, source="127.0.6.1")
     with stream, replies:
         time.sleep(4)
@@ -310,7 +310,7 @@ def test_who_says_nothing_more_is_let_be(farm: Any, tls: Any) -> None:
 
 
 def test_who_has_sent_all_gets_all_replies(farm: Any) -> None:
-    """As by `printf .. | nc`, though they take longer than a first line may."""
+    """As with `printf .. | nc`, even if they take longer than a first line may."""
     name = farm.at[3][6]
     with farm.connected(source="127.0.6.2") as stream:
         stream.settimeout(4 * SECONDS)
@@ -351,7 +351,7 @@ def test_a_user_has_four_connections_at_once(farm: Any) -> None:
 
 
 def test_the_63rd_waits_and_is_let_in_when_another_ends(farm: Any) -> None:
-    """A server has 64 places, of which two stay free. Who waits does so for longer than a first line may take."""
+    """A server has 64 places, and two of them stay free. A connection may wait for longer than a first line may take."""
     names = farm.at[3][10:20] + farm.at[3][:6]
     until(lambda: farm.values("current_sessions")[3] == 0)
     with contextlib.ExitStack() as streams:
@@ -375,7 +375,7 @@ def test_the_63rd_waits_and_is_let_in_when_another_ends(farm: Any) -> None:
 
 
 def test_a_server_that_is_killed(farm: Any) -> None:
-    """Its users are let in by the next one, and others notice nothing."""
+    """The next server lets its users in, and others notice nothing."""
     here, there = farm.at[1][12], farm.at[2][12]
     stream, replies = farm.joined(there, source="127.0.10.1")
     lost, _ = farm.joined(here, source="127.0.10.1")
@@ -392,7 +392,7 @@ def test_a_server_that_is_killed(farm: Any) -> None:
 
 
 def test_a_kept_server_that_is_killed(farm: Any, tmp_path: Any) -> None:
-    """Its user goes on over the same connection, with what it had."""
+    """Its user continues over the same connection, with its session."""
     name = farm.at[2][14]
     with farm.kept(2, tmp_path) as folder:
         until(lambda: farm.is_let_in(name, "127.0.13.1"))
@@ -406,7 +406,7 @@ def test_a_kept_server_that_is_killed(farm: Any, tmp_path: Any) -> None:
 
 
 def told_to(farm: Any, line: str, source: str) -> Any:
-    """What is told to a first line from an address, or nothing where the connection is closed."""
+    """The reply to a first line from an address, or nothing if the connection is closed."""
     with contextlib.suppress(OSError), farm.connected(source=source) as stream:
         stream.sendall(f"{line}\n".encode())
         return read_all(stream)
@@ -414,7 +414,7 @@ def told_to(farm: Any, line: str, source: str) -> Any:
 
 
 def test_who_guesses_is_shut_out(farm: Any) -> None:
-    """After 30 first lines in a minute that were none of a user, of an address with a name. Another name or address is not."""
+    """A name from an address is shut out after 30 wrong first lines in a minute. Another name or address is not."""
     name = farm.at[2][13]
     told = [told_to(farm, f"HELLO {name} bbb", "127.0.11.1") for _ in range(40)]
     assert told == [b"ERR 01 DENIED\n"] * 30 + [b""] * 10
@@ -424,14 +424,14 @@ def test_who_guesses_is_shut_out(farm: Any) -> None:
 
 
 def test_an_address_that_guesses_many_names_is_shut_out(farm: Any) -> None:
-    """After 300 such lines. Other addresses are not."""
+    """It is shut out after more than 300 such lines. Other addresses are not."""
     told = [told_to(farm, f"HELLO eve{number} bbb", "127.0.11.3") for number in range(310)]
     assert told == [b"ERR 01 DENIED\n"] * 301 + [b""] * 9
     farm.joined(farm.at[2][13], source="127.0.11.4")[0].close()
 
 
 def exchanged(stream: Any, sent: Any, count: Any) -> Any:
-    """What is told over TLS to all that is sent, up to so many lines or to the end. Neither direction waits for the other."""
+    """The replies over TLS to all of `sent`, up to `count` lines or to the end. Neither direction waits for the other."""
     stream.setblocking(False)
     left, told = memoryview(sent), bytearray()
     while left or count > 0:
@@ -450,12 +450,12 @@ def exchanged(stream: Any, sent: Any, count: Any) -> Any:
         if left or count > 0:
             assert any(select.select([stream], [stream] if left else [], [], 10 * SECONDS)), bytes(told[-200:])
     stream.settimeout(SECONDS)
-    stream.unwrap().close()  # raises if anything more is told
+    stream.unwrap().close()  # raises if more replies come
     return bytes(told)
 
 
 def found_over_tls(farm: Any, name: Any, stream: Any) -> Any:
-    """What a user is told otherwise to a stream than it should be."""
+    """The difference of a user's replies to a stream from those expected, if any."""
     lines = stream.replies.count(b"\n") + sum(int(folded[1]) - 1 for folded in FOLDED.finditer(stream.replies))
     with farm.connected(tls=True) as connection:
         greeting, _, told = exchanged(connection, hello(name) + stream.sent, 1 + lines).partition(b"\n")
@@ -464,7 +464,7 @@ def found_over_tls(farm: Any, name: Any, stream: Any) -> Any:
 
 
 def test_the_streams_of_conformance_over_tls(tmp_path: Any) -> None:
-    """All at the same time, each by a user of its quota, through HAProxy with the times of its config."""
+    """All play at the same time, each by a user of its quota, through HAProxy with the times of its config."""
     streams = {f"user{number}": stream for number, stream in enumerate(stored())}
     assert len(streams) > 130
     farm = Farm(tmp_path, {name: stream.quota for name, stream in streams.items()}, {})

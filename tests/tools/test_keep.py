@@ -1,4 +1,4 @@
-"""A server that is kept by `tools/keep`: whatever ends, its users go on as if it had not, or are not let in."""
+"""A server that is kept by `tools/keep`: whatever ends, its users continue as if it had not, or are not let in."""
 import contextlib
 import json
 import os
@@ -53,7 +53,7 @@ def test_what_was_told_is_there_when_front_and_server_were_killed(tmp_path: path
 
 
 def test_what_is_in_flight_is_done_once(tmp_path: pathlib.Path) -> None:
-    """A wait is cut off by a kill, with more behind it."""
+    """A kill interrupts a wait, with more commands behind it."""
     with Keeper(tmp_path) as keeper, keeper.raw("ann") as stream:
         stream.sendall(LOAD + b"ADVANCE a 1\nSTART a 500\n")
         assert [first_line(stream) for _ in range(4)] == [HELLO, LOADED, b"OK ADVANCE a 1\n", b"OK START a 501\n"]
@@ -68,7 +68,7 @@ def test_what_is_in_flight_is_done_once(tmp_path: pathlib.Path) -> None:
         ]  # fmt: skip
 
 
-# A front whose store waits for a file when it writes, and one that waits for it when it has written things on the disk.
+# A front whose store waits for a file before {function}: before it writes, or before it syncs the disk.
 WAITING = """
 import os, pathlib, time
 from ljtools.keeping.sqlite import Sqlite
@@ -134,7 +134,7 @@ def test_nothing_is_seen_of_the_tokens_and_its_owner_alone_may_look(tmp_path: pa
 
 
 def begun_words(process: int) -> List[str]:
-    """The words of a server; none as long as its launcher stands in its place."""
+    """The words of a server; none while the process is still its launcher."""
     words = pathlib.Path(f"/proc/{process}/cmdline").read_text().split("\0")
     return words if "--listen" in words else []
 
@@ -215,7 +215,7 @@ def test_users_with_a_fault_change_nothing(tmp_path: pathlib.Path) -> None:
 
 
 def wrapped(path: Any, before: Any, after: Any) -> str:
-    """A program that is the reference of conformance/ as a server, with something in it replaced."""
+    """A program that is the reference of conformance/ as a server, with `before` replaced by `after`."""
     server = TOP / "clients" / "python" / "tests" / "reference_server.py"
     path.write_text(f'#!/bin/sh\nexec {sys.executable} {server} {before!r} {after!r} "$@"\n')
     path.chmod(0o700)
@@ -247,7 +247,7 @@ def test_a_program_that_computes_otherwise_is_not_begun(tmp_path: pathlib.Path) 
 
 
 def test_a_program_that_answers_otherwise_at_once_is_not_told(tmp_path: pathlib.Path) -> None:
-    """What it replies to a client is held against what follows from the commands."""
+    """Its replies to a client are compared with those that follow from the commands."""
     program = wrapped(tmp_path / "program", 'return f"{target}"', 'return f"{target + (target == 2)}"')
     with Keeper(tmp_path, program=program) as keeper:
         assert keeper.told(LOAD + b"ADVANCE a 1\n", "ann") == HELLO + LOADED + b"OK ADVANCE a 1\n"
@@ -291,7 +291,7 @@ def test_a_disk_that_is_full_ends_front_and_server_before_anyone_is_told(tmp_pat
         assert keeper.status()[0] == 1 and "does not run" in keeper.status()[1]
         keeper.prepare = None
         keeper.begin()
-        # What was told is there, and what was written and not told may be.
+        # Commands with a reply are there, and commands that were written without one may be.
         (now,) = [int(line.split()[3]) for line in keeper.told(SHOW, "ann").splitlines()[1:]]
         assert now in (step - 1, step)
 
@@ -308,7 +308,7 @@ def test_a_snapshot_is_in_place_of_records_when_a_client_has_left(tmp_path: path
         assert keeper.told(SHOW, "ann") == HELLO + SHOWN
 
 
-# A front that takes a snapshot after so many records, and after each moment of computing.
+# A front that takes a snapshot after {} records, and after {} seconds of computing.
 OFTEN = "from ljtools.keeping import user; user.MAX_RECORDS = {}; user.SECONDS_OF_BUDGET = {}"
 
 
@@ -323,7 +323,7 @@ def test_snapshots_while_a_client_goes_on(tmp_path: pathlib.Path) -> None:
 
 @pytest.mark.parametrize("ends", ["server", "both"])
 def test_an_advance_that_takes_long_is_done_in_pieces_with_snapshots_between(tmp_path: pathlib.Path, ends: Any) -> None:
-    """Its client is there when it is done, or another one waits until it is, and sends what follows."""
+    """Its client waits until it is done, or another one does, and sends what follows."""
     slow = f"{OFTEN.format(4000, 0.02)}; from ljtools.keeping import sessions; sessions.MAX_PIECE = 100"
     with Keeper(tmp_path, tool=patched(slow)) as keeper, keeper.raw("ann") as stream:
         back = b"REVERSE a\nADVANCE a 19998\nREVERSE a\n"
@@ -394,7 +394,7 @@ def test_a_client_that_does_not_read_holds_nobody_else_up(tmp_path: pathlib.Path
         assert keeper.told(LOAD + b"ADVANCE a 2\n" + SHOW, "ben").endswith(SHOWN)
         memory = int(next(line for line in pathlib.Path(f"/proc/{keeper.child.pid}/status").open() if "VmRSS" in line).split()[1])
         assert memory < 150_000
-        # That it is gone is told by a reset: the system asks a peer that reads nothing more and more seldom.
+        # It leaves by a reset: the system's probes of a peer that does not read become rarer and rarer.
         deaf.shutdown(socket.SHUT_WR)
         sender.join(SECONDS)
         reset(deaf)
@@ -402,7 +402,7 @@ def test_a_client_that_does_not_read_holds_nobody_else_up(tmp_path: pathlib.Path
 
 
 def test_a_connection_to_the_server_has_as_many_items_as_it_may(tmp_path: pathlib.Path) -> None:
-    """In place of a million it is 50 here: 1,000 commands, and then the replay of as many."""
+    """The limit is 50 here in place of a million, for 1,000 commands and then their replay."""
     tool = patched("from ljtools.keeping import ends; ends.Link.most_items = 50")
     with Keeper(tmp_path, tool=tool) as keeper:
         told = keeper.told(LOAD + b"TUG a 0 1 0 0\nADVANCE a 1\n" * 500, "ann")
@@ -423,7 +423,7 @@ def test_behind_a_balancer(tmp_path: pathlib.Path) -> None:
 
 
 def is_well(keeper: Any) -> Any:
-    """What a check sees."""
+    """Whether a check succeeds."""
     with socket.create_connection(("127.0.0.1", keeper.port), SECONDS) as stream:
         stream.sendall(b"HELLO - -\n")
         return first_line(stream) == DENIED
@@ -469,7 +469,7 @@ def test_eight_connections_of_a_user_wait(tmp_path: pathlib.Path) -> None:
         assert first_line(waiting[0]) == HELLO
 
 
-# A front that takes its time between that it says that it listens and that it serves.
+# A front that waits after it says that it listens, before it serves.
 SLOW = """
 import time
 from ljtools.keeping.front import Front
@@ -514,7 +514,7 @@ def test_who_is_kicked_may_come_again(tmp_path: pathlib.Path) -> None:
 
 
 def test_steps_of_a_day(tmp_path: pathlib.Path) -> None:
-    """Who asks for more is told all up to there, and may come again for what needs none. An end of all does not give them back."""
+    """A user who asks for more gets all replies up to there, and may come again for what needs none. A restart gives none back."""
     with Keeper(tmp_path, "--steps-a-day", "10", users=("ann", "ben")) as keeper:
         assert keeper.told(LOAD + b"ADVANCE b 9\n", "ann") == HELLO + LOADED + b"ERR 10 NO_SESSION\n"
         assert keeper.told(b"ADVANCE a 6\nSTART a 5\nLIST\n", "ann") == HELLO + b"OK ADVANCE a 6\n"
@@ -544,7 +544,7 @@ def test_nobody_is_kicked_where_no_front_is(tmp_path: pathlib.Path) -> None:
 
 @pytest.mark.parametrize("last", [b"", b"BYE\n"], ids=["no more items", "BYE"])
 def test_who_never_reads_the_last_replies_is_let_go(tmp_path: pathlib.Path, last: Any) -> None:
-    """The user's next connection is let in meanwhile."""
+    """The user's next connection is let in in the meantime."""
     small = "ends.prepare = lambda stream: stream.setsockopt(1, 7, 4096)"
     tool = patched(f"from ljtools.keeping import ends; ends.SECONDS_TO_READ = 2.0; {small}")
     body = b"2000\n\n" + b"".join(b"A %d %d %d\n" % (n % 13, n // 13 % 13, n // 169) for n in range(2000))

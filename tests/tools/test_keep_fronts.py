@@ -1,4 +1,4 @@
-"""Fronts of `tools/keep` over a database that they share: any of them takes any user, and what one has told outlasts it."""
+"""Fronts of `tools/keep` over a database that they share: any of them takes any user, and what one has replied outlasts it."""
 import contextlib
 import os
 import pathlib
@@ -27,7 +27,7 @@ USERS = {"ann": USUAL, "ben": USUAL}
 
 @contextlib.contextmanager
 def fronts(folder: Any, cluster: Any, *options: Any, words: str = "", **more: Any) -> Iterator[Any]:
-    """Two fronts that are ready, after some words of Python."""
+    """Two fronts that are ready, patched by some words of Python."""
     with Fronts(folder, cluster, PROGRAM, USERS, options, patched(words), **more) as both:
         until(both.is_ready)
         yield both
@@ -40,13 +40,13 @@ def both(tmp_path: pathlib.Path, cluster: Any) -> Iterator[Any]:
 
 
 def told(stream: Any, sent: bytes, count: int) -> Any:
-    """So many lines that are replied."""
+    """The next `count` lines of replies to `sent`."""
     stream.sendall(sent)
     return [first_line(stream) for _ in range(count)]
 
 
 def again(front: Any, name: str = "ann") -> Any:
-    """A connection that is let in, as soon as one is."""
+    """A connection that is let in, tried until one is."""
     end = time.monotonic() + SECONDS
     while time.monotonic() < end:
         with contextlib.suppress(OSError):
@@ -67,7 +67,7 @@ def test_a_user_is_passed_on_to_the_front_that_has_it(both: Any) -> None:
         second.sendall(b"LIST\n")
         stream.shutdown(socket.SHUT_WR)
         assert first_line(stream) == b"" and told(second, b"", 2) == [HELLO, b"OK LIST 1\n"]
-    # It counts at its owner alone.
+    # The user counts only at its owner.
     assert [each["user"] for each in one.events("in")] == ["ann"] * 3 and other.events("in") == []
     assert other.events("ended") == other.events("not in") == []
     assert other.told(b"LIST\n", "ben") == b"OK HELLO ben\nOK LIST 0\n"
@@ -115,7 +115,7 @@ def test_term_hands_over(both: Any) -> None:
         assert told(stream, LOAD + b"ADVANCE a 2\n", 3)[2] == b"OK ADVANCE a 2\n"
         with other.raw("ann") as passed:
             assert one.end() == 0 and first_line(stream) == b""
-            # It is passed on, or still looked for.
+            # The connection is passed on, or its owner is still looked for.
             assert first_line(passed) in (b"", HELLO)
     assert other.told(SHOW, "ann") == HELLO + SHOWN
     status, text = until(lambda: (told := other.status())[1].count("ann") and told)
@@ -124,7 +124,7 @@ def test_term_hands_over(both: Any) -> None:
 
 
 def test_one_that_was_stopped_tells_nothing_more(both: Any, cluster: Any) -> None:
-    """The database takes it as gone, as where its machine was cut off."""
+    """The database takes it as gone, as if its machine was cut off."""
     one, other = both.each
     with one.raw("ann") as stream:
         assert told(stream, LOAD, 2) == [HELLO, LOADED]
@@ -143,7 +143,7 @@ def test_one_that_was_stopped_tells_nothing_more(both: Any, cluster: Any) -> Non
     assert other.told(b"LIST\n", "ann") == HELLO + b"OK LIST 1\na 0 2 0\n"
 
 
-# A front in the first folder that does not reach the database while there is a file.
+# The front in the first folder does not reach the database while there is a file.
 CUT_OFF = """
 import os, sys, psycopg2
 from ljtools.keeping.postgres import Line
@@ -192,7 +192,7 @@ def test_what_needs_no_record_is_told_when_the_database_is_there_again(tmp_path:
 
 
 def is_well(front: Any) -> Any:
-    """What a check sees."""
+    """Whether a check succeeds."""
     with socket.create_connection(("127.0.0.1", front.port), SECONDS) as stream:
         stream.sendall(b"HELLO - -\n")
         return first_line(stream) == b"ERR 01 DENIED\n"
@@ -248,7 +248,7 @@ def test_a_user_comes_from_a_folder_and_goes_to_another_one(tmp_path: pathlib.Pa
 
 
 def said(*words: Any) -> Any:
-    """What an operator is told."""
+    """The output for an operator."""
     return subprocess.check_output([sys.executable, str(TOP / "tools" / "keep"), *words], text=True, timeout=SECONDS)
 
 
@@ -321,7 +321,7 @@ BALANCED = pytest.mark.skipif(HAPROXY is None or shutil.which("openssl") is None
 
 @contextlib.contextmanager
 def balanced(folder: Any, both: Any) -> Iterator[Any]:
-    """The port of HAProxy before two fronts, by the config of packaging/haproxy."""
+    """The port of HAProxy in front of two fronts, with the config of packaging/haproxy."""
     shards = [sys.executable, str(TOP / "tools" / "shards"), "--certificate", "localhost"]
     subprocess.run(shards, cwd=folder, check=True, stdout=subprocess.DEVNULL)
     text = (TOP / "packaging" / "haproxy" / "fronts.cfg").read_text()
@@ -361,7 +361,7 @@ def test_a_balancer_needs_no_map_of_users(tmp_path: pathlib.Path, both: Any) -> 
 
 @BALANCED
 def test_who_guesses_is_shut_out_by_name(tmp_path: pathlib.Path, both: Any) -> None:
-    """After 31 first replies in a minute that denied one name at an address. Others of that address are not."""
+    """A name at an address is shut out after 31 denials in a minute. Other names at that address are not."""
 
     def guess(name: Any, source: Any) -> Any:
         with Balancer(port, source).raw(name, "w" * 32) as stream:
@@ -376,7 +376,7 @@ def test_who_guesses_is_shut_out_by_name(tmp_path: pathlib.Path, both: Any) -> N
 
 
 class Balancer:
-    """What users connect to, from an address of this machine."""
+    """HAProxy, as users connect to it from an address of this machine."""
 
     def __init__(self, port: Any, source: Any = "127.0.0.1") -> None:
         self.port, self.source = port, source

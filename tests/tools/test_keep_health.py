@@ -1,4 +1,4 @@
-"""What `tools/keep --metrics` tells of its server, its users and its store, and what watches that."""
+"""The metrics of `tools/keep --metrics` about its server, users and store, and the alerts and board for them."""
 import asyncio
 import json
 import os
@@ -81,7 +81,7 @@ def test_a_connection_that_is_one_too_many_is_counted_and_told(tmp_path: pathlib
 
 
 def test_who_asks_whether_it_is_well_is_not_counted(tmp_path: pathlib.Path) -> None:
-    """A balancer does so twice a second. Who is denied is."""
+    """A balancer asks twice a second. Users who are denied are counted."""
     with Keeper(tmp_path, *METRICS) as keeper:
         until(lambda: keeper.status()[0] == 0)
         assert keeper.told(b"", "ann", "w" * 32) == b"ERR 01 DENIED\n"
@@ -162,7 +162,7 @@ def test_prometheus_reads_it(tmp_path: pathlib.Path) -> None:
 
 
 def expressions() -> List[str]:
-    """What alerts and panels ask of Prometheus."""
+    """The expressions of alerts and panels."""
     yaml = pytest.importorskip("yaml", reason="PyYAML is not installed")
     rules = [rule for group in yaml.safe_load((WATCHING / "alerts.yml").read_text())["groups"] for rule in group["rules"]]
     assert all(rule["alert"] and rule["labels"]["severity"] and rule["annotations"]["summary"] for rule in rules)

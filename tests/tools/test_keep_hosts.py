@@ -1,4 +1,4 @@
-"""Servers of `tools/keep` whose names are lent to users: as many users as a store has, each at a server of its quota."""
+"""Servers of `tools/keep` whose names are lent to users: to all users of a store, each at a server of its quota."""
 import contextlib
 import os
 import pathlib
@@ -18,25 +18,25 @@ SMALL = (1, 2, 1)
 
 
 def names(count: int, words: str = "") -> List[str]:
-    """The tool whose servers have so many names to lend, and which waits for one that is soon free, after some words of Python."""
+    """The tool whose servers have `count` names to lend, and which waits for one that is soon free, patched by some Python."""
     few = f"from ljtools.keeping import hosts, server; del server.NAMES[{count}:]; hosts.SECONDS_TO_WAIT = 60"
     return patched(f"{few}; {words}")
 
 
 @contextlib.contextmanager
 def kept(folder: Any, count: int, users: Any, words: str = "", *options: Any) -> Iterator[Any]:
-    """A front whose servers have so many names."""
+    """A front whose servers have `count` names."""
     with Keeper(folder, *options, users=dict.fromkeys(users, SMALL), tool=names(count, words)) as keeper:
         yield keeper
 
 
 def servers(keeper: Any) -> Any:
-    """The quota of each server that is there, and how many users have names of it."""
+    """The quota of each running server, and how many users have its names."""
     return [(each["quota"], each["users"]) for each in keeper.known()["servers"] if each["process"]]
 
 
 def come_in(keeper: Any, stack: Any, name: str, sent: bytes = b"", count: int = 0) -> Any:
-    """A connection that is let in, and was told so many lines."""
+    """A connection that is let in, and the next `count` lines of its replies."""
     stream = stack.enter_context(keeper.raw(name))
     stream.sendall(sent)
     assert first_line(stream) == hello(name)
@@ -56,7 +56,7 @@ def test_each_quota_in_use_has_a_server(tmp_path: pathlib.Path) -> None:
 
 
 def test_names_are_lent_to_one_after_the_other_who_goes_on_where_it_was(tmp_path: pathlib.Path) -> None:
-    """Each has but one session, so that of who had the name before is gone."""
+    """Each user may have only one session, so the session of the previous user of the name is gone."""
     users = ["ann", "ben", "cleo", "dora", "emil"]
     with kept(tmp_path, 2, users) as keeper:
         for name in users:
@@ -80,13 +80,13 @@ def test_a_further_server_is_begun_when_all_names_are_taken(tmp_path: pathlib.Pa
     with kept(tmp_path, 2, users) as keeper, contextlib.ExitStack() as stack:
         streams = [come_in(keeper, stack, name, LOAD + b"ADVANCE a 1\n", 2)[0] for name in users]
         until(lambda: servers(keeper) == [("1 2 1", 2), ("1 2 1", 2), ("1 2 1", 1)])
-        # The end of one is seen by its users alone, as a pause.
+        # Only its users notice the end of a server, as a pause.
         os.kill(keeper.known()["servers"][1]["process"], signal.SIGKILL)
         for stream in streams:
             stream.sendall(b"ADVANCE a 1\n" + SHOW)
             assert (first_line(stream), first_line(stream)) == (b"OK ADVANCE a 2\n", SHOWN)
         assert len(keeper.events("server begun")) == 4
-        # By HUP all are begun anew, with users connected.
+        # HUP restarts all servers, with users connected.
         keeper.child.send_signal(signal.SIGHUP)
         until(lambda: len(keeper.events("server begun")) == 7)
         for stream in streams:
@@ -163,7 +163,7 @@ def test_steps_of_a_day_outlast_that_the_name_is_lent_to_others(tmp_path: pathli
 
 
 def test_names_are_lent_at_each_of_two_fronts(tmp_path: pathlib.Path, cluster: Any) -> None:
-    """Who was forgotten is still of the front that had it, and comes in by both."""
+    """A user who was forgotten still belongs to the same front, and comes in by both."""
     users = dict.fromkeys(["ann", "ben", "cleo"], SMALL)
     with Fronts(tmp_path, cluster, PROGRAM, users, (), names(1)) as both:
         until(both.is_ready)

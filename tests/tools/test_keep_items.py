@@ -15,7 +15,7 @@ from reference import items_of  # noqa: E402
 
 PIECES = (1, 7, 1 << 16)
 BODY_OF_12 = b"1\nc\nX 0 0 0\n"
-# What a reader of items is fed, and its items: how long each is, and the last reply if it is the end.
+# The bytes for a reader of items, and its items: the length of each, and the last reply if it is the end.
 STREAMS = {
     "lines": (b"LIST\n \t\n\r\nSHOW a 0\r\nLI", [(5, b""), (3, b""), (2, b""), (10, b"")]),
     "bodies": (b"LOAD a 9 1 1 rest 12\n" + BODY_OF_12 + b"LOADMIX 0\nLOAD a 5\nabc", [(33, b""), (10, b"")]),

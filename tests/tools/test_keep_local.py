@@ -1,4 +1,4 @@
-"""Transactions of a client within the process of a front: whole between two commands of the user's other client, and kept as one."""
+"""Transactions of a client within the process of a front: they are whole between two commands of another client, and kept as one."""
 import asyncio
 import contextlib
 import io
@@ -70,18 +70,18 @@ class Front:
         self.user.begin(self.server, True)
 
     def hear(self, count: int) -> None:
-        """Has so many replies of the server come."""
+        """Delivers the next `count` replies of the server."""
         replies, self.server.waiting = self.server.waiting[:count], self.server.waiting[count:]
         if replies:
             self.user.hear(replies)
 
     def write(self) -> None:
-        """Has the first change that waits be on the disk."""
+        """Completes the write of the first waiting change."""
         if self.writer.given:
             self.kept += [record.item for record in self.writer.done().records]
 
     async def settle(self, *tasks: Any) -> None:
-        """Has all be done that is under way, and these tasks."""
+        """Completes all that is under way, and these tasks."""
         quiet = 0
         while quiet < 5 or not all(task.done() for task in tasks):
             quiet = quiet + 1 if not (self.server.waiting or self.writer.given) else 0
@@ -98,7 +98,7 @@ class Front:
 
 
 class Page:
-    """What the thread of a client within the process does, in the loop."""
+    """Acts as the thread of a client within the process, in the loop."""
 
     def __init__(self, local: LocalClient, there: Any) -> None:
         self.local, self.there, self.told = local, there, b""
@@ -133,7 +133,7 @@ def run(test: Callable[[Front, Page], Awaitable[None]]) -> None:
 
 
 def test_a_look_is_whole_between_two_commands() -> None:
-    """Also where the look waits for a reply before it asks for more, and the other client has sent more meanwhile."""
+    """Even if the look waits for a reply before it asks for more, and the other client sends more in the meantime."""
 
     async def test(front: Front, page: Page) -> None:
         front.comes(LOAD + b"ADVANCE a 1\n")
@@ -164,7 +164,7 @@ def test_an_item_that_is_not_whole_yet_comes_behind() -> None:
 
 
 def test_a_transaction_is_written_as_one() -> None:
-    """Its thread is told before, and has ended when it is written: no part of it is kept where the front ends before."""
+    """Its thread gets the replies before the write, and ends after it. If the front ends before the write, no part of it is kept."""
 
     async def test(front: Front, page: Page) -> None:
         front.comes(LOAD)
@@ -282,7 +282,7 @@ def random_items(source: random.Random, most: int) -> List[bytes]:
 
 
 class Story:
-    """Items of both in the order in which they came, and what each is told: a transaction stands where it was asked for."""
+    """Items of both clients in the order in which they came, and the replies to each. A transaction comes where it was asked for."""
 
     def __init__(self, seed: int) -> None:
         self.source, self.order = random.Random(seed), []  # type: random.Random, List[Tuple[str, bytes]]
@@ -294,7 +294,7 @@ class Story:
             self.order.append(("client", item.raw))
 
     def expected(self) -> Dict[str, bytes]:
-        """The replies that the reference gives to all in this order, for each of both."""
+        """The replies of the reference to all items in this order, for each client."""
         reference, told = Reference(QUOTA), {"client": b"", "page": b""}
         for whose, items in self.order:
             told[whose] += b"".join(replies_to(io.BytesIO(items), reference))
@@ -303,7 +303,7 @@ class Story:
 
 @pytest.mark.parametrize("seed", range(12))
 def test_replies_are_those_of_the_order_in_which_all_came(seed: int) -> None:
-    """Bytes come in pieces, replies and writes whenever, and servers end in the middle."""
+    """Bytes come in pieces, replies and writes at any time, and servers end in the middle."""
     story = Story(seed)
 
     async def play(front: Front, page: Page) -> None:

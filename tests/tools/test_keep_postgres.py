@@ -1,4 +1,4 @@
-"""A database that fronts of `tools/keep` share: each user is of one of them, and one that is dead writes no more."""
+"""A database that fronts of `tools/keep` share: each user belongs to one of them, and a dead front writes no more."""
 import contextlib
 import itertools
 import signal
@@ -130,7 +130,7 @@ def test_of_two_that_claim_at_once_one_has_the_user(address: Any, one: Any, othe
 
 
 def test_what_is_being_written_is_waited_for(address: Any, one: Any, other: Any) -> None:
-    """A transaction of a front that is said to be dead meanwhile: it counts, and the next one does not."""
+    """A front is declared dead during its transaction. This transaction counts, and the next one does not."""
     for line in (one._holding, one._owning):
         line.close()
     with contextlib.closing(psycopg2.connect(address)) as writing, ThreadPoolExecutor(1) as threads:
@@ -149,7 +149,7 @@ def test_what_is_being_written_is_waited_for(address: Any, one: Any, other: Any)
 
 @contextlib.contextmanager
 def listening(one: Any, answer: Any) -> Iterator[None]:
-    """Who listens at the address of a front: it answers and ends the connection, or says nothing."""
+    """A listener at the address of a front, which answers and ends the connection, or says nothing."""
     with socket.create_server(("127.0.0.1", int(one._address.partition(":")[2]))) as listener:
 
         def serve() -> None:
@@ -243,13 +243,13 @@ def test_it_goes_on_when_the_database_was_begun_again(cluster: Any, one: Any, ot
 
 
 def test_a_wait_for_a_standby_that_was_cancelled_is_a_fault(cluster: Any, one: Any) -> None:
-    """The database says that it was written, and warns."""
+    """The database reports the write as done, but warns."""
     cluster.ask("postgres", "alter system set synchronous_standby_names = 'FIRST 1 (two)'")
     cluster.ask("postgres", "select pg_reload_conf()")
     waiting = "pg_stat_activity where wait_event = 'SyncRep' and backend_type = 'client backend'"
     try:
         with ThreadPoolExecutor(1) as threads:
-            # Writes wait once the database's checkpointer has read the new word.
+            # Writes wait once the database's checkpointer has read the new setting.
             written = threads.submit(until, lambda: one.store.write([Change("ann", [TWO])]))
             until(lambda: cluster.ask("postgres", f"select pg_cancel_backend(pid) from {waiting}"))
             with pytest.raises(StoreFault, match="the database warns: WARNING:  canceling wait for synchronous replication"):

@@ -1,5 +1,5 @@
-"""One user of `tools/keep` over a real store, with ends of the server and of the front between any two replies, and before any write:
-the bytes that a client is told are those of the reference of conformance/ that never ends."""
+"""One user of `tools/keep` with a real store. The server and the front end between any two replies, and before any write.
+A client gets the same bytes as from the reference of conformance/, which never ends."""
 import contextlib
 import io
 import pathlib
@@ -42,14 +42,14 @@ class Late:
 
 
 class World:
-    """A user, its server, and what it is told."""
+    """A user, its server, and its client."""
 
     def __init__(self, store: Any, quota: Any) -> None:
         self.store, self.quota = store, quota
         self.begin_front()
 
     def begin_front(self) -> None:
-        """A front, as after an end of the one before: what was not written is lost."""
+        """Starts a front, as after an end of the previous one. What was not written is lost."""
         self.writer: Any = Late(self.store)
         self.user: Any = user.User("ann", self.store.read("ann"), self.store, self.writer, lambda *_, **__: None, self.renew)
         self.client = Client()
@@ -65,7 +65,7 @@ class World:
         self.user.begin(self.link, False)
 
     def go_on(self, rnd: Any, ends: float) -> bool:
-        """One reply, one write, or now and then an end of the server. Returns whether there was anything to do."""
+        """Does one reply or one write, and now and then ends the server. Returns whether there was anything to do."""
         assert self.user.stopped == ""
         if rnd.random() < ends:
             self.begin_server()
@@ -86,7 +86,7 @@ class World:
         self.user.enter(self.client)
 
     def told(self, rnd: Any, ends: float) -> bytes:
-        """What the client is told when nothing is left to do."""
+        """The replies to the client when nothing is left to do."""
         while self.go_on(rnd, ends):
             pass
         assert self.client.is_over == "finished"
@@ -95,7 +95,7 @@ class World:
 
 @pytest.fixture(params=[0.002, 1e-9], ids=["often", "always"])
 def store(request: Any, tmp_path: pathlib.Path, monkeypatch: pytest.MonkeyPatch) -> Any:
-    """A store of a front that takes snapshots often, or whenever something has changed, and cuts each ADVANCE of a few steps."""
+    """A store of a front that takes snapshots often, or whenever something has changed, and cuts ADVANCE after a few steps."""
     monkeypatch.setattr(sessions, "FIRST_PIECE", 5)
     monkeypatch.setattr(user, "MAX_RECORDS", 6)
     monkeypatch.setattr(user, "SECONDS_OF_BUDGET", request.param)
@@ -130,7 +130,7 @@ QUESTIONS = [b"LIST\n", *(b"%s %s\n" % (verb, name) for name in (b"a", b"b", b"c
 
 @pytest.mark.parametrize("seed", range(50))
 def test_what_is_there_when_fronts_and_servers_end(store: Any, seed: Any) -> None:
-    """A command that was told is there, and one that was not told is done or not, in order."""
+    """A command with a reply is there. Commands without one are done or not, in order."""
     items, quota = script(f"fronts {seed}")
     rnd, world, true = random.Random(seed), World(store, quota), Reference(quota)
     while items:
@@ -146,7 +146,7 @@ def test_what_is_there_when_fronts_and_servers_end(store: Any, seed: Any) -> Non
 
 
 def matching(true: Any, items: List[bytes], told: bytes, found: bytes) -> int:
-    """How many of some items were done, by what is found: at least those whose replies were told. The reference has done them then."""
+    """How many items were done, by the answers found: at least those with replies. The reference does them too."""
     count = 0
     while True:
         if not told and b"".join(answers(true, QUESTIONS)) == found:

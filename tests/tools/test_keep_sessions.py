@@ -25,7 +25,7 @@ def frames(sim: Any) -> Any:
 
 
 def state_of(user: Any) -> List[Any]:
-    """All that is known of a user but for steps: sessions and branches in their order, with both frames."""
+    """The state of a user except for steps: sessions and branches in their order, with both frames."""
     return [
         (name, each.edge, each.symbols, each.atoms, frames(each.sim), [(k, frames(sim)) for k, sim in each.saved.items()])
         for name, each in user.sessions.items()
@@ -37,7 +37,7 @@ def steps_of(user: Any) -> List[Any]:
 
 
 class Pair:
-    """A user of the reference whose server never ended, and one that is put back at new servers, by what is kept."""
+    """A user of the reference whose server never ended, and one that is put back at new servers from what is kept."""
 
     def __init__(self, quota: Any) -> None:
         self.quota, self.true, self.user = quota, User(quota), User(quota)
@@ -47,7 +47,7 @@ class Pair:
         self.seq = self.number = 0
 
     def tell(self, item: bytes) -> bytes:
-        """Tells both an item, whose true replies are the same."""
+        """Sends an item to both, whose true replies must be the same."""
         words = words_of(item.partition(b"\n")[0])
         (true,) = replies_to(io.BytesIO(item), self.true)
         (told,) = replies_to(io.BytesIO(item), self.user)
@@ -59,7 +59,7 @@ class Pair:
         return reply
 
     def ask(self, task: Any) -> Any:
-        """Has the server of now answer what a task asks, and returns what comes of it."""
+        """Answers what a task asks by the current server, and returns the result of the task."""
         replies = None
         try:
             while True:
@@ -214,7 +214,7 @@ def test_a_reply_that_cannot_be(line: Any, reply: Any) -> None:
 
 
 def test_what_advance_was_told_for_is_waited_for() -> None:
-    """So that all is computed when the user is let in. What START was told for is not waited for."""
+    """So all is computed when the user is let in. The steps of START are not waited for."""
     records = [Told(LOAD.replace(" a ", f" {name} ").encode(), f"OK LOAD {name} 0 2\n".encode()) for name in "abc"]
     records += [Told(b"ADVANCE a 5\n", b"OK ADVANCE a 5\n"), Told(b"START b 5\n", b"OK START b 5\n")]
     records += [Told(b"ADVANCE c 5\n", b"OK ADVANCE c 5\n"), Told(b"REVERSE c\n", b"OK REVERSE c 4\n")]

@@ -1,5 +1,5 @@
-"""The store of `tools/keep`, in either database: what is read is what was written, all of it or none; what an operator does with it;
-and journals of before, which are taken over."""
+"""The store of `tools/keep`, in either database: reads return what was written, all of it or none; the commands of an operator;
+and old journals, which are taken over."""
 import contextlib
 import itertools
 import os
@@ -66,7 +66,7 @@ class InPostgres:
         self.base().close()
 
     def base(self, sync_each: bool = True) -> Any:
-        """That of a front that has begun."""
+        """The base of a front that has started."""
         base = place_of(self.place, sync_each)
         base.begin(f"127.0.0.1:{next(NUMBERS)}", False)
         return base
@@ -113,7 +113,7 @@ def written(store: Any, name: str = "ann", records: Any = RECORDS) -> None:
 
 
 def whole(where: Any, name: str = "ann") -> Any:
-    """What another one reads of a user."""
+    """A user as another store reads it."""
     with contextlib.closing(where.reader()) as other:
         return Store(other).read_whole(name)
 
@@ -144,7 +144,7 @@ def test_a_snapshot_is_in_place_of_the_records_that_it_counts_for(store: Any, wh
     store.write([SNAPSHOT])
     assert store.read("ann") == Kept(9, heads(PARTS), RECORDS[1:]) and whole(where) == Kept(9, PARTS, RECORDS[1:])
     assert store.part("ann", 3) == PARTS[1] and again(where, "ben") == RECORDS
-    # What is left, with one part anew.
+    # The parts that are left, with one of them changed.
     anew = PARTS[0]._replace(step=8, frames=bytes(24))
     store.write([Change("ann", RECORDS[:1], Snapshot(11, [anew], [1, 3]))])
     assert whole(where) == Kept(11, [anew, PARTS[1]], RECORDS[:1])
@@ -246,7 +246,7 @@ def test_a_store_of_another_format(where: Any) -> None:
         where.base()
 
 
-# Journals of before.
+# Old journals.
 
 
 def taken(data: bytes) -> List[Any]:
@@ -281,7 +281,7 @@ def test_journals_are_taken_over_once_and_moved(tmp_path: pathlib.Path) -> None:
         assert again(where) == RECORDS and again(where, "ben") == []
         assert refused == [("ben", "its journal is damaged: the record at byte 106 was changed")]
         assert sorted(os.listdir(folder / "before")) == ["ann.journal"] and (folder / "ben.journal").exists()
-        # As where the move was broken off, and as where another journal was put there.
+        # As if the move was interrupted, and as if another journal was put there.
         (folder / "ann.journal").write_bytes(journal("ann", RECORDS))
         (folder / "ben.journal").unlink()
         assert take_over_all(folder, store, lambda *words: refused.append(words)) == ["ann"]
@@ -346,7 +346,7 @@ def test_a_repair_says_what_goes_and_cuts_there(full: Any) -> None:
 
 
 def test_a_repair_of_a_snapshot(full: Any) -> None:
-    """A session that was changed goes, with its branches and with all that was done since."""
+    """A changed session is removed, with its branches and all that was done since."""
     with opened(full) as store:
         store.read("ann")
         store.write([SNAPSHOT])

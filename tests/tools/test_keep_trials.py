@@ -1,4 +1,4 @@
-"""Kills of what `tools/keep` owns while users work, and the streams of conformance/ through it: those of `bench/keep`, a few."""
+"""A few of the trials of `bench/keep`: kills of `tools/keep` and its server while users work, and streams of conformance/ through it."""
 import sys
 from typing import Any
 
@@ -26,7 +26,7 @@ def test_a_few_kills(kind: Any, is_often: Any) -> None:
 
 
 def test_streams_of_conformance_with_three_kills_in_each() -> None:
-    """Each fourth of those that have few steps and a command that is kept."""
+    """Every fourth stream of those with few steps and a command that is kept."""
     all_streams = [each for each in stored() if not each.name.startswith("runs/") and len(each.sent) < LONGEST]
     streams = [each for each in all_streams if b"OK LOAD" in each.replies][::4]
     assert len(streams) > 10

@@ -1,4 +1,4 @@
-"""What one user of `tools/keep` does at each event, with ends and a writer that only note what is asked of them."""
+"""What one user of `tools/keep` does at each event, with ends and a writer that only record what they are asked."""
 import asyncio
 import contextlib
 import io
@@ -83,7 +83,7 @@ class Link:
 
 
 class Writer:
-    """A writer that has written what it was given when `done` is called."""
+    """A writer whose changes are written when `done` is called."""
 
     def __init__(self) -> None:
         self.given: List[Any] = []
@@ -103,7 +103,7 @@ class Writer:
 
 
 class Watched(User):
-    """A user with its writer, and with what it has noted."""
+    """A user with its writer, and with the events that it has noted."""
 
     writer: Writer
     noted: List[Any]
@@ -120,7 +120,7 @@ def user() -> Any:
 
 
 def let_in(user: Any, client: Any, link: Any = None) -> Any:
-    """A client that is in, over a connection to a new server."""
+    """Lets a client in over a connection to a new server. Returns the connection."""
     link = link or Link()
     user.begin(link, True)
     user.enter(client)
@@ -128,7 +128,7 @@ def let_in(user: Any, client: Any, link: Any = None) -> Any:
 
 
 class Transport(asyncio.Transport):
-    """A stream of TLS, which cannot be aborted when it was closed twice."""
+    """A TLS stream, which cannot be aborted after it was closed twice."""
 
     def __init__(self) -> None:
         super().__init__({"peername": ("127.0.0.1", 1), "socket": socket.socket()})
@@ -151,7 +151,7 @@ class Transport(asyncio.Transport):
 
 
 def test_a_connection_of_tls_is_closed_once(monkeypatch: pytest.MonkeyPatch) -> None:
-    """Also where the client ends it too, and never reads the end."""
+    """Even if the client ends it too, and never reads the end."""
     monkeypatch.setattr(ends, "SECONDS_AFTER_END", 0.01)
     monkeypatch.setattr(ends, "SECONDS_TO_READ", 0.02)
     front: Any = SimpleNamespace(has_header=False, seconds_for_hello=1, is_well=lambda: True)
@@ -240,7 +240,7 @@ def test_a_reply_of_the_replay_that_is_another_stops_the_user(user: Any) -> None
 
 
 def answer(user: Any, link: Any, server: Any) -> Any:
-    """Has a server answer what was sent, and what is sent for that, until nothing is. Returns what was sent."""
+    """Answers all that is sent, with the replies of a server, until nothing is left. Returns what was sent."""
     everything = b""
     while link.sent:
         sent, link.sent = link.sent, b""
@@ -263,7 +263,7 @@ def test_one_client_after_the_other_with_a_snapshot_between(user: Any) -> None:
     assert [(part.id, part.session, part.step) for part in change.snapshot.parts] == [(1, 0, 3), (3, 1, 2)]
     assert second.told == HELLO and link.sent == b"LIST\n"
     answer(user, link, server)
-    # At a new server steps are others, and those that are told are the same.
+    # A new server has other steps, but clients get the same ones.
     user._store = Store(change.snapshot.parts)
     user.lose_link()
     link, server = Link(), Reference((8, 16384, 16))
@@ -320,7 +320,7 @@ def test_a_server_that_ends_within_a_snapshot_has_taken_none(user: Any) -> None:
 
 
 def test_what_finds_no_memory_is_put_back_later(user: Any, monkeypatch: pytest.MonkeyPatch) -> None:
-    """What the server has of it is dropped first."""
+    """What the server already has of it is dropped first."""
     monkeypatch.setattr("ljtools.keeping.user.SECONDS_BETWEEN_TRIES", 0.0)
     client, server = Client(LOAD + LOAD.replace(b"LOAD a", b"LOAD b")), Reference((8, 16384, 16))
     answer(user, let_in(user, client), server)

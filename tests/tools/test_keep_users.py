@@ -1,4 +1,4 @@
-"""Users of a store of `tools/keep`, who are added, changed and removed by `tools/users --store` while a front goes on."""
+"""Users of a store of `tools/keep`, who are added, changed and removed by `tools/users --store` while a front runs."""
 import contextlib
 import json
 import pathlib
@@ -37,7 +37,7 @@ def users(*words: Any) -> Tuple[Any, Any, Any]:
 
 
 def changed(front: Any, *words: Any) -> None:
-    """Has the users of a front's store be changed."""
+    """Changes the users of a front's store."""
     assert users("--store", front.store, *words)[0] == 0
 
 
@@ -67,7 +67,7 @@ def front(request: Any, tmp_path: pathlib.Path) -> Iterator[Any]:
 
 
 def lets_in(front: Any, name: str, token: str) -> None:
-    """Waits until a user may come in, who has nothing."""
+    """Waits until a user who has nothing may come in."""
     until(lambda: front.told(b"LIST\n", name, token) == hello(name) + b"OK LIST 0\n")
 
 
@@ -109,7 +109,7 @@ def test_what_a_removed_user_had_is_put_aside_and_a_new_one_has_nothing(front: A
     listed = f"ann 8 16384 16\nben 8 16384 16\n{aside['name']} is put aside\n"
     assert re.fullmatch(r"ann\.\d{4}-\d\d-\d\dT\d\d:\d\d:\d\d\.\d{6}", aside["name"])
     until(lambda: users("--store", front.store, "--list") == (0, listed, ""))
-    # It may be taken up again, by who has nothing.
+    # It may be imported again for a user who has nothing.
     done = subprocess.run([*front.tool, front.store, "--export", aside["name"]], capture_output=True, text=True, timeout=SECONDS)
     assert done.returncode == 0 and json.loads(done.stdout)["name"] == "ann"
     changed(front, "ann", "--remove")
@@ -229,7 +229,7 @@ def test_a_store_that_is_not_there(tmp_path: pathlib.Path) -> None:
 
 
 def test_putting_aside_moves_nothing_of_who_is_a_user_anew(store: Any, tmp_path: pathlib.Path, monkeypatch: pytest.MonkeyPatch) -> None:
-    """Also what is damaged is put aside, and one who puts aside too late, by what was read before, moves nothing."""
+    """Damaged records are put aside too. A store that puts aside too late, by what it read before, moves nothing."""
     record = Told(b"REVERSE a\n", b"OK REVERSE a -1\n")
     tokens_of(Namespace(store=store), tmp_path / "slips", "emil")
     with contextlib.closing(place_of(store, True)) as place:

@@ -1,4 +1,4 @@
-"""What `tools/keep` says to words that are none: those of its command line, and the lines of connections."""
+"""How `tools/keep` answers wrong words: those of its command line, and the lines of connections."""
 import pathlib
 import socket
 from typing import Any, Iterator

@@ -1,4 +1,4 @@
-"""The PROXY protocol's header, which `tools/watch --proxy` takes off: its forms are those of the protocol's document."""
+"""The header of the PROXY protocol, which `tools/watch --proxy` removes, in the forms of the protocol's document."""
 import contextlib
 import os
 import pathlib

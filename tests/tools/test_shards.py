@@ -1,4 +1,4 @@
-"""`tools/shards` spreads users over servers, and writes what these and HAProxy need."""
+"""`tools/shards` spreads users over servers, and writes the files that these and HAProxy need."""
 import hashlib
 import pathlib
 import re
@@ -17,7 +17,7 @@ SHARDS = [sys.executable, str(TOP / "tools" / "shards")]
 
 
 def told(folder: Any, *words: Any) -> Tuple[Any, Any, Any]:
-    """The status of `shards` in a folder, and what it writes."""
+    """The status and outputs of `shards` in a folder."""
     done = subprocess.run([*SHARDS, *map(str, words)], cwd=folder, capture_output=True, text=True, timeout=SECONDS)
     return done.returncode, done.stdout, done.stderr
 
@@ -28,7 +28,7 @@ def token(number: Any) -> str:
 
 @pytest.fixture
 def users(tmp_path: pathlib.Path) -> Any:
-    """Writes a file of so many users, and returns its path."""
+    """Writes a file of `count` users, and returns its path."""
 
     def write(count: Any, first: int = 0) -> Any:
         lines = [f"user{number} {token(number)} 8 16384 16\n" for number in range(first, first + count)]
@@ -57,7 +57,7 @@ def test_each_user_is_at_one_server(users: Any, tmp_path: pathlib.Path) -> None:
 
 
 def test_users_of_several_servers_who_come_by_tls(tmp_path: pathlib.Path) -> None:
-    """tools/users makes as many as several servers take, with slips of the way through HAProxy."""
+    """tools/users makes as many users as several servers take, with slips for the way through HAProxy."""
     by = [sys.executable, str(TOP / "tools" / "users"), "130", "--server", "class.example:4443", "--out", "users", "--slips", "slips"]
 
     def made(*words: Any) -> Tuple[Any, Any]:
@@ -137,7 +137,7 @@ def texts(folder: Any) -> Dict[Any, Any]:
 
 
 def test_what_was_written_by_hand_stays(users: Any, tmp_path: pathlib.Path) -> None:
-    """As the addresses of a server that is on another machine. One that is new has the address that is said."""
+    """For example, the addresses of a server on another machine. A new server has the given address."""
     told(tmp_path, users(6), 2)
     env, config = tmp_path / "shards" / "server2.env", tmp_path / "shards" / "servers.cfg"
     env.write_text(env.read_text().replace("127.0.0.1:4102", "0.0.0.0:4000").replace("WORKERS=1", "WORKERS=8") + "METRICS=0.0.0.0:9402\n")
@@ -253,7 +253,7 @@ def test_help() -> None:
 
 @pytest.mark.skipif(shutil.which("openssl") is None, reason="openssl is not installed")
 def test_a_certificate_of_a_class(tmp_path: pathlib.Path) -> None:
-    """It is taken by who trusts it, for the names that it has."""
+    """Clients that trust it accept it, for the names that it has."""
     status, out, error = told(tmp_path, "--certificate", "class.example", "192.0.2.10")
     assert (status, error) == (0, "") and out == "shards/class.pem is for HAProxy, and shards/class.crt for those who connect\n"
     pem, crt = tmp_path / "shards" / "class.pem", tmp_path / "shards" / "class.crt"

@@ -64,7 +64,7 @@ def copying(unit: str) -> List[str]:
 
 
 class Folder:
-    """A service's folder of its own, the users whom root alone can read, and what another has: a file and a folder."""
+    """A service's own folder, the users that only root can read, and what another owner has: a folder with a file."""
 
     def __init__(self, path: pathlib.Path) -> None:
         self.path, self.own, self.theirs = path, path / "own", path / "theirs"
@@ -84,7 +84,7 @@ class Folder:
         return subprocess.run(["sh", "-c", line], env=environment, stderr=subprocess.DEVNULL, timeout=SECONDS).returncode
 
     def what_is_theirs(self) -> List[Tuple[Any, ...]]:
-        """Names, owners, modes and texts of what another has."""
+        """Names, owners, modes and texts of what the other owner has."""
         paths = sorted(self.theirs.rglob("*"))
         states = [(path, path.lstat()) for path in [self.theirs, *paths]]
         return [(path.name, state.st_uid, state.st_mode, path.read_text() if path in paths else "") for path, state in states]
@@ -100,7 +100,7 @@ def folder(tmp_path: pathlib.Path) -> Folder:
 @pytest.mark.parametrize("target", ["", "file", ".", "new", "../users"])
 @pytest.mark.parametrize("unit", KEEPING)
 def test_root_follows_no_link_in_the_folder_of_a_service(unit: str, target: str, folder: Folder) -> None:
-    """A link of the service to a file or a folder of another is replaced by the copy, and what it led to stays as it was."""
+    """A link of the service to another owner's file or folder is replaced by the copy, and its target stays as it was."""
     before = folder.what_is_theirs()
     for line in copying(unit):
         folder.copy.unlink(missing_ok=True)
@@ -115,7 +115,7 @@ def test_root_follows_no_link_in_the_folder_of_a_service(unit: str, target: str,
 
 @pytest.mark.parametrize("unit", KEEPING)
 def test_what_is_written_in_the_folder_of_a_service_is_written_with_its_rights(unit: str, folder: Folder) -> None:
-    """Where the service may not write, nothing is written: so no link that it puts there meanwhile can use what root may."""
+    """Where the service may not write, nothing is written. So no link that it makes in the meantime can use the rights of root."""
     folder.own.chmod(0o500)
     for line in copying(unit):
         assert folder.run(line) != 0
@@ -133,7 +133,7 @@ def test_users_that_cannot_be_read_leave_the_copy_as_it_is(unit: str, folder: Fo
 
 @pytest.mark.parametrize("unit", KEEPING)
 def test_users_with_a_fault_are_not_taken(unit: str, folder: Folder) -> None:
-    """systemd leaves out all that is behind a command that fails: the copy, and what tells the service."""
+    """systemd skips all commands after one that fails: the copy, and the signal to the service."""
     check, *others = re.findall(r"^ExecReload=\+?(.*)$", (PACKAGING / unit).read_text(), re.M)
     assert [each.split()[0] for each in others] == ["/bin/sh", "/bin/kill"]
     check = re.sub("/usr/bin/ljserve-|/opt/ljserve/tools/", f"{TOP}/tools/", check).replace("%i", "1")

@@ -1,4 +1,4 @@
-"""Files of users: made with a slip for each, and looked through for faults."""
+"""Files of users: made with a slip for each user, and checked for faults."""
 import contextlib
 import io
 import os
@@ -21,12 +21,12 @@ GOOD = f"ann {TOKEN} 8 16384 16\n"
 
 
 def many(count: int) -> str:
-    """Lines of so many users, each with a token of its own."""
+    """Lines of `count` users, each with a token of its own."""
     return "".join(f"u{number} {number:032} 8 16384 16\n" for number in range(count))
 
 
 def told(*words: Any) -> Tuple[Any, Any, Any]:
-    """The status of `users` with these words, and what it writes."""
+    """The status and outputs of `users` with these words."""
     out, err = io.StringIO(), io.StringIO()
     with contextlib.redirect_stdout(out), contextlib.redirect_stderr(err):
         try:
@@ -107,7 +107,7 @@ class Users(unittest.TestCase):
 
 
 class Checks(unittest.TestCase):
-    """Each fault is said with its line and its cause, and the first line is the one that the program refuses."""
+    """Each fault is reported with its line and its cause, and the first line is the one that the program refuses."""
 
     CASES = [
         (GOOD.replace("\n", "\r\n"), 1, "must end with LF, got CR LF"),
@@ -150,7 +150,7 @@ class Checks(unittest.TestCase):
         self.assertEqual((status, re.findall(r"line (\d+)", out)), (1, ["1", "4"]))
 
     def test_a_token_of_two_users(self) -> None:
-        """Each of both would come in as the other. The program takes such a file."""
+        """Each of them could come in as the other. The program accepts such a file."""
         with file_of(f"{GOOD}# a comment\nben {'b' * 32} 1 1 1\ncleo {TOKEN} 8 16384 16\ndan {TOKEN} 1 1 1\n") as path:
             why = "each user must have a token of its own, got the one of line 1"
             self.assertEqual(told("--check", path), (1, f"{path}: line 4: {why}\n{path}: line 5: {why}\n", ""))
@@ -174,7 +174,7 @@ class Checks(unittest.TestCase):
         self.assertEqual(told("--check", "/no/such"), (1, "", "users: cannot read /no/such: No such file or directory\n"))
 
     def begins(self, path: Any) -> Tuple[Any, Any]:
-        """How the program ends that should serve these users at a port that is taken."""
+        """How the program ends when it should serve these users at a port that is taken."""
         with socket.create_server(("127.0.0.1", 0)) as taken:
             words = ["--listen", f"127.0.0.1:{taken.getsockname()[1]}", "--users", path, "--workers", "1", "--connections", "1"]
             done = subprocess.run([PROGRAM, "serve", *words], capture_output=True, text=True, timeout=SECONDS)

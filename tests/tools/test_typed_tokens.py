@@ -21,7 +21,7 @@ DENIED = "the server has no user ann with this token: type it again, or press Ct
 
 @pytest.fixture
 def begin() -> Iterator[Any]:
-    """Begins a prompt of ann at a terminal, which is closed at the end."""
+    """Starts a prompt of ann at a terminal, and closes it at the end."""
     begun = []
 
     def prompt(port: Any) -> Any:
@@ -34,7 +34,7 @@ def begin() -> Iterator[Any]:
 
 
 def types(terminal: Any, *typed: Any) -> str:
-    """Types each word where a token is asked for. Returns what is shown in between."""
+    """Types each word when a token is asked for. Returns what is shown in between."""
     shown = []
     for word in typed:
         shown.append(terminal.until("token of ann: "))

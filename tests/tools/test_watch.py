@@ -1,4 +1,4 @@
-"""What stands in front of a server: it passes on each byte, and tells who is connected."""
+"""`tools/watch` in front of a server: it passes on each byte, and shows who is connected."""
 import contextlib
 import hashlib
 import os
@@ -46,7 +46,7 @@ class Watcher:
 
 @contextlib.contextmanager
 def many_peers(talk: Any) -> Iterator[Any]:
-    """The port of a peer that talks in its own way to each of many connections at once."""
+    """The port of a peer that runs `talk` for each of many connections at once."""
     listener = socket.create_server(("127.0.0.1", 0), backlog=300)
 
     def serve() -> None:
@@ -71,7 +71,7 @@ def read_all(stream: Any) -> bytes:
 
 
 def reset(stream: Any) -> None:
-    """Closes a connection so that the other side is told of a reset."""
+    """Closes a connection with a reset."""
     stream.setsockopt(socket.SOL_SOCKET, socket.SO_LINGER, struct.pack("ii", 1, 0))
     stream.close()
 
@@ -158,7 +158,7 @@ class Bytes(unittest.TestCase):
 
 
 class Lines(unittest.TestCase):
-    """What is told of each connection."""
+    """The lines about each connection."""
 
     def setUp(self) -> None:
         self.server = Server(users=("ann", "ben"))

@@ -1,4 +1,4 @@
-"""Who is denied is shown as `denied` by `tools/watch`, while the connection is open and after."""
+"""`tools/watch` shows who is denied as `denied`, while the connection is open and after it."""
 import contextlib
 import re
 import socket
@@ -18,7 +18,7 @@ WATCH = str(TOP / "tools" / "watch")
 
 @contextlib.contextmanager
 def screen(port: Any) -> Iterator[Any]:
-    """What `watch` shows at a terminal, in front of a server at this port, and a connection to it."""
+    """A terminal with `watch` in front of a server at this port, and a connection to `watch`."""
     terminal = Terminal([WATCH, "127.0.0.1:0", f"127.0.0.1:{port}"])
     try:
         front = int(present(re.search(r":(\d+), for", terminal.until(r"listens on 127\.0\.0\.1:\d+, for")))[1])
@@ -29,7 +29,7 @@ def screen(port: Any) -> Iterator[Any]:
 
 
 def answers(reply: Any) -> Any:
-    """A peer that answers the first line so, and ends when the client does."""
+    """A peer that answers the first line by `reply`, and ends when the client does."""
 
     def talk(connection: Any, stop: Any) -> None:
         first = read_line(connection)
@@ -49,7 +49,7 @@ def test_denied_while_and_after(line: Any, name: Any) -> None:
 
 
 def test_denied_before_its_first_line_is_whole() -> None:
-    """What a client sends after that is no second HELLO."""
+    """Bytes that a client sends after this are no second HELLO."""
     connection = watching.Connection("192.0.2.7:4242")
     connection.hear_client(b"HEL")
     connection.hear_server(b"ERR 01 DENIED\n")

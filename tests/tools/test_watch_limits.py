@@ -40,7 +40,7 @@ class Crowd(contextlib.ExitStack):
         self.port = port
 
     def says(self, first: bytes = b"", source: str = "127.0.0.1") -> Any:
-        """A connection from an address of this machine, that has said this."""
+        """A connection from an address of this machine, which has sent `first`."""
         stream = self.enter_context(socket.create_connection(("127.0.0.1", self.port), SECONDS, (source, 0)))
         stream.sendall(first)
         return stream
@@ -55,7 +55,7 @@ def is_closed(stream: Any) -> bool:
 
 @contextlib.contextmanager
 def silent_server() -> Iterator[Tuple[Any, List[Any]]]:
-    """The port of a server that answers nothing, and the first bytes of the connections that it has."""
+    """The port of a server that answers nothing, and the first bytes of each of its connections."""
     heard: List[Any] = []
 
     def talk(connection: Any) -> None:
@@ -73,7 +73,7 @@ def server() -> Iterator[Any]:
 
 
 def test_eight_connections_of_a_user_wait_and_others_come_in(server: Any) -> None:
-    """The server never sees the next ones, of which each would be one of its --connections."""
+    """The server never sees the next ones, which would count in its --connections."""
     seen = Seen(server.port)
     with seen.watcher, seen.join() as ann, Crowd(seen.port) as crowd:
         assert dimer(ann).advance(1) == 1
@@ -97,7 +97,7 @@ def test_eight_connections_of_a_user_wait_and_others_come_in(server: Any) -> Non
 
 
 def test_who_waited_and_is_gone_counts_until_the_server_lets_go(server: Any) -> None:
-    """It sent more than HELLO, and was reset: the server has it until its turn. Else one user could have all places."""
+    """It sent more than HELLO and was reset, so the server has it until its turn. Otherwise one user could have all places."""
     seen = Seen(server.port)
     with seen.watcher, Crowd(seen.port) as crowd:
         with seen.join() as ann:
@@ -112,7 +112,7 @@ def test_who_waited_and_is_gone_counts_until_the_server_lets_go(server: Any) -> 
 
 
 def test_what_the_server_has_ended_keeps_no_place(pair: Any, monkeypatch: pytest.MonkeyPatch) -> None:
-    """Though its client does not go: the server would read on for a second."""
+    """Even if its client stays. The server would read for another second."""
     monkeypatch.setattr(watching, "SECONDS_AFTER_END", 3600)
     over = threading.Event()
 
@@ -138,7 +138,7 @@ def test_what_the_server_has_ended_keeps_no_place(pair: Any, monkeypatch: pytest
 
 @pytest.mark.parametrize("are_known", [False, True])
 def test_who_knows_a_name_alone_takes_no_place_of_the_user(tmp_path: pathlib.Path, are_known: bool) -> None:
-    """By other tokens. Where the users are known these are counted by their address alone."""
+    """The tokens are others. If the users are known, such connections are counted by their address alone."""
     (tmp_path / "users").write_text(USERS)
     options = ["--users", tmp_path / "users"] if are_known else []
     with silent_server() as (port, heard), Watcher(port, *options) as watcher, Crowd(watcher.port) as crowd:
@@ -154,7 +154,7 @@ def test_who_knows_a_name_alone_takes_no_place_of_the_user(tmp_path: pathlib.Pat
 
 
 def test_twenty_of_an_address_that_are_not_in(server: Any) -> None:
-    """Those who are in are not counted, and neither are those of another address."""
+    """Connections that are in are not counted, and neither are those of another address."""
     with Watcher(server.port) as watcher, Crowd(watcher.port) as crowd:
         with connect("127.0.0.1", watcher.port, "ann", TOKEN, timeout=SECONDS) as ann:
             first = [crowd.says() for _ in range(20)]
@@ -178,7 +178,7 @@ def test_as_many_of_an_address_as_are_said() -> None:
 
 
 def test_of_an_address_in_a_header_of_proxy() -> None:
-    """It is that of the client, and not that of the balancer."""
+    """It is the client's address, not the balancer's."""
     options = ["--proxy", "--of-an-address", 1]
     headers = [f"PROXY TCP4 192.0.2.{number} 192.0.2.1 5000 4000\r\n".encode() for number in (7, 7, 8)]
     with silent_server() as (port, heard), Watcher(port, *options) as watcher, Crowd(watcher.port) as crowd:
@@ -208,7 +208,7 @@ def pair() -> Iterator[Any]:
 
 @pytest.mark.parametrize("first", [b"", b"HELLO ann " + TOKEN.encode(), b" " * 5000])
 def test_a_first_line_that_does_not_come(pair: Any, monkeypatch: pytest.MonkeyPatch, first: bytes) -> None:
-    """It is waited for no longer than ten seconds, however slowly it comes."""
+    """The wait for it is at most ten seconds, however slowly it comes."""
     monkeypatch.setattr(admission, "SECONDS_FOR_FIRST_LINE", 0.05)
     shown = io.StringIO()
     board, connection = watching.Board(shown), watching.Connection("192.0.2.7:4242")
@@ -220,7 +220,7 @@ def test_a_first_line_that_does_not_come(pair: Any, monkeypatch: pytest.MonkeyPa
 
 
 def test_a_first_line_has_ten_seconds_in_all(pair: Any, monkeypatch: pytest.MonkeyPatch) -> None:
-    """Bytes that come meanwhile give it no more."""
+    """Bytes that come in the meantime do not extend them."""
     waits: List[float] = []
     now = iter(range(100))
     monkeypatch.setattr(admission, "time", types.SimpleNamespace(monotonic=lambda: float(next(now))))
@@ -273,7 +273,7 @@ def test_whose_a_first_line_is(first: bytes, account: Any) -> None:
 
 
 def test_a_flood_is_one_line_for_ten_seconds(tmp_path: pathlib.Path, monkeypatch: pytest.MonkeyPatch) -> None:
-    """Of a user by the name, of others by the address, on the board and in the log. Then it begins anew."""
+    """It has the name of a user, or the address of others, on the board and in the log. Then a new count begins."""
     now = [100.0]
     monkeypatch.setattr(admission, "time", types.SimpleNamespace(monotonic=lambda: now[0]))
     shown, path = io.StringIO(), tmp_path / "log"
@@ -281,7 +281,7 @@ def test_a_flood_is_one_line_for_ten_seconds(tmp_path: pathlib.Path, monkeypatch
     board = watching.Board(shown, event_log.EventLog(str(path)), "192.0.2.10:4000", limits)
 
     def come(count: int, first: bytes = b"", host: str = "192.0.2.31") -> List[bool]:
-        """Which of so many connections are let in."""
+        """Which of `count` connections are let in."""
         coming = [watching.Connection(f"{host}:{number}") for number in range(count)]
         return [board.admits(each) and board.lets_wait(each, first) for each in coming]
 

@@ -25,7 +25,7 @@ def lines_of(path: Any) -> Any:
 
 
 def events(path: Any, count: Any) -> List[Any]:
-    """The events of a log, when there are so many."""
+    """The events of a log, when there are `count`."""
     end = time.monotonic() + SECONDS
     while len(lines := lines_of(path)) < count and time.monotonic() < end:
         time.sleep(0.02)

@@ -1,4 +1,4 @@
-"""What `tools/watch --metrics` tells Prometheus of a server and its users."""
+"""The metrics of `tools/watch --metrics` about a server and its users."""
 import contextlib
 import re
 import socket
@@ -40,7 +40,7 @@ class Seen:
         return {name: int(value) for name, value in (line.rsplit(" ", 1) for line in lines)}
 
     def until(self, name: Any, value: Any) -> Any:
-        """All samples, when one of them has come to a value."""
+        """All samples, when one of them has a value."""
         end = time.monotonic() + SECONDS
         while (values := self.values()).get(name) != value and time.monotonic() < end:
             time.sleep(0.02)
@@ -95,7 +95,7 @@ def test_who_waits_and_whose_client_is_gone(seen: Any, server: Any) -> None:
         assert [values[f'ljserve_open_connections{{state="{state}"}}'] for state in ("new", "in", "denied")] == [0, 1, 0]
         assert (values["ljserve_gone_connections"], values["ljserve_places"]) == (0, 64)
         assert seen.until("ljserve_places_taken", 2)
-        with server.stopped():  # it would leave a client that is gone
+        with server.stopped():  # otherwise it would drop a client that is gone
             second.close()
             values = seen.until("ljserve_gone_connections", 1)
             assert (values['ljserve_open_connections{state="waits"}'], values["ljserve_places_taken"]) == (1, 2)
@@ -104,7 +104,7 @@ def test_who_waits_and_whose_client_is_gone(seen: Any, server: Any) -> None:
 
 
 def test_who_waits_and_is_reset_keeps_a_place(seen: Any, server: Any) -> None:
-    """The connection has ended here, and the server has it until its turn."""
+    """The connection has ended here, but the server has it until its turn."""
     with seen.join() as user:
         user.ask("LIST")
         second = socket.create_connection(("127.0.0.1", seen.port), SECONDS)
@@ -128,7 +128,7 @@ def test_who_is_denied_is_counted_and_is_no_user(seen: Any) -> None:
 
 
 def test_connections_that_are_left_and_those_that_go_round(seen: Any, server: Any) -> None:
-    """A connection that does not come through it is in the places, as /proc tells it."""
+    """A connection that does not come through `watch` counts in the places, which are read from /proc."""
     before = seen.values()
     assert (before["ljserve_up"], before["ljserve_connections_left"]) == (1, 100)
     with seen.join(), socket.create_connection(("127.0.0.1", server.port), SECONDS):
@@ -143,7 +143,7 @@ def test_a_server_that_has_ended(seen: Any, server: Any) -> None:
 
 
 def test_a_new_server_accepts_connections_anew(monkeypatch: pytest.MonkeyPatch) -> None:
-    """Those since the last look at the one before count, since it is not known which one had them."""
+    """Connections since the last look at the previous server count, since it is not known which server had them."""
     board = watching.Board(None)
     told = metrics.Metrics(("127.0.0.1", 4000), board)
     server = server_process.Server(True, 0, 0, 10, (7, "100"))
@@ -160,7 +160,7 @@ def test_a_new_server_accepts_connections_anew(monkeypatch: pytest.MonkeyPatch) 
 
 
 def test_a_server_on_another_machine() -> None:
-    """192.0.2.1 is no machine's address. What passes through is all that is known: who says nothing does not."""
+    """192.0.2.1 is no machine's address. Only connections that pass through are known, and a silent one does not."""
     assert server_process.server_at(("192.0.2.1", 4000)) is None
     board = watching.Board(None)
     passed, new = (watching.Connection(f"192.0.2.{number}:4242") for number in (7, 8))
@@ -173,7 +173,7 @@ def test_a_server_on_another_machine() -> None:
 
 
 def test_a_host_of_which_one_address_cannot_be_had(monkeypatch: pytest.MonkeyPatch) -> None:
-    """As `localhost` where the machine has no IPv6."""
+    """As with `localhost` if the machine has no IPv6."""
     both = [each for host in ("192.0.2.1", "127.0.0.1") for each in socket.getaddrinfo(host, 0, type=socket.SOCK_DGRAM)]
     here = server_process.hosts_here("127.0.0.1")
     monkeypatch.setattr(socket, "getaddrinfo", lambda *_, **__: both)

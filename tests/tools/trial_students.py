@@ -1,6 +1,6 @@
-"""Students of a class for its trials: each has a lesson of its own, and comes over a connection of bytes, at a prompt or by a page.
+"""Students for the trials of a class: each has a lesson of its own, and uses a connection of bytes, a prompt or a page.
 
-A student whose connection ends comes back until a reply is there. What had no reply is told by the step that the session has come to.
+A student whose connection ends comes back until it has a reply. The step of the session shows whether a command without reply was done.
 """
 import contextlib
 import re
@@ -21,12 +21,12 @@ SECONDS_BETWEEN_TRIES = SECONDS_BETWEEN_COMMANDS = 0.02
 FLOOD, SECONDS_OF_FLOOD = 2000, 0.5
 MORE_LINES = re.compile(rb"OK (?:DUMP|LIST) .*?(\d+)\n")
 FIRST_OF_REPLY = re.compile(r"(?:.*> )?((?:OK|ERR) .*)")
-# Of a page: what it has shown of replies, and whether it goes on.
+# In a page: the replies that it shows, and whether it does not wait for the class.
 REPLIES, IS_IN = "document.getElementById('replies').textContent", "document.getElementById('waits').textContent === ''"
 
 
 def commands_of(number: int, rounds: int = 6) -> List[bytes]:
-    """The lesson of a student: 2 to 32 atoms and other steps than those of the others, there and back."""
+    """The lesson of a student: 2 to 32 atoms and its own numbers of steps, there and back."""
     count = 2 + number * 7 % 31
     rows = [f"Ar {1.5 * (atom % 4)} {1.5 * (atom // 4 % 4)} {1.5 * (atom // 16)}\n" for atom in range(count)]
     body = f"{count}\ntrial\n{''.join(rows)}"
@@ -36,7 +36,7 @@ def commands_of(number: int, rounds: int = 6) -> List[bytes]:
 
 
 def replies_alone(commands: List[bytes]) -> List[bytes]:
-    """The replies of a program that has these commands alone, the last of which may have more lines."""
+    """The replies of a program to these commands alone. Only the last one may have more lines."""
     done = subprocess.run([PROGRAM, "run"], input=b"".join(commands), capture_output=True, timeout=SECONDS, check=True)
     lines = done.stdout.splitlines(keepends=True)
     before = len(commands) - 1
@@ -44,7 +44,7 @@ def replies_alone(commands: List[bytes]) -> List[bytes]:
 
 
 def step_in(reply: bytes) -> Optional[int]:
-    """The step to which a command has led that changes it."""
+    """The step in the reply to a command that changes it, or None."""
     verb, *words = reply.split()[1:]
     return int(words[1]) if verb in (b"LOAD", b"ADVANCE", b"REVERSE") else None
 
@@ -58,7 +58,7 @@ class Way(Protocol):
     asked: float
 
     def ask(self, command: bytes) -> bytes:
-        """The reply to a command. Raises OSError if there is no connection, or it has ended: then the next one is another."""
+        """The reply to a command. Raises OSError if there is no connection, or it has ended. The next call uses another one."""
 
     def close(self) -> None:
         ...
@@ -138,7 +138,7 @@ class AtPrompt:
 
 
 class OnPage:
-    """The page of the slip's link in a browser of some width, in whose box commands are typed."""
+    """The page of the slip's link in a browser of some width. Commands are typed into its box."""
 
     def __init__(self, lesson: PagedLesson, name: str, width: int):
         self.browser = Browser(width, 900, "--ignore-certificate-errors")
@@ -174,12 +174,12 @@ class Student:
     """A student whose commands are done one after the other, over as many connections as that takes."""
 
     def __init__(self, name: str, number: int, begin: Callable[[], Way], before: Callable[["Student", int], None]):
-        """Before each command something may be done."""
+        """`before` is called before each command."""
         self.name, self._begin, self._before = name, begin, before
         self.commands = commands_of(number)
         self.alone = replies_alone([*self.commands, b"DUMP a\n"])
         self.replies: List[Optional[bytes]] = []
-        # When each command was sent that has the reply, and when the reply was there.
+        # When each command was sent last, and when its reply was there.
         self.times: List[Tuple[float, float]] = []
         self.end = b""
         self.fault: Optional[BaseException] = None
@@ -226,7 +226,7 @@ class Student:
                 time.sleep(SECONDS_BETWEEN_TRIES)
 
     def check(self) -> int:
-        """Compares all replies with those of a program that has these commands alone. Returns how many were lost."""
+        """Compares all replies with those of a program to these commands alone. Returns how many were lost."""
         self.thread.join(SECONDS)
         assert self.fault is None and not self.thread.is_alive(), (self.name, self.replies, self.fault)
         assert len(self.replies) == len(self.commands)
@@ -235,7 +235,7 @@ class Student:
         return self.replies.count(None)
 
     def seconds_after(self, moment: float) -> float:
-        """How long after a moment the first reply was there to what was asked since."""
+        """The seconds from a moment to the first reply to a command that was sent after it."""
         return next((replied for asked, replied in self.times if asked > moment), float("inf")) - moment
 
     def close(self) -> None:
@@ -243,11 +243,11 @@ class Student:
             self.way.close()
 
 
-# Those who do not behave.
+# Students who misbehave.
 
 
 class Floods(Raw):
-    """Has more connections than may wait, and asks thousands of things without a look at the replies for a while."""
+    """Opens more connections than may wait, and sends thousands of commands without reading the replies for a while."""
 
     def misbehave(self) -> None:
         self.left = []
@@ -262,7 +262,7 @@ class Floods(Raw):
 
 
 class Stops(Raw):
-    """Stops in the middle of a line, whose connection stays open."""
+    """Stops in the middle of a line. Its connection stays open."""
 
     def misbehave(self) -> None:
         self.stream.sendall(b"ADVANCE a 10")
@@ -270,7 +270,7 @@ class Stops(Raw):
 
 
 class Vanishes(Raw):
-    """Is behind a relay that stops, and says no end to either side."""
+    """Connects through a relay that stops, without an end to either side."""
 
     def misbehave(self) -> None:
         self.close()

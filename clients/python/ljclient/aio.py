@@ -34,11 +34,11 @@ from . import connecting, session as sessions, user as users
 from .errors import Closed
 from .renamed import Renamed
 
-# Calls that give one thing after the other.
+# Methods that return iterators.
 ITERATED = ("frames", "thermo")
-# What a block stands within.
+# Methods that return context managers.
 BLOCKS = ("unrecorded",)
-# What has no call here, since a thread is behind each call already.
+# Methods that are left out here, since each call is already made in a thread.
 LEFT_OUT = ("on_wait",)
 END = object()
 

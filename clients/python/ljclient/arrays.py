@@ -17,7 +17,7 @@ if TYPE_CHECKING:
 
     FloatArray = NDArray[float64]
     IntArray = NDArray[int64]
-    # What is read as coordinates of all atoms.
+    # The types that are read as coordinates of all atoms.
     Rows = Union[Sequence[Any], NDArray[Any]]
 else:
     # numpy need not be installed.
@@ -31,7 +31,7 @@ def __getattr__(name: str) -> Any:
     """`numpy`, or None if it is not installed. It is imported at first access, which takes as long as the rest of this package."""
     if name != "numpy":
         raise AttributeError(f"module {__name__!r} has no attribute {name!r}")
-    # By its name, so that types are the same where it is installed and where not.
+    # Imported by name, so that types are the same whether it is installed or not.
     try:
         globals()[name] = importlib.import_module(name)
     except ImportError:

@@ -36,9 +36,9 @@ WHY = "ljclient.ase needs"
 _Driver: Any = optional.ase("ase.md.md", WHY).MolecularDynamics
 _Calculator: Any = optional.ase("ase.calculators.singlepoint", WHY).SinglePointCalculator
 
-# What is compared of atoms to see whether they were changed, beside their positions.
+# Methods whose results are compared, besides positions, to detect changed atoms.
 KEPT = operator.methodcaller("get_atomic_numbers"), operator.methodcaller("get_cell"), operator.methodcaller("get_momenta")
-# After so many steps at the latest the places are read, so that each atom is followed round the periodic box.
+# The places are read after at most this many steps, so that each atom can be unwrapped.
 MOST_STEPS = 100
 
 

@@ -36,9 +36,9 @@ _ALL_CHANGES: List[str] = optional.ase("ase.calculators.calculator", WHY).all_ch
 _voigt: Any = optional.ase("ase.stress", WHY).full_3x3_to_voigt_6_stress
 
 H = 1 << 18
-"""The step factor by whose one step forces are read: so large that rounding counts for little, and no push goes half round the box."""
+"""The step factor for reading forces: so large that rounding errors are small, yet no push reaches half the edge."""
 MASS = 1.0
-"""The mass in dalton of all atoms, on which no energy and no force depends."""
+"""The mass of each atom in dalton. No energy or force depends on it."""
 
 
 class Ljserve(_Base):  # type: ignore[misc]

@@ -14,7 +14,7 @@ from .units import RING, Scale
 if TYPE_CHECKING:
     from .user import User
 
-# Of the server: from there no step more can be made.
+# The server's largest step number, from which no further step can be made.
 MAX_STEP = 10**12
 
 

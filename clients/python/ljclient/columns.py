@@ -9,9 +9,9 @@ from .ase_bridge import TIME_UNIT
 from .scalars import checked_positive
 
 PROPERTIES = re.compile(rb'\bProperties\s*=\s*(?:"([^"]*)"|(\S+))')
-# What the server reads of a line: a symbol and three coordinates.
+# The columns that the server reads: a symbol and three coordinates.
 READ = "species:S:1:pos:R:3"
-# Columns that are velocities in angstrom / femtosecond. They count if there are no momenta, which are in the units of ASE.
+# Columns of velocities in angstrom / femtosecond. They are used if there are no momenta, which are in the units of ASE.
 VELOCITIES = ("velo", "vel", "velocities", "velocity")
 MOMENTA, MASSES = "momenta", "masses"
 

@@ -17,14 +17,14 @@ SITES: Dict[str, List[Position]] = {
     "bcc": [(0.0, 0.0, 0.0), (0.5, 0.5, 0.5)],
     "fcc": [(0.0, 0.0, 0.0), (0.5, 0.5, 0.0), (0.5, 0.0, 0.5), (0.0, 0.5, 0.5)],
 }
-"""The atoms of a cell of each lattice, in parts of its edge."""
+"""The positions in a cell of each lattice, in units of its edge."""
 CLOSEST = 0.9
-"""How near two atoms may be after `relax`, in sigma: their energy is 6.6 epsilon then."""
+"""The default minimum distance after `relax`, in sigma. A pair has 6.6 epsilon there."""
 MOST_ROUNDS = 2000
 SKIN = 0.3
-"""By how much farther than the distance pairs are listed, as a part of it."""
+"""Pairs are listed up to the distance plus this part of it."""
 BLOCK = 512
-"""So many atoms are compared with all others at a time."""
+"""Number of atoms compared with all others at a time."""
 
 
 @dataclasses.dataclass(frozen=True, eq=False)

@@ -15,9 +15,9 @@ from .order import Order
 
 MILLION = 10**6
 PIECE = 8
-# Whole numbers have six digits at most.
+# In millionths: numbers have at most six digits before the point.
 TOO_MANY = 10**12
-# The bytes of a symbol and the blank after it. Its pieces have 24, and the line has more.
+# The most bytes of a symbol and the blank after it. Its pieces have 24 bytes, and the line has more.
 LONGEST = 17
 
 

@@ -12,7 +12,7 @@ from .arrays import numpy
 NUMBER_DIGITS = 4
 PLACE_DIGITS = 10
 DECIMALS = 6
-# The digits of an edge at most.
+# The most digits of an edge before its point.
 MOST_DIGITS = 7
 
 
@@ -130,7 +130,7 @@ def _numbers(eights: Any, free: Any, carry: int, wrong: int, shift: int = 0) -> 
         return None
     if shift:
         eights <<= numpy.uint64(shift)
-    # Two digits are put together, and then four: a factor adds each one to ten or a hundred times the one before it.
+    # Two digits are joined, and then four: a factor adds each number to 10 or 100 times the one before it.
     fours = eights.view("<u4")
     for factor, bits, kept in ((10 << 8 | 1, 8, 0x00FF00FF), (100 << 16 | 1, 16, 0x0000FFFF)):
         fours *= numpy.uint32(factor)

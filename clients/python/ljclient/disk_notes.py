@@ -29,7 +29,7 @@ FORMAT = "ljclient note 1"
 THIS_MACHINE = ("127.0.0.1", "::1", "[::1]")
 DIGITS = 16
 MEASURED = 7
-# The name of a session, a sum of whose it is, and of a saved session digits that make it a file of its own.
+# The session's name, a hash of server, user and session, and for a saved session digits that make the file unique.
 SHAPE = re.compile(rf"([A-Za-z0-9_-]{{1,16}}?)-[0-9a-f]{{{DIGITS}}}(?:-[0-9a-f]{{8}})?\.[a-z]+")
 
 

@@ -20,21 +20,21 @@ if TYPE_CHECKING:
     from .loading import Loader
 
 LARGE_STEP_FACTOR = 200_000
-# Of the kinetic energy.
+# The allowed rise, as a part of the kinetic energy.
 LARGE_PART = 0.05
-# What bins and cutoff of the table bring by themselves, in epsilon an atom times the square root of how many atoms there are.
+# The rise caused by bins and cutoff of the table, in epsilon per atom times the square root of the number of atoms.
 RISE_BY_TABLE = 0.4
-# What they bring in the first steps, in epsilon an atom. The cutoff is not shifted, so a pair that leaves it takes 0.016 epsilon,
-# and in a crystal that grows warm many do.
+# The rise that they cause in the first steps, in epsilon per atom. The potential is not shifted, so each pair that leaves the cutoff
+# adds 0.016 epsilon, and many pairs leave it in a crystal that warms up.
 FIRST_RISE = 0.1
-# What is told of as a fall, which no heating brings, in epsilon an atom.
+# The fall that gives a warning, in epsilon per atom. Heating causes no fall.
 LARGE_FALL = 0.5
 # The start of a run is measured if the run has more steps than this.
 SHORT_RUN = 500
-# After so many steps from the start the energy is measured again, then when their number has doubled, and after each 20,000.
+# The energy is measured again after this many steps from the start, then when their number has doubled, and after each 20,000.
 FIRST_CHECK = 1_000
 CHECKED_EACH = 20_000
-# The commands that wait until the steps of a session are made which were started.
+# The commands that wait for the started steps of a session.
 WAITING = {"ADVANCE", "REVERSE", "BRANCH", "RESTORE", "TUG", "MEASURE", "SHOW", "DUMP"}
 
 
@@ -64,7 +64,7 @@ class EnergyWatch:
         self.start, self.settled, self.gone, self.next_check = None, None, 0, FIRST_CHECK
 
     def room(self, left: int) -> int:
-        """The number of steps that a session may make until it is measured, if so many are left of a run. 0: it is measured now."""
+        """The number of steps that a session may make until it is measured, if `left` steps are left of a run. 0: it is measured now."""
         if self.start is None:
             return 0 if self.gone + left > SHORT_RUN else UNBOUNDED
         return max(self.next_check - 1 - self.gone, 0)

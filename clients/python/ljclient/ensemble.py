@@ -23,16 +23,16 @@ from .session import Session
 from .connecting import Program, run
 from .user import User
 
-# What only an ensemble needs is imported where it runs, since it takes a tenth of the time of all else: executors and pickle.
+# Executors and pickle are imported where an ensemble runs, since this takes a tenth of the time of all other imports.
 if TYPE_CHECKING:
     from concurrent.futures import Executor, Future
 
-# Names of errors of Dask, which need not be installed, that tell of a worker that is gone.
+# Names of Dask's errors for a lost worker. Dask need not be installed.
 LOST_NAMES = ("KilledWorker", "CommClosedError")
 OLD_NOTES = "delete it, so that its job is computed again, or use another folder="
-# An executor, or what makes one, or none.
+# An executor, a function that returns one, or None.
 Pool = Union["Executor", Callable[[], "Executor"], None]
-# What was noted of each job that is done, by its number.
+# The notes of each finished job, by its number.
 Results = Dict[int, List[Any]]
 
 

@@ -10,9 +10,9 @@ from .sampling import Progress, onward
 if TYPE_CHECKING:
     from .session import Session
 
-# The temperature of a stretch is the mean of so many, which are measured after equal parts of it.
+# The temperature of a stretch is the mean of this many values, measured after equal parts of it.
 POINTS = 10
-# How many stretches there are if nothing says their length.
+# The default length of a stretch is all steps divided by this.
 STRETCHES = 20
 
 

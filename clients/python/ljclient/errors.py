@@ -23,7 +23,7 @@ class ClientError(Exception):
     def __str__(self) -> str:
         return f"{super().__str__()}; {self.more}" if self.more else super().__str__()
 
-    # A load with `replace=True` once dropped a session before the new one was there.
+    # In earlier versions a load with `replace=True` dropped a session before loading the new one.
     _rescued: Optional[str] = None
     rescued = Renamed[Optional[str]]("_rescued")
 

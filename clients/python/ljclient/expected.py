@@ -23,7 +23,7 @@ NUMBER = re.compile(r"[0-9]{1,19}\Z")
 DISPLACEMENT = re.compile(r"-?[0-9]{1,19}\Z")
 LOADS = ("LOAD", "LOADMIX")
 READS = ("MEASURE", "SHOW", "DUMP", "LIST")
-# The words behind the name of a session, by the command.
+# The forms of the words after a session's name, by command.
 SHAPES: Mapping[str, Sequence["re.Pattern[str]"]] = {
     "ADVANCE": [NUMBER],
     "START": [NUMBER],

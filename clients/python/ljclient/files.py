@@ -58,7 +58,7 @@ def _mode_for(target: str) -> int:
     """The mode of a file, or of a new one if it does not exist."""
     with contextlib.suppress(FileNotFoundError):
         return os.stat(target).st_mode & 0o777
-    # It is told only by being set: for this moment what other threads make is for its owner alone.
+    # The mask can be read only by setting it. Meanwhile files of other threads are for their owner alone.
     mask = os.umask(0o077)
     os.umask(mask)
     return 0o666 & ~mask
@@ -70,7 +70,7 @@ def put_in_place(partial: str, target: str) -> None:
     try:
         folder = os.open(os.path.dirname(target), os.O_RDONLY)
     except OSError:
-        return  # one that may be written and not be read, or a system that opens no folder
+        return  # a folder that may be written but not read, or a system that opens no folders
     try:
         os.fsync(folder)
     except OSError as error:

@@ -24,10 +24,10 @@ if TYPE_CHECKING:
 
 LOOK = "ljclient-look"
 CHANGE = "ljclient-change"
-# The session that a load has under this name until it is in the place of another one.
+# The name of a new session until it has replaced another one.
 REPLACING = "ljclient-new"
 RESERVED = frozenset((LOOK, CHANGE))
-# How many commands a guard takes at most beside those that it guards: all of these go over one connection.
+# The most commands that a guard adds to the guarded ones. All of them go over one connection.
 MOST_OF_A_GUARD = 10
 NO_PLACE = (BranchExists, QuotaBranches, Memory)
 
@@ -59,7 +59,7 @@ class Way(NamedTuple):
 
 @contextlib.contextmanager
 def look(user: "Loader", name: str, count: int) -> Iterator[Way]:
-    """A look at a session by so many commands, which leaves it as it was. Steps that were started before are waited for first;
+    """A look at a session by `count` commands, which leaves it as it was. Steps that were started before are waited for first;
     then an interrupt waits until the end.
 
     The block must send the commands of the yielded `Way`, and its `end` last.
@@ -94,7 +94,7 @@ def change(user: "Loader", name: str, places: Sequence[Place], before: Sequence[
 
 @contextlib.contextmanager
 def turning(user: "Loader", name: str, count: int) -> Iterator[Tuple[str, ...]]:
-    """As `change`, for so many commands that reverse a session or advance it by a step. It is guarded like a look.
+    """As `change`, for `count` commands that reverse a session or advance it by a step. It is guarded like a look.
 
     Raises a refusal of NO_PLACE, and changes nothing, if the quota has no room for the branch.
     """
@@ -111,7 +111,7 @@ def turning(user: "Loader", name: str, count: int) -> Iterator[Tuple[str, ...]]:
 
 @contextlib.contextmanager
 def _begun(user: "Loader", name: str, count: int) -> Iterator[None]:
-    """Lets so many commands of a session use one connection, after steps that were started, and keeps its known direction. An
+    """Lets `count` commands of a session use one connection, after steps that were started, and keeps its known direction. An
     interrupt waits until the end."""
     known = user._known_of(name)
     if known.is_started:

@@ -24,7 +24,7 @@ if TYPE_CHECKING:
 class Handle:
     """The internal part of a session: its name, what is known of it, and commands during which other threads wait."""
 
-    # So that a name that is none, as in `session.temprature = 3`, is an AttributeError.
+    # Setting a misspelt name, as in `session.temprature = 3`, raises AttributeError.
     __slots__ = ("name", "mixture", "motion", "sampled", "_lock", "_user", "_given", "_pace", "_path", "__weakref__")
 
     def __init__(

@@ -8,12 +8,12 @@ import threading
 from typing import Any, Iterator, List
 
 _signal = importlib.import_module("_signal")
-"""What signal calls: without its enumerations a call takes a tenth of the time."""
+"""The module that `signal` calls. Without the enumerations of `signal`, a call takes a tenth of the time."""
 
 
 @contextlib.contextmanager
 def held() -> Iterator[None]:
-    """Holds back an interrupt from the keyboard until the end. Threads other than the main thread get none."""
+    """Delays an interrupt from the keyboard until the end. Only the main thread gets interrupts."""
     before = _signal.getsignal(signal.SIGINT)
     if before is None or threading.current_thread() is not threading.main_thread():
         yield

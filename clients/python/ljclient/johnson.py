@@ -10,7 +10,7 @@ from typing import List
 
 from . import scalars
 
-# The 32 linear parameters of their table, and the one in the exponential.
+# The 32 linear parameters of the paper's table, and the parameter in the exponential.
 X = [
     *(0.8623085097507421, 2.976218765822098, -8.402230115796038, 0.1054136629203555, -0.8564583828174598, 1.582759470107601),
     *(0.7639421948305453, 1.753173414312048, 2798.291772190376, -0.048394220260857657, 0.9963265197721935, -36.98000291272493),
@@ -20,7 +20,7 @@ X = [
     *(-721.8487631550215, 172.1802063863269),
 ]
 GAMMA = 3.0
-# Of each coefficient the powers of the temperature, in the order of the parameters.
+# The powers of the temperature in each coefficient, in the order of the parameters.
 POWERS_A = [(1, 0.5, 0, -1, -2), (1, 0, -1, -2), (1, 0, -1), (0,), (-1, -2), (-1,), (-1, -2), (-2,)]
 POWERS_B = [(-2, -3), (-2, -4), (-2, -3), (-2, -4), (-2, -3), (-2, -3, -4)]
 

@@ -121,7 +121,7 @@ def write_lammps_data(session: "Session", path: Path, *, units: Optional[str] = 
     atoms = ase_bridge.made(elements, frame.positions, frame.velocities, frame.step, scale)
     masses = [scale.mass or 1.0] * len(kinds)
     if units == "lj":
-        # Of ASE they are in the unit of the file for each unit of time; in the units of LAMMPS a time has none of femtoseconds.
+        # A frame has them in the unit of the file, per femtosecond or unit of time. LAMMPS needs them in sigma per unit of time.
         speeds = arrays.scaled(frame.velocities, scale.time(1) / scale.reduced_dt / scale.sigma * _metal())
         atoms.set_masses([1.0] * len(own))
         atoms.set_cell([scale.edge / scale.sigma] * 3, scale_atoms=True)

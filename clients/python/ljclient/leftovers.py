@@ -149,9 +149,9 @@ def _turned_back(user: "Loader", note: Note, step: int) -> bool:
     turn, on = f"REVERSE {name}", f"ADVANCE {name} 1"
     turned = number_after(turn, user.ask(turn).words, 2)
     now = step - turned
-    # Where only REVERSE was on its way, it is at (n, d) or (n - d, -d).
+    # If only REVERSE was under way, the session is at (n, d) or (n - d, -d).
     d = note.direction if note.direction is not None else now if step == n else -now
-    # From here, turned once already, to the note.
+    # The commands that lead back to the note, after the REVERSE above.
     ways: Dict[Tuple[int, int], List[str]] = {(n, d): [turn], (n + d, d): [on, turn], (n, -d): [turn, on, turn], (n - d, -d): []}
     way = ways.get((step, now))
     if way is not None:

@@ -39,19 +39,19 @@ class Loader:
     """The part of a `User` that loads atoms, and stores what is known of each session."""
 
     def __init__(self, versions: Optional[Versions] = None) -> None:
-        # Of the thread that uses the user. It is held as long as something has to be whole, and may be taken again.
+        # Held by a thread while it uses the user. Other threads wait meanwhile. It is reentrant.
         self.lock = self._lock = threading.RLock()
         self.name: Optional[str] = None
-        # Of the sessions that this user has seen at the server, and not dropped.
+        # Sessions that this user has seen at the server, and has not dropped.
         self.session_names: Set[str] = set()
-        # Where the server listens, as it was said: HOST:PORT. Nothing of a program of its own.
+        # The server's address as given, HOST:PORT. Empty for a program of its own.
         self.address = ""
         self._known: Dict[str, Known] = {}
-        # Sessions whose energy is measured as soon as the steps are made that were started.
+        # Sessions whose energy is measured as soon as their started steps are done.
         self._started: Set[str] = set()
         self._listeners = Listeners()
         self._versions: Versions = versions or (lambda: [])
-        # Where the record of a new session of this name is written, if its load does not say.
+        # Returns the file for the record of a new session of this name, if its load gives none.
         self._record_for: Optional[Callable[[str], files.Path]] = None
 
     def load(

@@ -42,7 +42,7 @@ def _of_wheel(folders: List[str]) -> Optional[str]:
     from importlib import metadata
 
     for wheel in metadata.distributions(name="ljserve", path=folders):
-        # `pip install --target` notes another place than the one that it puts the program at.
+        # `pip install --target` records a path that differs from the program's actual path.
         told = [str(file) for file in wheel.files or [] if file.name == "ljserve"]
         for file in [*told, "bin/ljserve"]:
             path = os.path.realpath(str(wheel.locate_file(file)))

@@ -21,7 +21,7 @@ from .state import Command
 MOST_CHANGES = 256
 # The changes that wait for the pending steps of their session.
 WAITING = ("ADVANCE", "REVERSE", "BRANCH", "RESTORE", "TUG")
-# What the server may refuse for reasons of its own: what is sent behind it depends on that, so it is sent alone.
+# Changes that the server may refuse for reasons of its own. Later commands depend on that, so each is sent alone.
 ALONE = (*LOADS, "BRANCH")
 
 
@@ -273,7 +273,7 @@ def _undecided(cases: Sequence[Sessions], lines: Sequence[str], found: Found) ->
 
 
 def _difference(name: str, cases: Sequence[Optional[Expected]], found: Found) -> str:
-    """What a session is, and what was expected. Empty if it is as before the commands, or as one of them leaves it."""
+    """The found and the expected state of a session, as text. Empty if it is as before the commands, or as one of them leaves it."""
     if name in found.rows and any(case is not None and _fit_of(name, case, found) for case in cases):
         return ""
     if name not in found.rows and None in cases:

@@ -12,13 +12,13 @@ from typing import Any, Iterator, List, NamedTuple, Tuple
 from . import arrays
 from .units import RING
 
-# So many columns beside each other are as wide as the reach, and so many cells on each other as high.
+# The reach is at most as wide as this many columns, and at most as high as this many cells.
 COLUMNS, CELLS = 2, 8
-# Up to so many cells for each atom there is a table of where each begins; else it is looked for.
+# With up to this many cells per atom there is a table of where each cell begins; else it is searched for.
 MOST_CELLS = 16
-# So many pairs are compared at a time, or those of an atom.
+# Number of pairs compared at a time. The pairs of one atom are not divided.
 MOST_PAIRS = 1_000_000
-# So many atoms are compared with all others at a time, where the reach is so wide that cells leave out few.
+# Number of atoms compared with all others at a time, if the reach is too wide for cells to exclude many.
 BLOCK = 256
 
 

@@ -26,10 +26,10 @@ if TYPE_CHECKING:
 
 WHY = "a session in a notebook is shown by"
 PIXELS = 360
-# How often it is drawn while steps are made, in seconds.
+# Time between drawings while steps are made, in seconds.
 DRAWN_EACH = 0.2
 MOST_STEPS = 1_000_000
-# Colours of atoms by their symbols in order of appearance: blue and orange, which people who see few colours tell apart.
+# Colours of atoms by their symbols in order of appearance: first blue and orange, which colour-blind people can distinguish.
 COLOURS = ("#3b7dd8", "#e08a1e", "#2a9d6f", "#a05fc4")
 
 

@@ -16,10 +16,10 @@ from .errors import Missing
 
 HEAD = "ljserve notes"
 VERSION = 1
-# How a pickle begins.
+# The first byte of a pickle.
 PICKLE = b"\x80"
 MAX_SESSIONS = 64
-# Kinds of numbers, and of strings, that an array of numpy keeps: those whose values are ones of Python too.
+# Kinds of numbers and strings that are kept in numpy arrays: those whose values are also values of Python.
 OF_NUMPY = re.compile(r"[<>|=]?(?:b1|[iu][1248]|f[248]|c8|c16|U[0-9]{1,6})\Z")
 KINDS = "None, numbers, strings, and lists, tuples, dicts and numpy arrays of them"
 
@@ -91,14 +91,14 @@ def _of_numpy(kind: Any, shape: Any, values: Any) -> Any:
     return arrays.numpy.array(of_json(values), dtype=kind).reshape(shape)
 
 
-# What is no word of JSON: for each type the name of its kind, and its parts.
+# For each type with values that JSON lacks: the name of its kind, and the function that returns its parts.
 TAGS: Dict[type, Any] = {
     float: ("float", repr),
     complex: ("complex", lambda number: [to_json(number.real), to_json(number.imag)]),
     tuple: ("tuple", lambda parts: [to_json(part) for part in parts]),
     dict: ("dict", lambda pairs: [[to_json(key), to_json(value)] for key, value in pairs.items()]),
 }
-# And for each kind what makes a thing of the parts.
+# For each kind, the function that makes a value from its parts.
 MADE: Dict[str, Callable[[Any], Any]] = {
     "float": float,
     "complex": lambda parts: complex(*of_json(parts)),

@@ -8,7 +8,7 @@ from .files import Path
 
 BY_ASE = "use ase.io.read({path!r}{words}) and load its Atoms"
 BY_MDANALYSIS = "use MDAnalysis.Universe(topology, {path!r}).atoms.positions, with symbols= and edge="
-# Words of `ase.io.read` for a file with such an ending.
+# Further arguments of `ase.io.read`, by the ending of the file.
 OF_ASE: Dict[str, str] = {
     ".traj": "",
     ".data": ", format='lammps-data', style='atomic'",

@@ -10,11 +10,11 @@ from .warning import warn_caller
 from .xyz import Frames, Row, present_atoms
 
 CLOSE = 0.8
-# Of each two opposite neighbours of a cell one, and the cell itself.
+# Offsets of the cell itself, and of one of each two opposite neighbours.
 HALF_OF_NEIGHBOURS = [offset for offset in itertools.product((-1, 0, 1), repeat=3) if offset >= (0, 0, 0)]
-# The position of an atom in parts of the edge, 1 if it is of the second species and else 0, and its number.
+# The position of an atom as fractions of the edge, 1 if it is of the second species or else 0, and its number.
 Site = Tuple[float, float, float, int, int]
-# Their distance in sigma, and their numbers.
+# The distance of two atoms in sigma, and their numbers.
 Pair = Tuple[float, int, int]
 
 

@@ -137,7 +137,7 @@ def _of_class(near: Near, which: Any, scale: Scale, first: Scale) -> Interacting
     sigma = float(scale.sigma_on_ring)
     squares = near.squares[which] / sigma**2
     entries = _table()[(squares * BINS_TO_SQUARE).astype(arrays.numpy.intp)]
-    # Pushes go by h, so an epsilon / sigma^2 of this class is h / h of the first one.
+    # Pushes are proportional to h, so epsilon / sigma^2 of this class is scale.h / first.h times the first one.
     unit = scale.h / first.h * (scale.sigma_on_ring / first.sigma_on_ring) ** 2
     return Interacting(near, which, sigma, squares, entries, unit)
 

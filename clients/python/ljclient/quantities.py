@@ -7,7 +7,7 @@ from typing import Any
 from . import arrays
 
 SPEED_BIN, SPEED_BINS = 0.25, 16
-"""Of the histogram of velocity components, in units of their root mean square."""
+"""Bin width, in units of the root mean square, and number of bins of the histogram of velocity components."""
 
 
 def mixing_entropy(places: Any, kinds: Any, cells: int) -> float:

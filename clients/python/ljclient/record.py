@@ -18,21 +18,21 @@ else:
     hashlib = Later("hashlib")
 
 FORMAT = b"ljserve record "
-# The heads that are read. The last one is written.
+# The heads that can be read. The last one is written.
 HEADS = (FORMAT + b"1", FORMAT + b"2")
 HEAD = HEADS[-1]
 CHECK_DIGITS = 8
 LOADS = (b"LOAD", b"LOADMIX")
 # The commands that name a session.
 OF_A_SESSION = frozenset(b"LOAD LOADMIX ADVANCE START REVERSE BRANCH RESTORE FORGET TUG MEASURE SHOW DUMP LIST DROP".split())
-# Refusals that no command of the session alone brings about: by the connection, by other sessions, and for want of memory.
+# Refusals with a cause other than the session's own commands: the connection, other sessions, or lack of memory.
 FROM_OUTSIDE = (1, 4, 5, 8, 20, 21, 22, 90)
 NO_SESSION = 10
-# Refusals of what is no command of a session: of a first line that is no HELLO, and of a line without an end.
+# Refusals of lines that are not commands of a session: a first line that is no HELLO, and a line without an end.
 OF_NO_COMMAND = (1, 5)
-# Refusals of the form of a line, which don't tell whether its session is there.
+# Refusals for the form of a line, which do not show whether its session exists.
 OF_FORM = (2, 3)
-# Refusals of a load that do not tell that no session has its name.
+# Refusals of a load that do not show that no session has its name.
 OF_ANY_LOAD = (*OF_NO_COMMAND, *OF_FORM, 4, 6, 8, 11)
 QUOTA_NAMES = ("sessions", "atoms", "branches")
 MAX_BODY = 1 << 20

@@ -22,7 +22,7 @@ from .user import User
 from .verify import SECONDS_OF_A_PROGRAM, complain, let_go, say
 
 SAME, DIFFERS, TROUBLE = 0, 1, 2
-# So many steps two sessions are followed whose atoms interact otherwise, to see which atom is elsewhere first.
+# The most steps for which two sessions with different interactions are followed to the first atom that differs.
 FOLLOWED_STEPS = 1000
 ABOUT = """\
 Tells where two records part, step by step: the first command that changes the session and is another one, the step, and the first

@@ -15,12 +15,12 @@ from .record import Chain, Entry, Mark, Quota
 from .record_rules import Misplaced, Rules
 
 MOST = (64, 65536, 256)
-# The most bytes of a line: a body may be one line, behind a check and a mark.
+# The most bytes of a line: a whole body may be one line, after a check and a mark.
 MAX_ROW = record.MAX_BODY + record.CHECK_DIGITS + len(b" : \n")
-# A longer command is none, but ends a connection.
+# The most bytes of a command: a longer line ends the connection.
 MAX_LINE = 65_535
 MARKS: Dict[bytes, Mark] = {mark.value: mark for mark in Mark}
-# The lines that stand above all others, in this order.
+# The lines above all others, in this order.
 ABOVE = (Mark.CLIENT, Mark.PROGRAM, Mark.CONTINUES)
 # The lines that are one word.
 ALONE = (Mark.CONNECTION, Mark.MOVED, Mark.END)

@@ -22,14 +22,14 @@ from .wire import Reply
 if TYPE_CHECKING:
     from .user import User
 
-# The edge of the box in which DUMP tells each ring unit, in 10^-9 of the file's unit.
+# The edge of the box in which DUMP resolves each ring unit, in 10^-9 of the file's unit.
 RING_EDGE = RING * 1000
 FULL_WEIGHT = 256
 # The least edge of a box in 10^-9 of the file's unit, and the most atoms.
 LEAST_EDGE = 10**6
 MOST_ATOMS = 4096
 WHOLE = re.compile(rb"[0-9]{1,19}\Z")
-# The name of what the session is like itself, beside the names under which it was saved.
+# The name of the session's own state, besides the names of its saved states.
 NOW = b""
 
 

@@ -13,7 +13,7 @@ from .record_joints import Loaded, Present, loaded_by, present_of
 from .record_parts import STEP_AT, steps_of
 from .user import User
 
-# The commands that change what a session is, or what is saved in it, but for those that make steps.
+# The commands that change a session or its saved states, except those that make steps.
 CHANGES = (*record.LOADS, b"REVERSE", b"TUG", b"BRANCH", b"RESTORE", b"FORGET", b"DROP")
 STEPS = (b"ADVANCE", b"START")
 Words = Tuple[bytes, ...]

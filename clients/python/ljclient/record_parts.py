@@ -21,7 +21,7 @@ from .state import State
 from .units import RING
 from .user import MAX_ITEMS, User
 
-# Where the step number stands in the reply to a command, counted in words.
+# The index of the step number in the words of the reply, for each command.
 STEP_AT: Dict[bytes, int] = {
     **{verb: 3 for verb in (b"ADVANCE", b"START", b"REVERSE", b"MEASURE", b"SHOW", b"DUMP")},
     **{verb: 4 for verb in (b"BRANCH", b"RESTORE", b"TUG")},

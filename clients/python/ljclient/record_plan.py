@@ -12,7 +12,7 @@ from .record import Entry, Mark
 from .record_file import RecordFile
 
 
-# What a client reads a session by, beside an ADVANCE of no steps.
+# The commands that read a session, besides an ADVANCE of 0 steps.
 READS = (b"SHOW", b"DUMP", b"LIST", b"REVERSE")
 
 

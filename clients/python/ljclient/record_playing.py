@@ -16,9 +16,9 @@ from .recording import Listener
 from .user import MAX_ITEMS, User
 
 BATCH = 64
-# The commands that a user asks of a program by itself, and some more.
+# Room for the commands that a user sends on its own, and some more.
 SPARE_ITEMS = 32
-# How a user is begun who plays, with the quota of a record.
+# Opens a user that plays a record, with the record's quota.
 Opener = Callable[[RecordFile], User]
 Tell = Callable[[str], None]
 

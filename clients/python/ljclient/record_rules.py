@@ -13,15 +13,15 @@ from .errors import Refused
 from .names import NAME
 from .record import Entry, Mark, Quota
 
-# The refusals of each command that quotas and memory bring about.
+# The refusals of each command for a quota or for memory.
 OF_QUOTA_AND_MEMORY: Dict[bytes, FrozenSet[int]] = {
     b"LOAD": frozenset({20, 21, 90}),
     b"LOADMIX": frozenset({20, 21, 90}),
     b"BRANCH": frozenset({22, 90}),
 }
-# The commands that are refused where no session has the name.
+# The commands that are refused if no session has the name.
 OF_A_LOADED_SESSION = record.OF_A_SESSION - frozenset(record.LOADS)
-# How many words a command has that gets as far as its quota.
+# The number of words of each well-formed command that a quota can refuse.
 WORDS = {b"LOAD": 7, b"LOADMIX": 16, b"BRANCH": 3}
 BODY, ENOUGH = refusals.Body.number, refusals.Enough.number
 

@@ -16,7 +16,7 @@ from .wire import Dialogue, Wire
 
 # The commands that change what the session has.
 FOLLOWED = (*record.LOADS, b"BRANCH", b"FORGET", b"DROP")
-# The lines in which a program tells its version.
+# Returns the version lines of a program.
 Versions = Callable[[], List[str]]
 
 

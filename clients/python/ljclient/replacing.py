@@ -25,10 +25,10 @@ if TYPE_CHECKING:
 else:
     checkpoint = Later(".checkpoint")
 
-# How many commands it takes at most, which all go over one connection, but for those by which an older session is read.
+# The most commands of a replacement, without those that read the old session. They all use one connection.
 COMMANDS = 20
 NO_PLACE = (QuotaSessions, QuotaAtoms, QuotaBranches, Memory)
-# The command that loads a session under a name.
+# Returns the command that loads a session under a name.
 CommandOf = Callable[[str], Command]
 
 

@@ -19,16 +19,16 @@ from .wire import TICK_SECONDS, Listener, Reply, Wire
 
 FIRST_WAIT = 0.05
 LONGEST_WAIT = 5.0
-# After so many losses without any reply between them nothing is tried more.
+# It reconnects after at most this many losses without a reply between them.
 MOST_LOSSES = 20
-# Of how many commands a batch is taken at most.
+# The most commands in a batch.
 MOST_LOOKED_AT = 4096
-# Commands of its own that a connection is left room for: a LIST, and of each session and each branch another one or two.
+# Room for a connection's own commands: a LIST, and one or two for each session and each branch.
 OWN_COMMANDS = 512
 Lost = (ConnectionLost, TimedOut)
 Told = TypeVar("Told")
 Made = TypeVar("Made")
-# What makes a connection, which may take so many seconds.
+# Opens a connection within a number of seconds.
 Open = Callable[[float], Wire]
 
 

@@ -30,11 +30,11 @@ if TYPE_CHECKING:
 __all__ = ["Arrow", "Divergence", "Echo", "Kick", "Mixing", "arrow", "divergence", "echo", "entropy_of_mixing"]
 
 NEAR, FAR = 1 / 256, 1 / 10
-"""Between these distances two runs part as the liquid's own chaos has it; below them as the bins of the table have it."""
+"""Between these distances the liquid's chaos determines how fast two runs separate; below them the bins of the table do."""
 TELLING_TREND, TELLING_DEPARTURE = 0.5, 5.0
-"""From this rank correlation with the time on, or this many standard deviations, a quantity tells the direction of time."""
+"""The least rank correlation with time, or departure in standard deviations, that shows the direction of time."""
 SHUFFLES = 20
-"""Over so many random mixtures the mean is taken."""
+"""The number of random mixtures in the mean."""
 
 
 class Kick(NamedTuple):

@@ -43,7 +43,7 @@ class Session(Changes):
 
     __slots__ = ()
 
-    # Going on.
+    # Advancing.
 
     def advance(
         self,

@@ -8,7 +8,7 @@ from .elements import ELEMENTS
 from .names import checked_symbol, shortened
 from .units import SUBSTANCES, Scale
 
-# The symbol of all atoms, or a list of one for each.
+# One symbol for all atoms, or a list with one for each.
 Symbols = Union[str, Sequence[str], None]
 FIRST_WORD = re.compile(rb"\S+")
 

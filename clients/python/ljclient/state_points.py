@@ -44,7 +44,7 @@ __all__ = [
 ]
 
 FRAMES, BLOCKS = 500, 10
-"""How many frames a mean has if nothing says it, and into how many blocks they are divided for its error."""
+"""The default number of frames of a mean, and the number of blocks of frames for its error."""
 CUTOFF = 2.5
 
 

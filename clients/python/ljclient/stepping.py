@@ -15,7 +15,7 @@ UNBOUNDED = 1 << 62
 FIRST_PIECE = 16
 PIECE_SECONDS = 0.2
 PAUSE_SECONDS = 0.001
-# The replies to many commands of the protocol.
+# Returns the replies to many commands of the protocol.
 Ask = Callable[[Iterable[str]], List[Reply]]
 
 

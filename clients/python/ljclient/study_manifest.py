@@ -14,9 +14,9 @@ from .files import Path
 
 FORMAT = "ljserve study 1"
 MANIFEST, CITATION = "study.json", "CITATION.cff"
-# The folders of a study, and what is in each.
+# The folders of a study, and the kind of file in each.
 KINDS = {"records": "record", "checkpoints": "checkpoint", "figures": "figure", "files": "file"}
-# What a study is: done; ended by an error; or not ended, since it is being made or its process was killed.
+# The states of a study: done; ended by an error; or not ended, since it is being made or its process was killed.
 FINISHED, UNFINISHED, OPEN = "finished", "unfinished", "open"
 FILE = re.compile(r"(records|checkpoints|figures|files)/[A-Za-z0-9_][A-Za-z0-9_.-]{0,99}\Z")
 SUM = re.compile(r"[0-9a-f]{64}\Z")

@@ -18,9 +18,9 @@ from .study_citation import citation_of
 from .study_manifest import CITATION, FINISHED, MANIFEST, OPEN, Manifest, NoStudy, check_plain, files_in, manifest_in, sum_of_file
 from .verify import CUT, DIFFERS, SAME, complain, counted, is_whole, opener_of, say, verdict
 
-# A record is played in so many parts for each job, so that none waits long for the last one.
+# The most parts of a record per job, so that no job waits long for the last part.
 PARTS_OF_A_JOB = 2
-# How a part of a record is played: its division, the part, and what compares it.
+# The result of playing a part: the count of its trajectories, and the report on checkpoints that differ.
 Played = Tuple[Joints, List[str]]
 
 

@@ -31,7 +31,7 @@ def energy_tail(atoms: "Composition", count: int) -> float:
 def pressure_tail(atoms: "Composition", count: int) -> float:
     """The tail correction of the pressure of so many atoms, in epsilon / sigma^3 of the first class. It is below 0."""
     first = atoms.classes[0]
-    # The force of a class goes by h sigma^2, as in `pressure`.
+    # For forces, epsilon of a class is proportional to h sigma^2, as in `pressure`.
     sizes = [
         part * each.h / first.h * (each.sigma_on_ring / first.sigma_on_ring) ** 2 * _cube_of(each, first)
         for part, each in _classes(atoms, count)

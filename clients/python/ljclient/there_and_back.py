@@ -11,9 +11,9 @@ if TYPE_CHECKING:
     from .session import Session
 
 Looked = TypeVar("Looked")
-# The name of the branch from which a session is put back.
+# The name of the branch from which a session is restored.
 START = "reversal-start"
-# The steps are divided into so many parts if nothing says how long these are.
+# The default number of parts that the steps are divided into.
 FRAMES = 100
 
 

@@ -153,7 +153,7 @@ class ThermoInElectronvolt(ThermoInKelvin):
         return self._told("K", "eV")
 
 
-# What is told of a row, and of how many atoms.
+# Receives a row, and the number of atoms.
 Look = Callable[[Thermo, int], None]
 
 

@@ -13,7 +13,7 @@ from .tokens import checked_fingerprint
 from .transport import SocketTransport
 
 HANDSHAKE_SECONDS = 15.0
-# Codes of OpenSSL: the certificate is of another name or address; nobody who is known has signed it.
+# Codes of OpenSSL: the certificate is for another name or address; its issuer is not known.
 OTHER_NAME = (62, 64)
 UNKNOWN_ISSUER = (18, 19, 20, 21)
 EXPIRED = (9, 10)

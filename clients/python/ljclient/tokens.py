@@ -15,7 +15,7 @@ from .errors import ClientError
 VARIABLE = "LJSERVE_TOKEN"
 MAX_BYTES = 65_536
 LENGTH = 32
-# A fingerprint is a SHA-256. So many of its hexadecimal digits are enough: no other certificate is found that begins so.
+# The hexadecimal digits of a fingerprint, a SHA-256, and the fewest that are enough: no other certificate with these can be found.
 DIGITS, FEWEST_DIGITS = 64, 32
 NOT_IN_COMMANDS = f"a token must not be on the command line, where others can see it; use --token-file FILE or {VARIABLE}"
 

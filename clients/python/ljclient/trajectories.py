@@ -30,7 +30,7 @@ ENDINGS = (*BY_TEXT, *DUMPS, *BY_ASE, *BY_MDANALYSIS)
 # Other kinds that MDAnalysis writes.
 MADE_OF_A_DCD = (".xtc", ".trr", ".trz")
 PICOSECOND = 1000.0
-KILOJOULE_PER_MOLE = 96.48533212331  # of an electronvolt
+KILOJOULE_PER_MOLE = 96.48533212331  # per electronvolt
 
 
 class Writer(Protocol):

@@ -19,7 +19,7 @@ else:
 
 PATIENCE = 5.0
 MAX_LAST_WORDS = 500
-# The hosts that were warned of.
+# The hosts for which a warning was given.
 warned: Set[str] = set()
 
 

@@ -38,7 +38,7 @@ FAREWELL_SECONDS = 2.0
 # What was known of a session before these commands is no longer true.
 NEW_OR_GONE = ("LOAD", "LOADMIX", "DROP")
 LOADS = ("LOAD", "LOADMIX")
-# These change the energy of a session, which is to be what it was as long as steps alone are made.
+# These commands change the energy of a session, which must stay the same while only steps are made.
 OTHER_ENERGY = ("TUG", "RESTORE")
 LOST = "the server no longer has it: the server was started again, or another connection has dropped it"
 

@@ -8,7 +8,7 @@ from .pressure import BINS, BINS_TO_SQUARE, Composition, _table, checked_numpy
 from .units import Scale
 
 BLOCK = 256
-"""So many atoms are compared with all others at a time."""
+"""Number of atoms compared with all others at a time."""
 
 
 def virial_tensor(places: Any, atoms: Composition) -> Any:
@@ -16,7 +16,7 @@ def virial_tensor(places: Any, atoms: Composition) -> Any:
     shape (3, 3), whose trace is `pressure.virial`. Repulsion is positive."""
     checked_numpy()
     numpy = arrays.numpy
-    # Differences of 32 bits are those round the box the nearer way.
+    # Differences of 32 bits take the shorter way around the box.
     axes = numpy.ascontiguousarray(numpy.asarray(places).astype(numpy.uint32).T)
     seconds = numpy.array(atoms.seconds or [False] * len(places), dtype=numpy.intp)
     starts = range(0, len(places), BLOCK)
@@ -41,6 +41,6 @@ def _of_class(between: Any, scale: Scale, first: Scale) -> Any:
     numpy = arrays.numpy
     squares = (between**2).sum(axis=0) / float(scale.sigma_on_ring) ** 2 * BINS_TO_SQUARE
     near = squares < BINS
-    # Pushes go by h, so an epsilon / sigma^2 of this class is h / h of the first one.
+    # Pushes are proportional to h, so epsilon / sigma^2 of this class is scale.h / first.h times the first one.
     entries = _table()[squares[near].astype(numpy.intp)] * (scale.h / first.h) / float(first.sigma_on_ring) ** 2
     return (between[:, near] * entries) @ between[:, near].T

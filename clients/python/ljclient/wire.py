@@ -28,7 +28,7 @@ MAX_LINES = 10_000
 PIECE = 1 << 16
 TICK_SECONDS = 0.25
 ENDS_THE_CONNECTION = (1, 4, 5, 8)
-# What replies have: printing characters of ASCII, and the ends of lines.
+# The bytes that replies may have: printable ASCII characters, and line ends.
 PLAIN = b"\n" + bytes(range(0x20, 0x7F))
 NOT_PLAIN = re.compile(rb"[^\n -~]")
 
@@ -124,7 +124,7 @@ class Wire:
         self.on_wait: Optional[Callable[[str, float], None]] = None
         self.asked = 0
         self.listener: Optional[Listener] = None
-        # The bodies of commands that are under way, by the number of the command, for who hears of them.
+        # The bodies of commands that are under way, by the number of the command, for the listener.
         self._bodies: Dict[int, bytes] = {}
         self._transport = transport
         self._outgoing = bytearray()
@@ -413,7 +413,7 @@ class Wire:
         start = time.monotonic()
         end = start + seconds
         while (left := end - time.monotonic()) > 0:
-            # Never for long: an interrupt that comes just before a wait is seen after it.
+            # Each wait is short, since an interrupt that comes just before it is seen only after it.
             if self._selector.select(min(left, TICK_SECONDS)):
                 return True
             if self.on_wait:

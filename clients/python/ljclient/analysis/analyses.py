@@ -25,7 +25,7 @@ class Analysis(Generic[Result]):
         Of the added frames, every `stride`-th is looked at, beginning with the first.
     """
 
-    # What frames have to have: more than positions, and the stress.
+    # Whether frames must have more than positions, and whether they must have the stress.
     needs_motion = False
     needs_stress = False
 

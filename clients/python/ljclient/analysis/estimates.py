@@ -11,12 +11,12 @@ from typing import Any, Callable, List, Sequence, Tuple, Union
 from ..arrays import FloatArray
 from .library import numpy
 
-# A series has so many blocks at least, once it has as many values, and less than twice as many.
+# A series of at least this many values has at least as many blocks, and fewer than twice as many.
 MOST = 64
-# Blocks are joined in pairs as long as so many are left.
+# Blocks are joined in pairs while at least this many are left.
 LEAST = 8
-# What chi squared is below in half of all cases, of 1, 2, 3, .. degrees of freedom. With larger limits blocks that still depend on
-# each other would pass, and errors of short runs would be told too small.
+# The medians of chi squared for 1, 2, 3, .. degrees of freedom. With larger limits, blocks that are still correlated would pass, and
+# errors of short runs would be too small.
 CHI_SQUARED = (0.455, 1.386, 2.366, 3.357, 4.351)
 
 
@@ -201,7 +201,7 @@ class Blocks:
         """
         mean = self.mean()
         value = numpy.asarray(function(mean))
-        # Far less than a block, so that a function which is no line is looked at near the mean alone.
+        # A small part of a block's difference, so that a nonlinear function is evaluated only near the mean.
         part = 1e-3
         near = [(numpy.asarray(function(mean + part * (block - mean))) - value) / part for block in self._blocks]
         return value, self._error_of(numpy.array(near))
@@ -228,7 +228,7 @@ def errors_of(blocks: Any) -> Any:
     if len(blocks) < 2:
         return numpy.full(numpy.shape(blocks)[1:], math.nan)
     levels = _levels(numpy.asarray(blocks, dtype=float))
-    # Also where no size passes, the largest blocks say the most.
+    # If no size passes, the error is from the largest blocks, the most reliable ones.
     statistic, found = 0.0, levels[-1][0]
     for number, (error, correlation) in enumerate(reversed(levels)):
         statistic = statistic + correlation

@@ -64,7 +64,7 @@ def _in_brackets(unit: str) -> str:
 
 
 REDUCED = Units()
-"""Those of Lennard-Jones atoms: sigma, epsilon and the mass of an atom are 1."""
+"""The units of Lennard-Jones atoms: sigma, epsilon and the mass of an atom are 1."""
 # A mPa s is 10^-3 kg / (m s), and an electronvolt fs / angstrom^3 is 1.602176634e-19 J 10^-15 s over 10^-30 m^3.
 METAL = Units("angstrom", "fs", "eV", "K", "bar", "mPa s", physical.kelvin, physical.bar, 1e-3 / 1.602176634e-4)
 """Angstrom, femtosecond, electronvolt, kelvin, bar and mPa s."""
@@ -189,7 +189,7 @@ def frame_of(snapshot: Snapshot, with_stress: bool = True) -> Frame:
         The frame, in the units of the session.
     """
     scale, atoms, units = snapshot.scale, snapshot.atoms, units_of(snapshot.scale)
-    # Energies are in epsilon of the first class, and the pressure in this over sigma^3.
+    # Energies are in epsilon of the first class, and the pressure is in this epsilon over sigma^3.
     unit = 1.0 if scale.dt is None or scale.epsilon is None else scale.epsilon
     size = 1.0 if scale.dt is None else unit / scale.sigma**3 / physical.bar
     row, count = snapshot.energies, len(snapshot.places)

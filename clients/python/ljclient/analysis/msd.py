@@ -18,7 +18,7 @@ from .origins import Origins
 if TYPE_CHECKING:
     from ..session import Session
 
-# The line is fitted from this part of the longest lag on, if nothing is said.
+# The default start of the fit of the slope, as a part of the longest lag.
 FIT_FROM = 0.25
 
 

@@ -137,7 +137,7 @@ def orders_of(bonds: Bonds, degree: int, atoms: int) -> Tuple[float, float]:
     counts = numpy.bincount(bonds.first, minlength=atoms) + numpy.bincount(bonds.second, minlength=atoms)
     local, total = numpy.zeros(atoms), 0.0
     for order, values in enumerate(harmonics(bonds.directions, degree)):
-        # That of an order below 0 is the conjugate of the same above 0.
+        # The harmonic of order -m is the conjugate of the harmonic of order m.
         twice = 1 if order == 0 else 2
         for part in (values.real, values.imag):
             sums = numpy.bincount(bonds.first, part, atoms) + numpy.bincount(bonds.second, part, atoms)
@@ -152,7 +152,7 @@ def harmonics(directions: Any, degree: int) -> List[Any]:
     x, y, z = directions
     told = []
     for order in range(degree + 1):
-        # The Legendre function without its power of the sine, which is that of x + i y.
+        # The Legendre function without its power of the sine, which is in the power of x + i y.
         polynomial = numpy.polynomial.legendre.Legendre.basis(degree).deriv(order)
         size = (2 * degree + 1) / (4 * math.pi) * math.factorial(degree - order) / math.factorial(degree + order)
         told.append(math.sqrt(size) * polynomial(z) * (x + 1j * y) ** order)

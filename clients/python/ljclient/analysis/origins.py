@@ -12,11 +12,11 @@ from .estimates import Blocks
 from .frames import Frame
 from .library import numpy
 
-# How many origins are kept at a time if nothing is said.
+# The default of `apart` is `lags` divided by this.
 ORIGINS = 20
-# How far two intervals between frames may differ, as a part of them.
+# The allowed relative difference of two intervals between frames.
 SAME_INTERVAL = 1e-6
-# What is compared: the values of the origin and those of a frame. An array of a row for each group.
+# A function of the values of an origin and of a frame. It returns one number for each group.
 Compare = Callable[[Any, Any], Any]
 
 

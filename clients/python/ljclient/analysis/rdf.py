@@ -19,9 +19,9 @@ from .library import axes_of, numpy
 if TYPE_CHECKING:
     from ..session import Session
 
-# So many atoms are compared with others at a time, so that a block of numbers stays in the cache.
+# Number of atoms compared with others at a time, so that a block of numbers stays in the cache.
 BLOCK = 32
-# Up to this part of the edge cells leave out enough pairs to be worth their while.
+# Below this part of the edge, cells leave out enough pairs to save time.
 NEAR_PART = 0.2
 Pair = Tuple[str, str]
 
@@ -168,7 +168,7 @@ class Rdf(Analysis[RdfResult]):
         count, counts = self._groups.count, {name: len(self._groups.members[name]) for name in self._groups.names}
         partial = {}
         for (first, second), pairs, spread in zip(self._kinds(), mean, error) if counts else ():
-            # Of two of one species each pair is met once, and counts for both.
+            # Within a species each pair is counted once, but makes two ordered pairs.
             twice = 2 if first == second else 1
             others = counts[second] - (first == second)
             partial[first, second] = self._told(pairs * twice, spread * twice, counts[first], others, {})

@@ -18,7 +18,7 @@ from .library import axes_of, numpy
 if TYPE_CHECKING:
     from ..session import Session
 
-# How many waves fit into the edge at the largest wave number, if nothing is said.
+# Number of waves along the edge at the default largest wave number.
 WAVES = 16
 Pair = Tuple[str, str]
 

@@ -105,7 +105,7 @@ class Viscosity(Analysis[ViscosityResult]):
             raise ValueError("a frame must have a temperature, got none; use energies= of Frame.of, or Session.frames")
         self._origins.check(frame)
         stress = numpy.asarray(frame.stress, dtype=float)
-        # Without its trace: the sum over all nine products is then ten times that of one shear stress.
+        # Without its trace: the sum of all nine products is then ten times the product of one shear stress.
         shear = (stress + stress.T) / 2 - numpy.trace(stress) / 3 * numpy.eye(3)
         self._volume, self._units = frame.edge**3, frame.units
         self._origins.add(frame, shear)
