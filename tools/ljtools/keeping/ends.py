@@ -320,8 +320,8 @@ class Link(Receiver):
         self._transport.write(items)
 
     def hold(self, is_held: bool) -> None:
-        """Reads no replies while they cannot be sent on."""
-        if is_held != self.is_held and not self._is_closed:
+        """Stops reading replies while they cannot be sent on, or reads on. `is_held` must change."""
+        if not self._is_closed:
             self.is_held = is_held
             (self._transport.pause_reading if is_held else self._transport.resume_reading)()
 
